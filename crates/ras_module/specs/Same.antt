@@ -1,0 +1,45 @@
+-- What the tests of equality decide.
+use Rattle.std.proofs.Common.{◌≡◌, ℕ, Bool, true, false, List, nat_eq, refl, sym, ap, subst}
+use Rattle.std.specs.Bool.{Decides}
+use Rattle.std.specs.Cmp.{IsEquivalence, IsPartialEquivalence, partial_equiv_from_equiv}
+use Rattle.std.specs.Cmp.Lexicographic.{pointwise}
+use Rattle.std.proofs.lemmas.Cmp.{lists_equiv}
+use Rattle.std.proofs.lemmas.Slice.Eq.{slice_eq-Decides}
+use Rattle.std.proofs.lemmas.Bool.Decides.{Decides-eqb}
+use Rattle.ras_module.specs.declared.alias.Alias.{Alias}
+use Rattle.ras_module.specs.declared.alias.Alias.TheVariants.{Digits, H323Id}
+use Rattle.ras_module.specs.Aliases.{same_alias}
+
+pub texts_decide : (xs ys : List ℕ) → Decides (pointwise nat_eq xs ys) (xs ≡ ys)
+texts_decide xs ys = slice_eq-Decides Decides-eqb xs ys (pointwise nat_eq xs ys) refl
+
+pub alias_decides : (a b : Alias) → Decides (same_alias a b) (a ≡ b)
+alias_decides (Digits a) (Digits b) = (λ h. ap Digits ((texts_decide a b).0 h), λ e. (texts_decide a b).1 (cc e))
+alias_decides (H323Id a) (H323Id b) = (λ h. ap H323Id ((texts_decide a b).0 h), λ e. (texts_decide a b).1 (cc e))
+alias_decides (Digits a) (H323Id b) = (λ h. absurd (cc h), λ e. absurd (cc e))
+alias_decides (H323Id a) (Digits b) = (λ h. absurd (cc h), λ e. absurd (cc e))
+
+pub aliases_decide : (a b : List Alias) → Decides (pointwise same_alias a b) (a ≡ b)
+aliases_decide a b = slice_eq-Decides alias_decides a b (pointwise same_alias a b) refl
+
+-- two tests that are true together are one
+together : (a b : Bool) → (a ≡ true → b ≡ true) → (b ≡ true → a ≡ true) → a ≡ b
+together true b to back = sym (to refl)
+together false true to back = absurd (cc (back refl))
+together false false to back = refl
+
+-- a test that decides equality is an equivalence
+equivalence : {A : Type 0} (test : A → A → Bool) → ((a b : A) → Decides (test a b) (a ≡ b)) → IsEquivalence test
+equivalence {A} test decides = record {
+  refl = λ x. (decides x x).1 refl;
+  symm = λ x y. together (test x y) (test y x)
+      (λ e. (decides y x).1 (sym ((decides x y).0 e)))
+      (λ e. (decides x y).1 (sym ((decides y x).0 e)));
+  congr = λ x y z e. ap (λ (w : A). test w z) ((decides x y).0 e);
+}
+
+pub aliases_equivalence : IsEquivalence (pointwise same_alias)
+aliases_equivalence = lists_equiv (equivalence same_alias alias_decides)
+
+pub aliases_partial_equivalence : IsPartialEquivalence (pointwise same_alias)
+aliases_partial_equivalence = partial_equiv_from_equiv aliases_equivalence

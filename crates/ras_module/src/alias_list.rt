@@ -1,0 +1,172 @@
+//! Lists of aliases.
+
+ghost use Rattle.std.specs.Prelude.{◌≡◌, ◌↔◌, ◌++◌, ◌∷◌, ◌≤◌, [], length, IfOk, OnOk, OnErr, IsTrue, MatchResult, ◌<◌};
+ghost use Rattle.std.specs.Cmp.Lexicographic.{pointwise};
+ghost use Rattle.ras_module.specs.Aliases.{same_alias};
+ghost use Rattle.ras_module.specs.Same.{aliases_equivalence, aliases_partial_equivalence};
+
+use crate::alias::Alias;
+use std::alloc::{AllocError, Global};
+use std::marker::Model;
+
+/// Aliases in order, doubles included. Contracts see the list.
+#[derive(Drop)]
+pub struct AliasList {
+    items: Vec<Alias>,
+}
+
+impl Model for AliasList {
+    ghost use Rattle.std.specs.Prelude.{List};
+    ghost use Rattle.ras_module.specs.declared.alias.Alias.{Alias};
+
+    ghost Value = { List Alias };
+
+    ghost view = { λ a. a.items.items };
+}
+
+impl AliasList {
+    /// No alias. This takes no memory.
+    pub fn new(alloc: Global) -> Self
+        ensures { result ≡ [] }
+    {
+        AliasList {
+            items: Vec::new(alloc),
+        }
+    }
+
+    /// The aliases of a vector. This takes no memory.
+    pub fn from_vec(items: Vec<Alias>) -> Self
+        ensures { result ≡ items.items }
+    {
+        AliasList { items }
+    }
+
+    /// The vector of the aliases. This takes no memory.
+    pub fn into_vec(self) -> Vec<Alias>
+        ensures { result.items ≡ self }
+    {
+        let AliasList { items } = self;
+        items
+    }
+
+    pub fn len(&self) -> usize
+        ensures { result ≡ length self.now }
+    {
+        self.items.len()
+    }
+
+    pub fn is_empty(&self) -> bool
+        ensures { IsTrue result ↔ (self.now ≡ []) }
+    {
+        self.items.is_empty()
+    }
+
+    /// The aliases, in order.
+    pub fn as_slice(&self) -> &[Alias]
+        ensures { result.now ≡ self.now }
+    {
+        &self.items
+    }
+
+    /// Adds an alias at the end, or leaves the list alone for want of memory.
+    pub fn push(&mut self, alias: Alias) -> Result<(), AllocError>
+        ensures ok { OnOk result (self.new ≡ self.old ++ alias ∷ []) }
+        ensures err { OnErr result (self.new ≡ self.old) }
+    {
+        self.items.push(alias)?;
+        Ok(())
+    }
+
+    /// An equal list.
+    pub fn copy(&self) -> Result<Self, AllocError>
+        ensures { IfOk result (λ copy. copy ≡ self.now) }
+    {
+        let items = Vec::from_slice(*self.items.allocator(), &self.items)?;
+        Ok(AliasList { items })
+    }
+}
+
+impl PartialEq for AliasList {
+    ghost eq = { pointwise same_alias };
+
+    ghost laws = { aliases_partial_equivalence };
+
+    fn eq(&self, other: &Self) -> bool {
+        self.as_slice() == other.as_slice()
+    }
+}
+
+impl Eq for AliasList {
+    ghost laws = { aliases_equivalence };
+}
+
+/// The aliases of a reply, in order: at most 32 of them. Contracts see the list.
+#[derive(Drop)]
+pub struct ReplyAliases {
+    list: AliasList,
+}
+
+impl Model for ReplyAliases {
+    ghost use Rattle.std.specs.Prelude.{List, length, ◌≤◌};
+    ghost use Rattle.ras_module.specs.declared.alias.Alias.{Alias};
+
+    ghost Value = { List Alias };
+
+    ghost view = { λ a. a.list };
+
+    ghost invariant = { λ a. length a.list ≤ 32 };
+}
+
+impl ReplyAliases {
+    /// The most aliases of a reply.
+    pub const MOST: usize = 32;
+
+    /// These aliases: the list comes back exactly where there are more than 32.
+    pub fn new(list: AliasList) -> Result<Self, AliasList>
+        ensures { MatchResult result (λ few. (few ≡ list) × (length list ≤ 32)) (λ many. (many ≡ list) × (32 < length list)) }
+    {
+        if list.len() > Self::MOST {
+            return Err(list);
+        }
+        Ok(ReplyAliases { list })
+    }
+
+    /// The aliases, in order.
+    pub fn as_slice(&self) -> &[Alias]
+        ensures items { result.now ≡ self.now }
+        ensures few { length self.now ≤ 32 }
+    {
+        self.list.as_slice()
+    }
+
+    /// The list of the aliases. This takes no memory.
+    pub fn into_list(self) -> AliasList
+        ensures { result ≡ self }
+    {
+        let ReplyAliases { list } = self;
+        list
+    }
+
+    /// An equal list.
+    pub fn copy(&self) -> Result<Self, AllocError>
+        ensures { IfOk result (λ copy. copy ≡ self.now) }
+    {
+        Ok(ReplyAliases {
+            list: self.list.copy()?,
+        })
+    }
+}
+
+impl PartialEq for ReplyAliases {
+    ghost eq = { pointwise same_alias };
+
+    ghost laws = { aliases_partial_equivalence };
+
+    fn eq(&self, other: &Self) -> bool {
+        self.list == other.list
+    }
+}
+
+impl Eq for ReplyAliases {
+    ghost laws = { aliases_equivalence };
+}

@@ -1,0 +1,30 @@
+//! The values of RAS messages (ITU-T H.225.0), without their encoding: what the gatekeeper keeps of a
+//! request, and all that it says in a reply.
+#![tactic(auto)]
+
+mod address;
+mod alias;
+mod alias_list;
+mod bmp_string;
+mod call_key;
+mod dialled_digits;
+mod endpoint_id;
+mod number;
+mod reason;
+mod reply;
+mod request;
+
+pub use address::{Address, Source};
+pub use alias::Alias;
+pub use alias_list::{AliasList, ReplyAliases};
+pub use bmp_string::{BmpString, H323Id, Name};
+pub use call_key::CallKey;
+pub use dialled_digits::DialledDigits;
+pub use endpoint_id::EndpointId;
+pub use number::{Delay, RequestSeqNum, TimeToLive};
+pub use reason::{
+    AdmissionRejectReason, BandRejectReason, DisengageRejectReason, GatekeeperRejectReason,
+    RegistrationRejectReason, UnregRejectReason,
+};
+pub use reply::Reply;
+pub use request::Request;

@@ -1,0 +1,190 @@
+//! What the gatekeeper says.
+
+ghost use Rattle.std.specs.Prelude.{◌≡◌, ◌≤◌, IfOk};
+ghost use Rattle.ras_module.specs.Rooms.{room_of};
+
+use crate::address::Address;
+use crate::alias_list::ReplyAliases;
+use crate::bmp_string::Name;
+use crate::endpoint_id::EndpointId;
+use crate::number::{Delay, RequestSeqNum, TimeToLive};
+use crate::reason::{
+    AdmissionRejectReason, BandRejectReason, DisengageRejectReason, GatekeeperRejectReason,
+    RegistrationRejectReason, UnregRejectReason,
+};
+use std::alloc::AllocError;
+
+/// A message of the gatekeeper, with what differs from one such message to the next. `seq` is that of the
+/// request, but for an IRQ, which has a number of the gatekeeper's own. Bandwidth is in units of 100 bit/s.
+#[derive(PartialEq, Eq, Drop)]
+pub enum Reply {
+    /// GatekeeperConfirm.
+    Gcf {
+        seq: RequestSeqNum,
+        gatekeeper: Name,
+        ras: Address,
+    },
+    /// GatekeeperReject.
+    Grj {
+        seq: RequestSeqNum,
+        reason: GatekeeperRejectReason,
+    },
+    /// RegistrationConfirm; `granted` is the time to live.
+    Rcf {
+        seq: RequestSeqNum,
+        call_signal: Address,
+        aliases: ReplyAliases,
+        gatekeeper: Name,
+        endpoint: EndpointId,
+        granted: TimeToLive,
+    },
+    /// RegistrationReject.
+    Rrj {
+        seq: RequestSeqNum,
+        reason: RegistrationRejectReason,
+    },
+    /// UnregistrationConfirm.
+    Ucf {
+        seq: RequestSeqNum,
+    },
+    /// UnregistrationReject.
+    Urj {
+        seq: RequestSeqNum,
+        reason: UnregRejectReason,
+    },
+    /// AdmissionConfirm, with the address that is to be called.
+    Acf {
+        seq: RequestSeqNum,
+        units: u32,
+        dest: Address,
+    },
+    /// AdmissionReject.
+    Arj {
+        seq: RequestSeqNum,
+        reason: AdmissionRejectReason,
+    },
+    /// BandwidthConfirm.
+    Bcf {
+        seq: RequestSeqNum,
+        units: u32,
+    },
+    /// BandwidthReject, with the bandwidth that is allowed.
+    Brj {
+        seq: RequestSeqNum,
+        reason: BandRejectReason,
+        allowed: u32,
+    },
+    /// DisengageConfirm.
+    Dcf {
+        seq: RequestSeqNum,
+    },
+    /// DisengageReject.
+    Drj {
+        seq: RequestSeqNum,
+        reason: DisengageRejectReason,
+    },
+    /// InfoRequest: are you there?
+    Irq {
+        seq: RequestSeqNum,
+    },
+    /// RequestInProgress: ask no more for so long.
+    Rip {
+        seq: RequestSeqNum,
+        delay: Delay,
+    },
+}
+
+impl Reply {
+    /// Octets that are enough for the encoding of this reply: at most 20,000.
+    pub fn room(&self) -> usize
+        ensures room { result ≡ room_of self.now }
+        ensures most { result ≤ 20000 }
+    {
+        match self {
+            Reply::Gcf { .. } => 320,
+            Reply::Rcf { aliases, .. } => 640 + 516 * aliases.as_slice().len(),
+            Reply::Rrj {
+                reason: RegistrationRejectReason::DuplicateAlias(held),
+                ..
+            } => 64 + 516 * held.as_slice().len(),
+            _ => 64,
+        }
+    }
+
+    /// An equal reply.
+    pub fn copy(&self) -> Result<Reply, AllocError>
+        ensures { IfOk result (λ copy. copy ≡ self.now) }
+    {
+        match self {
+            Reply::Gcf {
+                seq,
+                gatekeeper,
+                ras,
+            } => Ok(Reply::Gcf {
+                seq: *seq,
+                gatekeeper: *gatekeeper,
+                ras: *ras,
+            }),
+            Reply::Grj { seq, reason } => Ok(Reply::Grj {
+                seq: *seq,
+                reason: *reason,
+            }),
+            Reply::Rcf {
+                seq,
+                call_signal,
+                aliases,
+                gatekeeper,
+                endpoint,
+                granted,
+            } => Ok(Reply::Rcf {
+                seq: *seq,
+                call_signal: *call_signal,
+                aliases: aliases.copy()?,
+                gatekeeper: *gatekeeper,
+                endpoint: *endpoint,
+                granted: *granted,
+            }),
+            Reply::Rrj { seq, reason } => Ok(Reply::Rrj {
+                seq: *seq,
+                reason: reason.copy()?,
+            }),
+            Reply::Ucf { seq } => Ok(Reply::Ucf { seq: *seq }),
+            Reply::Urj { seq, reason } => Ok(Reply::Urj {
+                seq: *seq,
+                reason: *reason,
+            }),
+            Reply::Acf { seq, units, dest } => Ok(Reply::Acf {
+                seq: *seq,
+                units: *units,
+                dest: *dest,
+            }),
+            Reply::Arj { seq, reason } => Ok(Reply::Arj {
+                seq: *seq,
+                reason: *reason,
+            }),
+            Reply::Bcf { seq, units } => Ok(Reply::Bcf {
+                seq: *seq,
+                units: *units,
+            }),
+            Reply::Brj {
+                seq,
+                reason,
+                allowed,
+            } => Ok(Reply::Brj {
+                seq: *seq,
+                reason: *reason,
+                allowed: *allowed,
+            }),
+            Reply::Dcf { seq } => Ok(Reply::Dcf { seq: *seq }),
+            Reply::Drj { seq, reason } => Ok(Reply::Drj {
+                seq: *seq,
+                reason: *reason,
+            }),
+            Reply::Irq { seq } => Ok(Reply::Irq { seq: *seq }),
+            Reply::Rip { seq, delay } => Ok(Reply::Rip {
+                seq: *seq,
+                delay: *delay,
+            }),
+        }
+    }
+}
