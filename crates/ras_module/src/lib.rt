@@ -10,6 +10,7 @@ mod call_key;
 mod dialled_digits;
 mod endpoint_id;
 mod number;
+mod octets;
 mod reason;
 mod reply;
 mod request;
@@ -22,6 +23,7 @@ pub use call_key::CallKey;
 pub use dialled_digits::DialledDigits;
 pub use endpoint_id::EndpointId;
 pub use number::{Delay, RequestSeqNum, TimeToLive};
+pub use octets::Octets;
 pub use reason::{
     AdmissionRejectReason, BandRejectReason, DisengageRejectReason, GatekeeperRejectReason,
     RegistrationRejectReason, UnregRejectReason,
