@@ -30,3 +30,6 @@ pub use reason::{
 };
 pub use reply::Reply;
 pub use request::Request;
+
+#[cfg(test)]
+mod tests;
