@@ -1,0 +1,14 @@
+//! The messages of RAS (ITU-T H.225.0) as octets in BASIC-PER, ALIGNED (ITU-T X.691).
+#![tactic(auto)]
+
+mod additions;
+mod address;
+mod decoder;
+mod endpoint_type;
+mod fault;
+mod message;
+mod request;
+mod sequence;
+
+pub use fault::ReadFault;
+pub use message::read;
