@@ -2,7 +2,6 @@
 -- of its octet stand before them, from 0 to 7.
 use Rattle.std.specs.Prelude.{ℕ, ◌≡◌, ◌+◌, ◌-◌, ◌*◌, ◌%◌, ◌<◌, ◌≤◌, List, [], ◌∷◌, ◌++◌, Bool, true, false, length, nat_lt, ◌⊎◌, Result, Ok, Err, MatchBool}
 use Rattle.std.specs.List.{AllByRecursion}
-use Rattle.per_bits.specs.declared.fault.ReadFault.{ReadFault}
 use Rattle.per_bits.specs.Bits.{number, width, octets_for, bits_of, pad_length, place_of}
 
 -- bits of one form, and then bits of another, where the first end
