@@ -1,7 +1,8 @@
 -- Numbers in parts: the bits of an octet that one turn reads or writes.
 use Rattle.std.proofs.Common.{◌≡◌, ℕ, zero, suc, ◌+◌, ◌-◌, ◌*◌, ◌/◌, ◌%◌, ◌^◌, ◌<◌, ◌≤◌}
 use Rattle.std.proofs.Common.{List, [], ◌∷◌, ◌++◌, Bool, true, false, length, drop, take}
-use Rattle.std.proofs.Common.{refl, sym, ap, subst, cond, ◌∙◌, arith, nat_eq, nat_lt, bit_and, append_assoc}
+use Rattle.std.proofs.Common.{refl, sym, ap, subst, cond, ◌∙◌, arith, nat_eq, nat_lt, bit_and}
+use Rattle.std.proofs.Common.{append_assoc}
 use Rattle.std.proofs.Common.{Ok, Err}
 use Rattle.std.proofs.lemmas.List.{length-append, length-take, length-drop, take_at, drop_at}
 use Rattle.std.proofs.lemmas.List.{drop-drop}
@@ -83,7 +84,8 @@ part_here bits octets rest x used count view front within =
     let long : nat_lt (length bits) count ≡ false =
     le-ltb _ _ (omega (arith, ap length here, length-append value behind)) in
     let after : drop (used + count) (bits_of octets) ≡ behind =
-    sym (drop-drop count used (bits_of octets)) ∙ ap (λ (t : List Bool). drop count t) (view ∙ here)
+    sym (drop-drop count used (bits_of octets))
+    ∙ ap (λ (t : List Bool). drop count t) (view ∙ here)
     ∙ drop_at value behind count len in
     rw (long, here, take_at value behind count len, drop_at value behind count len, after)
     (ap (λ (n : ℕ). Ok (n, behind)) (number-binary count (x / 2 ^ left)))
@@ -138,7 +140,8 @@ part_short bits i n count whole rest fault so_far le e =
     rw (short, g.1) refl
 
 -- where the bits of a reader begin
-pub place_seen : (bits : List Bool) (octets : List ℕ) (used : ℕ) → drop used (bits_of octets) ≡ bits
+pub place_seen : (bits : List Bool) (octets : List ℕ) (used : ℕ)
+    → drop used (bits_of octets) ≡ bits
     → used < 8 → used ≤ 8 * length octets → place_of bits ≡ used
 place_seen bits octets used view small within =
     let len : length bits ≡ 8 * length octets - used =

@@ -93,7 +93,8 @@ masked_part n count within =
 
 pub write_part : (old new next : Written) (whole left taken n : ℕ)
     → WrittenSoFar old new whole (whole - left) n → left ≤ whole → taken ≤ left → taken ≤ 8
-    → next ≡ after new (binary taken (bit_and (n / 2 ^ (left - taken)) (1 * 2 ^ taken % 2 ^ 32 - 1)))
+    → next ≡ after new (binary taken
+    (bit_and (n / 2 ^ (left - taken)) (1 * 2 ^ taken % 2 ^ 32 - 1)))
     → whole ≤ old.room
     → WrittenSoFar old next whole (whole - (left - taken)) n
 write_part old new next whole left taken n so_far within some small is enough =
