@@ -1,4 +1,4 @@
--- Readings built of readings: each reads what its form says, and nothing else.
+-- Readings built of readings: each reads what its form allows, and nothing else.
 use Rattle.std.proofs.Common.{◌≡◌, ℕ, ◌+◌, ◌%◌, List, [], ◌++◌, Bool}
 use Rattle.std.proofs.Common.{true, false, cond, length, take, refl, sym, ap, ◌∙◌, arith}
 use Rattle.std.proofs.Common.{Result, Ok, Err, append_assoc, subst}

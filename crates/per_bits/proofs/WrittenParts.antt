@@ -8,7 +8,7 @@ use Rattle.std.proofs.Math.Nat.{pow-le-pow_right, mul_comm}
 use Rattle.per_bits.specs.Bits.{binary, octet, bits_of}
 use Rattle.per_bits.specs.Canonical.{Written, after, place_in}
 use Rattle.per_bits.proofs.Binary.{length-binary, binary_low}
-use Rattle.per_bits.proofs.Parts.{binary_split, masked}
+use Rattle.per_bits.proofs.Binary.{binary_split, masked}
 use Rattle.per_bits.proofs.Writing.{shown, same, bits_of-push, place_shown, WrittenSoFar}
 
 -- bits behind those that the octet has

@@ -1,4 +1,4 @@
--- When a reading function reads what a relation says, and nothing else.
+-- When a reading function reads what a relation allows, and nothing else.
 use Rattle.std.specs.Prelude.{ℕ, ◌≡◌, List, ◌++◌, Bool, Result, Ok}
 use Rattle.per_bits.specs.Bits.{place_of}
 

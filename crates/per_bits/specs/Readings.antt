@@ -1,5 +1,5 @@
 -- What is read from the front of bits that end with an octet: a value and the bits after it, or a
--- fault. Which bits have a value is said by Encodes; these functions say which fault others have.
+-- fault. Encodes defines which bits have a value; these functions tell which fault others have.
 use Rattle.std.specs.Prelude.{ℕ, ◌≡◌, ◌+◌, ◌-◌, ◌*◌, ◌%◌, List, [], ◌∷◌, Bool, length, take, drop}
 use Rattle.std.specs.Prelude.{nat_lt, if◌then◌else◌, Result, Ok, Err}
 use Rattle.std.specs.Borrow.{Bor}

@@ -1,5 +1,5 @@
 use Rattle.std.proofs.Common.{arith}
-use Rattle.per_bits.proofs.Parts.{place_seen}
+use Rattle.per_bits.proofs.ReadParts.{place_seen}
 use Rattle.per_bits.proofs.reader.BitReader.left_in_octet.Goals as goal
 
 pub returns : goal.returns

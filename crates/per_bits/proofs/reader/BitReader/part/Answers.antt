@@ -1,5 +1,5 @@
 use Rattle.std.proofs.Common.{length, refl, ap, arith}
-use Rattle.per_bits.proofs.Parts.{place_seen, part_read, part_last, none_here}
+use Rattle.per_bits.proofs.ReadParts.{place_seen, part_read, part_last, none_here}
 use Rattle.per_bits.proofs.reader.BitReader.part.Goals as goal
 
 pub returns-in_default : goal.returns-in_default

@@ -1,52 +1,23 @@
--- Numbers in parts: the bits of an octet that one turn reads or writes.
-use Rattle.std.proofs.Common.{◌≡◌, ℕ, zero, suc, ◌+◌, ◌-◌, ◌*◌, ◌/◌, ◌%◌, ◌^◌, ◌<◌, ◌≤◌}
+-- Reading a number in parts: what each turn takes of one octet.
+use Rattle.std.proofs.Common.{◌≡◌, ℕ, ◌+◌, ◌-◌, ◌*◌, ◌/◌, ◌%◌, ◌^◌, ◌<◌, ◌≤◌}
 use Rattle.std.proofs.Common.{List, [], ◌∷◌, ◌++◌, Bool, true, false, length, drop, take}
 use Rattle.std.proofs.Common.{refl, sym, ap, subst, cond, ◌∙◌, arith, nat_eq, nat_lt, bit_and}
 use Rattle.std.proofs.Common.{append_assoc}
 use Rattle.std.proofs.Common.{Ok, Err}
 use Rattle.std.proofs.lemmas.List.{length-append, length-take, length-drop, take_at, drop_at}
 use Rattle.std.proofs.lemmas.List.{drop-drop}
-use Rattle.std.proofs.lemmas.Nat.{shr-shr, pow-add, and_mask, shl_whole, one_shl}
-use Rattle.std.proofs.Math.Nat.{add-mul, pow-le-pow_right}
+use Rattle.std.proofs.lemmas.Nat.{shl_whole}
+use Rattle.std.proofs.Math.Nat.{pow-le-pow_right}
 use Rattle.std.proofs.Math.Seq.{take-add}
 use Rattle.std.proofs.lemmas.Bool.{le-ltb, lt-ltb, ltb-true, ltb-false}
-use Rattle.std.specs.Int.{bit_at}
 use Rattle.per_bits.specs.Bits.{binary, octet, bits_of, number, place_of}
 use Rattle.per_bits.specs.Readings.{bit_reading, number_reading}
 use Rattle.per_bits.specs.declared.fault.ReadFault.{ReadFault}
 use Rattle.per_bits.specs.declared.fault.ReadFault.TheVariants.{Truncated}
-use Rattle.per_bits.proofs.Binary.{length-binary, number-binary}
+use Rattle.per_bits.proofs.Binary.{length-binary, number-binary, binary_split, masked}
 use Rattle.per_bits.proofs.Results.{err_is, guard_ok, guard_err}
-use Rattle.per_bits.proofs.Numbers.{ReadSoFar, number_lt}
+use Rattle.per_bits.proofs.Numbers.{ReadSoFar, number_lt, number-append}
 use Rattle.per_bits.proofs.Octets.{length-bits_of, octet_done}
-
--- ---- two parts of a number
-
--- the high bits, and then the low ones
-pub binary_split : (high low n : ℕ)
-    → binary (high + low) n ≡ binary high (n / 2 ^ low) ++ binary low n
-binary_split zero low n = let e : 0 + low ≡ low = omega arith in rw e refl
-binary_split (suc high) low n =
-    let more : suc high + low ≡ suc (high + low) = omega arith in
-    let top : bit_at (n / 2 ^ low) high ≡ bit_at n (high + low) =
-    ap (λ (m : ℕ). m % 2) (shr-shr n low high)
-    ∙ ap (λ (k : ℕ). n / 2 ^ k % 2) (let e : low + high ≡ high + low = omega arith in e) in
-    rw (more, top, binary_split high low n) refl
-
-pub number-append : (front rest : List Bool)
-    → number (front ++ rest) ≡ number front * 2 ^ length rest + number rest
-number-append [] rest = omega arith
-number-append (true ∷ front) rest =
-    let len = length-append front rest in
-    let power : 2 ^ length (front ++ rest) ≡ 2 ^ length front * 2 ^ length rest =
-    ap (λ (k : ℕ). 2 ^ k) len ∙ pow-add 2 (length front) (length rest) in
-    let sums : (2 ^ length front + number front) * 2 ^ length rest
-    ≡ 2 ^ length front * 2 ^ length rest + number front * 2 ^ length rest =
-    add-mul (2 ^ length front) (number front) (2 ^ length rest) in
-    omega (arith, power, sums, number-append front rest)
-number-append (false ∷ front) rest = omega (arith, number-append front rest)
-
--- ---- reading
 
 -- a part of an octet: what stands behind its first bits and before its last
 octet_part : (x used count left : ℕ) (others : List Bool) → used + count + left ≡ 8
@@ -148,12 +119,6 @@ place_seen bits octets used view small within =
     ap length (sym view) ∙ length-drop used (bits_of octets)
     ∙ ap (λ (n : ℕ). n - used) (length-bits_of octets) in
     omega arith
-
--- the mask of so many ones
-pub masked : (n count : ℕ) → count ≤ 8
-    → bit_and n (1 * 2 ^ count % 2 ^ 32 - 1) ≡ n % 2 ^ count
-masked n count h =
-    ap (λ (m : ℕ). bit_and n (m - 1)) (one_shl count 32 (omega arith)) ∙ and_mask n count
 
 -- a part of the octet at hand, as the code computes it
 pub part_read : (bits : List Bool) (octets rest : List ℕ) (x used count : ℕ)
