@@ -5,7 +5,9 @@ use Rattle.per_bits.specs.Encodes.{EncodesBit, EncodesNumber, EncodesWhole, Enco
 use Rattle.per_bits.specs.Exact.{IsExact}
 use Rattle.per_bits.specs.Readings.{◌>>=◌, bit_reading, number_reading, whole_reading, length_reading, small_reading, octets_reading, open_type_reading}
 use Rattle.per_bits.specs.declared.fault.ReadFault.{ReadFault as BitFault}
-use Rattle.per_bits.proofs.Forms.{then_exact, ok_is, bind_ok, pad_exact, none_exact, bit_exact, number_exact, whole_exact, length_exact, small_exact}
+use Rattle.per_bits.proofs.Combinators.{then_exact, pad_exact, none_exact}
+use Rattle.per_bits.proofs.Results.{ok_is, bind_ok}
+use Rattle.per_bits.proofs.Forms.{bit_exact, number_exact, whole_exact, length_exact, small_exact}
 use Rattle.per_bits.proofs.Octets.{length-bits_of}
 use Rattle.per_bits.proofs.OctetForms.{octets_exact, open_type_exact}
 use Rattle.ras_codec.specs.declared.fault.ReadFault.{ReadFault}
