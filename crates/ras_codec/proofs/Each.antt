@@ -1,5 +1,5 @@
 -- A loop that reads so many values, and folds them into one, reads as `each` does.
-use Rattle.std.proofs.Common.{◌≡◌, ℕ, zero, suc, ◌+◌, ◌-◌, ◌<◌, ◌≤◌, List, [], ◌∷◌, ◌++◌, Bool, length, take, drop, set, arith, subst, ◌∙◌, append_assoc, append-nil, Result, Ok, Err, refl, sym, ap}
+use Rattle.std.proofs.Common.{◌≡◌, ℕ, zero, suc, ◌+◌, ◌-◌, ◌<◌, List, [], ◌∷◌, ◌++◌, Bool, length, take, set, arith, ◌∙◌, append_assoc, append-nil, Result, Ok, Err, refl, sym, ap}
 use Rattle.std.proofs.lemmas.List.{take_more_set}
 use Rattle.per_bits.specs.Readings.{◌>>=◌}
 use Rattle.ras_codec.specs.declared.fault.ReadFault.{ReadFault}
@@ -28,7 +28,7 @@ folded-each f g zero y bits = refl
 folded-each {A} {B} f g (suc count) y bits =
     same_steps (g.reading bits) (λ x. folded f g.reading count (f y x.0) x.1) (λ x. (each count g).reading x.1 >>= λ xs. Ok (fold_list f (f y x.0) xs.0, xs.1)) (λ x. folded-each f g count (f y x.0) x.1)
     ∙ same_steps (g.reading bits) (λ x. (each count g).reading x.1 >>= λ xs. Ok (fold_list f (f y x.0) xs.0, xs.1)) (λ x. ((each count g).reading x.1 >>= λ xs. Ok (x.0 ∷ xs.0, xs.1)) >>= λ ys. Ok (fold_list f y ys.0, ys.1))
-        (λ x. sym (in_steps ((each count g).reading x.1) (λ xs. Ok (x.0 ∷ xs.0, xs.1)) (λ ys. Ok (fold_list f y ys.0, ys.1))))
+    (λ x. sym (in_steps ((each count g).reading x.1) (λ xs. Ok (x.0 ∷ xs.0, xs.1)) (λ ys. Ok (fold_list f y ys.0, ys.1))))
     ∙ sym (in_steps (g.reading bits) (λ x. (each count g).reading x.1 >>= λ xs. Ok (x.0 ∷ xs.0, xs.1)) (λ ys. Ok (fold_list f y ys.0, ys.1)))
 
 -- the same, where the fold is a word for it

@@ -1,7 +1,7 @@
 -- Transport addresses (H.225.0, TransportAddress).
 use Rattle.std.specs.Prelude.{ℕ, Option, Some, None}
 use Rattle.ras_module.specs.declared.address.Address.{Address}
-use Rattle.ras_codec.specs.Grammar.{Grammar, ◌>>=◌, is, nothing, boolean, bits, whole, octets, either, if◌equals◌take◌else◌}
+use Rattle.ras_codec.specs.Grammar.{Grammar, ◌>>=◌, is, nothing, boolean, bits, whole, octets, if◌equals◌take◌else◌}
 use Rattle.ras_codec.specs.Sequences.{list_skipped, choice, skipped_additions, sized_octet_string, non_standard_parameter}
 
 -- ipAddress: ip, port

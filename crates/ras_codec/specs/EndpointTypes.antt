@@ -1,5 +1,5 @@
 -- What an endpoint is (H.225.0, EndpointType). It is read and dropped.
-use Rattle.ras_codec.specs.Grammar.{Grammar, ◌>>=◌, nothing, boolean, either, if◌equals◌take◌else◌, skipped}
+use Rattle.ras_codec.specs.Grammar.{Grammar, ◌>>=◌, boolean, if◌equals◌take◌else◌, skipped}
 use Rattle.ras_codec.specs.Sequences.{list_skipped, choice, skipped_additions, sized_octet_string, h221_non_standard, non_standard_parameter}
 
 -- VendorIdentifier: vendor, productId?, versionId?

@@ -1,5 +1,5 @@
 -- What is read is what the bits encode, form by form.
-use Rattle.std.proofs.Common.{◌≡◌, ℕ, ◌+◌, ◌%◌, List, [], ◌++◌, length, arith, subst, ◌∙◌, append_assoc, Bool, Result, Ok, Err, refl, sym, ap}
+use Rattle.std.proofs.Common.{◌≡◌, ℕ, List, [], ◌++◌, arith, subst, ◌∙◌, Bool, Result, Ok, Err, refl, sym, ap}
 use Rattle.per_bits.specs.Bits.{bits_of, place_of}
 use Rattle.per_bits.specs.Encodes.{EncodesBit, EncodesNumber, EncodesWhole, EncodesLength, EncodesSmall, EncodesOctets, EncodesOpenType}
 use Rattle.per_bits.specs.Exact.{IsExact}

@@ -1,5 +1,5 @@
 -- The relations and reading functions of which grammars are made.
-use Rattle.std.specs.Prelude.{ℕ, ◌≡◌, List, [], ◌++◌, Bool, Result, Ok, Err}
+use Rattle.std.specs.Prelude.{ℕ, ◌≡◌, List, [], ◌++◌, Bool, Result, Ok}
 use Rattle.per_bits.specs.Bits.{bits_of}
 use Rattle.per_bits.specs.Encodes.{Then, IsPad, EncodesOpenType}
 use Rattle.per_bits.specs.Readings.{◌>>=◌, aligned, open_type_reading}

@@ -7,3 +7,5 @@ pub mod Addresses
 pub mod EndpointTypes
 pub mod Requests
 pub mod Messages
+pub mod Encoding
+pub mod Replies

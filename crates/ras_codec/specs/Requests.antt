@@ -1,5 +1,4 @@
 -- The requests of endpoints (H.225.0), component by component.
-use Rattle.std.specs.Prelude.{ℕ}
 use Rattle.ras_module.specs.declared.request.Request.{Request}
 use Rattle.ras_module.specs.declared.request.Request.TheVariants.{Grq}
 use Rattle.ras_codec.specs.Grammar.{Grammar, ◌>>=◌, is, boolean, optional, skipped}

@@ -1,7 +1,6 @@
 -- Lists, additions and unknown alternatives (X.691), and the small types that many messages share (H.225.0).
-use Rattle.std.specs.Prelude.{ℕ, ◌+◌, List, [], ◌∷◌, Bool, true, false, Option, None, slice_index_or, nat_lt, cond}
-use Rattle.ras_codec.specs.declared.fault.ReadFault.TheVariants.{BadCharacter}
-use Rattle.ras_codec.specs.Grammar.{Grammar, ◌>>=◌, is, failure, nothing, boolean, bits, whole, choice_index, length, small, octets, open_type, inside, aligned, either, if◌equals◌take◌else◌, each, each_skipped, optional, skipped}
+use Rattle.std.specs.Prelude.{ℕ, ◌+◌, List, [], ◌∷◌, Bool, true, false, Option, slice_index_or}
+use Rattle.ras_codec.specs.Grammar.{Grammar, ◌>>=◌, is, nothing, boolean, bits, whole, choice_index, length, small, octets, open_type, inside, aligned, either, if◌equals◌take◌else◌, each, each_skipped, optional, skipped}
 
 -- SEQUENCE OF without a size: how many there are, and each
 abbrev pub list_of : {A : Type 0} → Grammar A → Grammar (List A)

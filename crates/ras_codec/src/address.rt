@@ -7,7 +7,9 @@ ghost use Rattle.ras_codec.specs.Addresses.{ip_address, ip_source_route, ipx_add
 use crate::additions::skip_additions;
 use crate::decoder::Decoder;
 use crate::fault::ReadFault;
-use crate::sequence::{non_standard_parameter, octet_array, sized_octet_string, unknown_alternative};
+use crate::sequence::{
+    non_standard_parameter, octet_array, sized_octet_string, unknown_alternative,
+};
 use ras_module::Address;
 
 /// ipAddress.

@@ -1,6 +1,5 @@
 //! Why octets are no message.
 
-
 use thiserror::Error;
 
 /// What is wrong with the octets of a message, or that memory was wanting.

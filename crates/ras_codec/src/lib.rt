@@ -4,11 +4,14 @@
 mod additions;
 mod address;
 mod decoder;
+mod encoder;
 mod endpoint_type;
 mod fault;
 mod message;
+mod reply;
 mod request;
 mod sequence;
 
 pub use fault::ReadFault;
 pub use message::read;
+pub use reply::write_into;

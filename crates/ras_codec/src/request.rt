@@ -7,9 +7,7 @@ use crate::address::transport_address;
 use crate::decoder::Decoder;
 use crate::endpoint_type::endpoint_type;
 use crate::fault::ReadFault;
-use crate::sequence::{
-    octet_string, optional_identifier, request_seq_num, skip_non_standard_data,
-};
+use crate::sequence::{octet_string, optional_identifier, request_seq_num, skip_non_standard_data};
 use ras_module::Request;
 
 /// GatekeeperRequest. What stands behind gatekeeperIdentifier is not read.

@@ -31,7 +31,11 @@ pub fn octet_string<'a>(decoder: &mut Decoder<'a>) -> Result<&'a [u8], ReadFault
 }
 
 /// OCTET STRING (SIZE(lo..hi)).
-pub fn sized_octet_string<'a>(decoder: &mut Decoder<'a>, lo: u32, hi: u32) -> Result<&'a [u8], ReadFault>
+pub fn sized_octet_string<'a>(
+    decoder: &mut Decoder<'a>,
+    lo: u32,
+    hi: u32,
+) -> Result<&'a [u8], ReadFault>
     requires { lo ≤ hi }
     ensures { Gives (sized_octet_string lo hi).reading decoder.old (of_octets result) decoder.new }
 {
@@ -43,7 +47,10 @@ pub fn sized_octet_string<'a>(decoder: &mut Decoder<'a>, lo: u32, hi: u32) -> Re
 }
 
 /// Characters of 16 bits.
-fn characters<const MOST: usize>(decoder: &mut Decoder<'_>, count: usize) -> Result<[u16; MOST], ReadFault>
+fn characters<const MOST: usize>(
+    decoder: &mut Decoder<'_>,
+    count: usize,
+) -> Result<[u16; MOST], ReadFault>
     requires { count ≤ MOST }
     ensures { Gives (each count (bits 16)).reading decoder.old (front_of count result) decoder.new }
 {
@@ -58,7 +65,9 @@ fn characters<const MOST: usize>(decoder: &mut Decoder<'_>, count: usize) -> Res
 
 /// BMPString (SIZE(1..MOST)).
 #[tactic(auto, unfolding(crate::specs::Sequences::bmp_string))]
-pub fn bmp_string<const MOST: usize>(decoder: &mut Decoder<'_>) -> Result<BmpString<MOST>, ReadFault>
+pub fn bmp_string<const MOST: usize>(
+    decoder: &mut Decoder<'_>,
+) -> Result<BmpString<MOST>, ReadFault>
     requires some { 1 ≤ MOST }
     requires few { MOST ≤ 256 }
     ensures { Gives (bmp_string MOST).reading decoder.old result decoder.new }
@@ -72,7 +81,10 @@ pub fn bmp_string<const MOST: usize>(decoder: &mut Decoder<'_>) -> Result<BmpStr
 }
 
 /// An identifier that is OPTIONAL.
-pub fn optional_identifier(decoder: &mut Decoder<'_>, present: bool) -> Result<Option<BmpString<128>>, ReadFault>
+pub fn optional_identifier(
+    decoder: &mut Decoder<'_>,
+    present: bool,
+) -> Result<Option<BmpString<128>>, ReadFault>
     ensures { Gives (optional present identifier).reading decoder.old result decoder.new }
 {
     if present {

@@ -1,7 +1,7 @@
-use Rattle.std.proofs.Common.{◌≡◌, arith, refl}
+use Rattle.std.proofs.Common.{arith, refl}
 use Rattle.std.proofs.lemmas.Result.{err_from_is_err_and}
 use Rattle.ras_codec.specs.Grammar.{octets}
-use Rattle.ras_codec.proofs.Each.{dropping, each-fault, each-more, dropped-done, dropped-fault}
+use Rattle.ras_codec.proofs.Each.{dropping, each-more, dropped-done, dropped-fault}
 use Rattle.ras_codec.proofs.address.skip_route.Goals as goal
 
 pub returns-in_err-octets : goal.returns-in_err-octets

@@ -1,7 +1,7 @@
-use Rattle.std.proofs.Common.{◌≡◌, arith, refl}
+use Rattle.std.proofs.Common.{arith, refl}
 use Rattle.std.proofs.lemmas.Result.{err_from_is_err_and}
 use Rattle.ras_codec.specs.EndpointTypes.{supported_protocols}
-use Rattle.ras_codec.proofs.Each.{dropping, each-fault, each-more, dropped-done, dropped-fault}
+use Rattle.ras_codec.proofs.Each.{dropping, each-more, dropped-done, dropped-fault}
 use Rattle.ras_codec.proofs.endpoint_type.skip_protocols.Goals as goal
 
 pub returns-in_err-supported_protocols : goal.returns-in_err-supported_protocols
