@@ -1,0 +1,11 @@
+pub mod Exact
+pub mod Faults
+pub mod Forms
+pub mod Grammar
+pub mod Sequences
+pub mod Addresses
+pub mod EndpointTypes
+pub mod Requests
+pub mod Messages
+pub mod Encoding
+pub mod Replies

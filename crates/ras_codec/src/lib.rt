@@ -1,0 +1,17 @@
+//! The messages of RAS (ITU-T H.225.0) as octets in BASIC-PER, ALIGNED (ITU-T X.691).
+#![tactic(auto)]
+
+mod additions;
+mod address;
+mod decoder;
+mod encoder;
+mod endpoint_type;
+mod fault;
+mod message;
+mod reply;
+mod request;
+mod sequence;
+
+pub use fault::ReadFault;
+pub use message::read;
+pub use reply::write_into;

@@ -1,0 +1,47 @@
+//! All messages of RAS (H.225.0, RasMessage).
+
+ghost use Rattle.std.specs.Prelude.{◌≡◌};
+ghost use Rattle.per_bits.specs.Readings.{Gives};
+ghost use Rattle.ras_codec.specs.Messages.{ras_message, root_message, message_reading};
+
+use crate::decoder::Decoder;
+use crate::fault::ReadFault;
+use crate::request::gatekeeper_request;
+use ras_module::Request;
+use std::alloc::Global;
+
+fn root_message(_alloc: Global, decoder: &mut Decoder<'_>) -> Result<Option<Request>, ReadFault>
+    ensures { Gives root_message.reading decoder.old result decoder.new }
+{
+    let mut ahead = decoder.ahead();
+    let index = ahead.choice_index(24)?;
+    let request = match index {
+        0 => Some(gatekeeper_request(&mut ahead)?),
+        _ => None,
+    };
+    *decoder = ahead;
+    Ok(request)
+}
+
+#[tactic(auto, unfolding(crate::specs::Messages::ras_message))]
+fn ras_message(alloc: Global, decoder: &mut Decoder<'_>) -> Result<Option<Request>, ReadFault>
+    ensures { Gives ras_message.reading decoder.old result decoder.new }
+{
+    let mut ahead = decoder.ahead();
+    let request = if ahead.boolean()? {
+        None
+    } else {
+        root_message(alloc, &mut ahead)?
+    };
+    *decoder = ahead;
+    Ok(request)
+}
+
+/// The request that octets begin with, or None where they are another message.
+#[tactic(auto, unfolding(crate::specs::Messages::message_reading))]
+pub fn read(alloc: Global, octets: &[u8]) -> Result<Option<Request>, ReadFault>
+    ensures { result ≡ message_reading octets.now }
+{
+    let mut decoder = Decoder::new(octets);
+    ras_message(alloc, &mut decoder)
+}

@@ -1,0 +1,311 @@
+//! The replies of the gatekeeper (H.225.0).
+
+ghost use Rattle.std.specs.Prelude.{◌≡◌, ◌≤◌, ◌<◌, ◌+◌, ◌*◌, [], ◌∷◌, ◌++◌, length, vec_len, vec_capacity, OnOk, OnErr, IsOk};
+ghost use Rattle.ras_codec.specs.Encoding.{Writes};
+ghost use Rattle.ras_codec.specs.Replies.{gatekeeper_reason, unreg_reason, admission_reason, band_reason, disengage_reason, gatekeeper_confirm, gatekeeper_reject, unregistration_confirm, unregistration_reject, admission_confirm, admission_confirm_additions, admission_reject, bandwidth_confirm, bandwidth_reject, disengage_confirm, disengage_reject, info_request, request_in_progress, components, encoding_of};
+ghost use Rattle.ras_module.specs.Rooms.{room_of};
+
+use crate::encoder::{
+    band_width, identifier, null_choice, protocol_identifier, request_seq_num, root_message,
+    transport_address, zero_octet,
+};
+use per_bits::BitWriter;
+use ras_module::{
+    Address, AdmissionRejectReason, BandRejectReason, Delay, DisengageRejectReason,
+    GatekeeperRejectReason, Name, Reply, RequestSeqNum, UnregRejectReason,
+};
+use std::alloc::AllocError;
+use std::mem;
+
+fn gatekeeper_reason(reason: GatekeeperRejectReason) -> u32
+    ensures value { result ≡ gatekeeper_reason reason }
+    ensures within { result ≤ 3 }
+{
+    match reason {
+        GatekeeperRejectReason::TerminalExcluded => 1,
+    }
+}
+
+fn unreg_reason(reason: UnregRejectReason) -> u32
+    ensures value { result ≡ unreg_reason reason }
+    ensures within { result ≤ 2 }
+{
+    match reason {
+        UnregRejectReason::NotCurrentlyRegistered => 0,
+        UnregRejectReason::CallInProgress => 1,
+    }
+}
+
+fn admission_reason(reason: AdmissionRejectReason) -> u32
+    ensures value { result ≡ admission_reason reason }
+    ensures within { result ≤ 7 }
+{
+    match reason {
+        AdmissionRejectReason::CalledPartyNotRegistered => 0,
+        AdmissionRejectReason::RequestDenied => 2,
+        AdmissionRejectReason::InvalidEndpointIdentifier => 6,
+        AdmissionRejectReason::ResourceUnavailable => 7,
+    }
+}
+
+fn band_reason(reason: BandRejectReason) -> u32
+    ensures value { result ≡ band_reason reason }
+    ensures within { result ≤ 5 }
+{
+    match reason {
+        BandRejectReason::NotBound => 0,
+        BandRejectReason::InvalidConferenceId => 1,
+        BandRejectReason::InsufficientResources => 3,
+    }
+}
+
+fn disengage_reason(reason: DisengageRejectReason) -> u32
+    ensures value { result ≡ disengage_reason reason }
+    ensures within { result ≤ 1 }
+{
+    match reason {
+        DisengageRejectReason::NotRegistered => 0,
+        DisengageRejectReason::RequestToDropOther => 1,
+    }
+}
+
+/// GatekeeperConfirm.
+#[tactic(auto, using(crate::proofs::Behind::behind_append), unfolding(crate::specs::Replies::gatekeeper_confirm))]
+pub fn gatekeeper_confirm(
+    writer: &mut BitWriter,
+    seq: RequestSeqNum,
+    gatekeeper: &Name,
+    ras: &Address,
+)
+    requires { 2400 ≤ writer.old.room }
+    ensures { Writes 2400 (gatekeeper_confirm seq gatekeeper.now ras.now) writer.old writer.new }
+{
+    root_message(writer, 1);
+    writer.bit(false);
+    writer.bit(false);
+    writer.bit(true);
+    request_seq_num(writer, seq);
+    protocol_identifier(writer);
+    identifier(writer, gatekeeper.as_slice());
+    transport_address(writer, ras);
+}
+
+/// GatekeeperReject.
+#[tactic(auto, using(crate::proofs::Behind::behind_append), unfolding(crate::specs::Replies::gatekeeper_reject))]
+pub fn gatekeeper_reject(writer: &mut BitWriter, seq: RequestSeqNum, reason: GatekeeperRejectReason)
+    requires { 400 ≤ writer.old.room }
+    ensures { Writes 400 (gatekeeper_reject seq reason) writer.old writer.new }
+{
+    root_message(writer, 2);
+    writer.bit(false);
+    writer.bit(false);
+    writer.bit(false);
+    request_seq_num(writer, seq);
+    protocol_identifier(writer);
+    null_choice(writer, 3, gatekeeper_reason(reason));
+}
+
+/// UnregistrationConfirm.
+#[tactic(auto, unfolding(crate::specs::Replies::unregistration_confirm))]
+pub fn unregistration_confirm(writer: &mut BitWriter, seq: RequestSeqNum)
+    requires { 400 ≤ writer.old.room }
+    ensures { Writes 400 (unregistration_confirm seq) writer.old writer.new }
+{
+    root_message(writer, 7);
+    writer.bit(false);
+    writer.bit(false);
+    request_seq_num(writer, seq);
+}
+
+/// UnregistrationReject.
+#[tactic(auto, unfolding(crate::specs::Replies::unregistration_reject))]
+pub fn unregistration_reject(writer: &mut BitWriter, seq: RequestSeqNum, reason: UnregRejectReason)
+    requires { 400 ≤ writer.old.room }
+    ensures { Writes 400 (unregistration_reject seq reason) writer.old writer.new }
+{
+    root_message(writer, 8);
+    writer.bit(false);
+    writer.bit(false);
+    request_seq_num(writer, seq);
+    null_choice(writer, 2, unreg_reason(reason));
+}
+
+/// AdmissionConfirm: the endpoint may send itself, and reports nothing.
+#[tactic(auto, using(crate::proofs::Behind::behind_append), unfolding(crate::specs::Replies::admission_confirm))]
+pub fn admission_confirm(writer: &mut BitWriter, seq: RequestSeqNum, units: u32, dest: &Address)
+    requires { 500 ≤ writer.old.room }
+    ensures { Writes 500 (admission_confirm seq units dest.now) writer.old writer.new }
+{
+    root_message(writer, 10);
+    writer.bit(true);
+    writer.bit(false);
+    writer.bit(false);
+    request_seq_num(writer, seq);
+    band_width(writer, units);
+    null_choice(writer, 1, 0);
+    transport_address(writer, dest);
+    admission_confirm_additions(writer);
+}
+
+/// willRespondToIRR false, uuiesRequested none.
+#[tactic(auto, unfolding(crate::specs::Replies::admission_confirm_additions))]
+fn admission_confirm_additions(writer: &mut BitWriter)
+    requires { 120 ≤ writer.old.room }
+    ensures { Writes 120 admission_confirm_additions writer.old writer.new }
+{
+    writer.small(10);
+    writer.bits(11, 3);
+    zero_octet(writer);
+    writer.length(2);
+    writer.octets(&[0, 0]);
+}
+
+/// AdmissionReject.
+#[tactic(auto, unfolding(crate::specs::Replies::admission_reject))]
+pub fn admission_reject(writer: &mut BitWriter, seq: RequestSeqNum, reason: AdmissionRejectReason)
+    requires { 400 ≤ writer.old.room }
+    ensures { Writes 400 (admission_reject seq reason) writer.old writer.new }
+{
+    root_message(writer, 11);
+    writer.bit(false);
+    writer.bit(false);
+    request_seq_num(writer, seq);
+    null_choice(writer, 7, admission_reason(reason));
+}
+
+/// BandwidthConfirm.
+#[tactic(auto, unfolding(crate::specs::Replies::bandwidth_confirm))]
+pub fn bandwidth_confirm(writer: &mut BitWriter, seq: RequestSeqNum, units: u32)
+    requires { 400 ≤ writer.old.room }
+    ensures { Writes 400 (bandwidth_confirm seq units) writer.old writer.new }
+{
+    root_message(writer, 13);
+    writer.bit(false);
+    writer.bit(false);
+    request_seq_num(writer, seq);
+    band_width(writer, units);
+}
+
+/// BandwidthReject, with the bandwidth that is allowed.
+#[tactic(auto, unfolding(crate::specs::Replies::bandwidth_reject))]
+pub fn bandwidth_reject(
+    writer: &mut BitWriter,
+    seq: RequestSeqNum,
+    reason: BandRejectReason,
+    allowed: u32,
+)
+    requires { 400 ≤ writer.old.room }
+    ensures { Writes 400 (bandwidth_reject seq reason allowed) writer.old writer.new }
+{
+    root_message(writer, 14);
+    writer.bit(false);
+    writer.bit(false);
+    request_seq_num(writer, seq);
+    null_choice(writer, 5, band_reason(reason));
+    band_width(writer, allowed);
+}
+
+/// DisengageConfirm.
+#[tactic(auto, unfolding(crate::specs::Replies::disengage_confirm))]
+pub fn disengage_confirm(writer: &mut BitWriter, seq: RequestSeqNum)
+    requires { 400 ≤ writer.old.room }
+    ensures { Writes 400 (disengage_confirm seq) writer.old writer.new }
+{
+    root_message(writer, 16);
+    writer.bit(false);
+    writer.bit(false);
+    request_seq_num(writer, seq);
+}
+
+/// DisengageReject.
+#[tactic(auto, unfolding(crate::specs::Replies::disengage_reject))]
+pub fn disengage_reject(writer: &mut BitWriter, seq: RequestSeqNum, reason: DisengageRejectReason)
+    requires { 400 ≤ writer.old.room }
+    ensures { Writes 400 (disengage_reject seq reason) writer.old writer.new }
+{
+    root_message(writer, 17);
+    writer.bit(false);
+    writer.bit(false);
+    request_seq_num(writer, seq);
+    null_choice(writer, 1, disengage_reason(reason));
+}
+
+/// InfoRequest about all calls.
+#[tactic(auto, unfolding(crate::specs::Replies::info_request))]
+pub fn info_request(writer: &mut BitWriter, seq: RequestSeqNum)
+    requires { 500 ≤ writer.old.room }
+    ensures { Writes 500 (info_request seq) writer.old writer.new }
+{
+    root_message(writer, 21);
+    writer.bit(true);
+    writer.bit(false);
+    writer.bit(false);
+    request_seq_num(writer, seq);
+    writer.whole(0, 65535, 0);
+    writer.small(0);
+    writer.bit(true);
+    writer.length(17);
+    writer.bit(false);
+    writer.octets(&[0; 16]);
+}
+
+/// RequestInProgress.
+#[tactic(auto, unfolding(crate::specs::Replies::request_in_progress))]
+pub fn request_in_progress(writer: &mut BitWriter, seq: RequestSeqNum, delay: Delay)
+    requires { 400 ≤ writer.old.room }
+    ensures { Writes 400 (request_in_progress seq delay) writer.old writer.new }
+{
+    writer.bit(true);
+    writer.small(0);
+    writer.length(5);
+    writer.bits(5, 0);
+    request_seq_num(writer, seq);
+    writer.whole(1, 65535, u32::from(delay.get()));
+}
+
+/// The components of a reply.
+fn write_components(writer: &mut BitWriter, reply: &Reply)
+    requires { 8 * room_of reply.now ≤ writer.old.room }
+    ensures { Writes (8 * room_of reply.now) (components reply.now) writer.old writer.new }
+{
+    match reply {
+        Reply::Gcf {
+            seq,
+            gatekeeper,
+            ras,
+        } => gatekeeper_confirm(writer, *seq, gatekeeper, ras),
+        Reply::Grj { seq, reason } => gatekeeper_reject(writer, *seq, *reason),
+        Reply::Rcf { .. } => {}
+        Reply::Rrj { .. } => {}
+        Reply::Ucf { seq } => unregistration_confirm(writer, *seq),
+        Reply::Urj { seq, reason } => unregistration_reject(writer, *seq, *reason),
+        Reply::Acf { seq, units, dest } => admission_confirm(writer, *seq, *units, dest),
+        Reply::Arj { seq, reason } => admission_reject(writer, *seq, *reason),
+        Reply::Bcf { seq, units } => bandwidth_confirm(writer, *seq, *units),
+        Reply::Brj {
+            seq,
+            reason,
+            allowed,
+        } => bandwidth_reject(writer, *seq, *reason, *allowed),
+        Reply::Dcf { seq } => disengage_confirm(writer, *seq),
+        Reply::Drj { seq, reason } => disengage_reject(writer, *seq, *reason),
+        Reply::Irq { seq } => info_request(writer, *seq),
+        Reply::Rip { seq, delay } => request_in_progress(writer, *seq, *delay),
+    }
+}
+
+/// Writes a reply behind what is there. It fails only for want of memory, and not where there is room for
+/// `reply.room()` more octets.
+pub fn write_into(reply: &Reply, octets: &mut Vec<u8>) -> Result<(), AllocError>
+    ensures ok { OnOk result (octets.new.items ≡ octets.old.items ++ encoding_of reply.now) }
+    ensures err { OnErr result (octets.new.items ≡ octets.old.items) }
+    ensures err_capacity { OnErr result (vec_capacity octets.new ≡ vec_capacity octets.old) }
+    ensures succeeds { vec_len octets.old + room_of reply.now ≤ vec_capacity octets.old → IsOk result }
+{
+    octets.reserve(reply.room())?;
+    let empty = Vec::new(*octets.allocator());
+    let mut writer = BitWriter::new(mem::replace(octets, empty));
+    write_components(&mut writer, reply);
+    *octets = writer.finish();
+    Ok(())
+}
