@@ -7,6 +7,7 @@ ghost use Rattle.ras_core.specs.Steps.{Step, HasFewOctets};
 use crate::config::Config;
 use crate::event::Event;
 use crate::fault::StepFault;
+use crate::moment::Moment;
 use crate::outcome::{Datagram, IgnoredCause, Note, Outcome};
 use ras_codec::{ReadFault, read, write_into};
 use ras_module::{GatekeeperRejectReason, Name, Octets, Reply, Request, RequestSeqNum, Source};
@@ -24,7 +25,7 @@ const MOST_OCTETS: usize = 4096;
 pub struct Machine {
     alloc: Global,
     config: Config,
-    clock: u64,
+    clock: Moment,
     steps: u64,
 }
 
@@ -43,9 +44,21 @@ impl Machine {
         Machine {
             alloc,
             config,
-            clock: 0,
+            clock: Moment::START,
             steps: 0,
         }
+    }
+
+    pub fn clock(&self) -> Moment
+        ensures { result ≡ self.now.clock }
+    {
+        self.clock
+    }
+
+    pub fn steps(&self) -> u64
+        ensures { result ≡ self.now.steps }
+    {
+        self.steps
     }
 
     pub fn is_closed(&self) -> bool
@@ -138,7 +151,7 @@ impl Machine {
         }
         let Event::Datagram(source, bytes, moment) = event;
         let outcome = self.answer(*source, bytes.as_slice())?;
-        self.clock = self.clock.max(moment.milliseconds());
+        self.clock = self.clock.max(*moment);
         self.steps += 1;
         Ok(outcome)
     }

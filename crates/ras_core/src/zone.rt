@@ -9,6 +9,7 @@ use crate::config::Config;
 use crate::event::Event;
 use crate::fault::{NewFault, StepFault};
 use crate::machine::Machine;
+use crate::moment::Moment;
 use crate::outcome::Outcome;
 use std::alloc::Global;
 use std::marker::Model;
@@ -62,6 +63,20 @@ impl Zone {
         ensures sound { Sound self.new }
     {
         self.machine.step(event)
+    }
+
+    /// The clock: the latest moment of an event so far.
+    pub fn clock(&self) -> Moment
+        ensures { result ≡ self.now.clock }
+    {
+        self.machine.clock()
+    }
+
+    /// How many steps were made.
+    pub fn steps(&self) -> u64
+        ensures { result ≡ self.now.steps }
+    {
+        self.machine.steps()
     }
 
     /// Whether no further step is made.
