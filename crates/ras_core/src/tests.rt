@@ -42,7 +42,10 @@ fn parts() -> Result<ConfigParts, Fail> {
 }
 
 fn zone(alloc: Global) -> Result<Zone, Fail> {
-    Ok(Zone::new(alloc, Config::new(parts()?)?)?)
+    let Ok(config) = Config::new(parts()?) else {
+        return Err(Fail::from("the defaults are in their ranges"));
+    };
+    Ok(Zone::new(alloc, config)?)
 }
 
 fn event(alloc: Global, bytes: &[u8], milliseconds: u64) -> Result<Event, Fail> {
@@ -99,49 +102,34 @@ fn a_run_appends_an_outcome_for_each_event(rt: HostRuntime) -> Result<(), Fail> 
     Ok(())
 }
 
+/// Whether these settings are refused for this key; with no key, whether they are taken.
+fn is_judged(parts: ConfigParts, key: &str) -> bool {
+    match Config::new(parts) {
+        Ok(_) => key.is_empty(),
+        Err(ConfigFault::OutOfRange(named)) => named == key,
+    }
+}
+
 #[test]
 fn a_key_out_of_its_range_is_named(rt: HostRuntime) -> Result<(), Fail> {
-    let good = parts()?;
-    assert!(rt; Config::new(good).is_ok());
     let cases = [
-        ("zone.limit", ConfigParts { limit: 0, ..good }),
-        (
-            "zone.limit",
-            ConfigParts {
-                limit: 1_000_000_000_001,
-                ..good
-            },
-        ),
-        (
-            "zone.call_limit",
-            ConfigParts {
-                call_limit: 4_294_967_296,
-                ..good
-            },
-        ),
-        (
-            "zone.calls",
-            ConfigParts {
-                calls: 20_001,
-                asks: 17,
-                ..good
-            },
-        ),
-        (
-            "zone.pool_turn",
-            ConfigParts {
-                pool_turn: 86_400_001,
-                ..good
-            },
-        ),
+        (1, 1, 1, 1, ""),
+        (1_000_000_000_000, 20_000, 16, 86_400_000, ""),
+        (1_000_000_000_001, 20_001, 17, 86_400_001, "zone.limit"),
+        (0, 1, 1, 1, "zone.limit"),
+        (1, 20_001, 17, 86_400_001, "zone.calls"),
+        (1, 1, 17, 0, "zone.asks"),
+        (1, 1, 1, 0, "zone.pool_turn"),
     ];
-    for (key, parts) in cases {
-        let Err(fault) = Config::new(parts) else {
-            return Err(Fail::from("a number out of its range was taken"));
-        };
-        assert_eq!(rt; fault, ConfigFault::OutOfRange(key));
-        assert_eq!(rt; fault.number(), 1);
+    for (limit, calls, asks, pool_turn, key) in cases {
+        let mut parts = parts()?;
+        parts.limit = limit;
+        parts.calls = calls;
+        parts.asks = asks;
+        parts.pool_turn = pool_turn;
+        assert!(rt; is_judged(parts, key), "{limit} {calls} {asks} {pool_turn}");
     }
+    assert_eq!(rt; ConfigFault::OutOfRange("zone.limit").number(), 1);
     Ok(())
 }
 

@@ -47,7 +47,6 @@ impl Zone {
     /// Closed exactly where 2^62 steps were made; after a refusal nothing has changed, the clock included.
     pub fn step(&mut self, event: Event) -> Result<Outcome, StepFault>
         ensures step { IfOk result (λ outcome. Step self.old event outcome self.new) }
-        ensures short { IfOk result (λ outcome. HasFewOctets outcome.output) }
         ensures closed { (result ≡ Err StepFault.Closed) ↔ (self.old.steps ≡ most_steps) }
         ensures err { OnErr result (self.new ≡ self.old) }
         ensures sound { Sound self.new }
@@ -57,7 +56,6 @@ impl Zone {
 
     fn step_at(&mut self, event: &Event) -> Result<Outcome, StepFault>
         ensures step { IfOk result (λ outcome. Step self.old event.now outcome self.new) }
-        ensures short { IfOk result (λ outcome. HasFewOctets outcome.output) }
         ensures closed { (result ≡ Err StepFault.Closed) ↔ (self.old.steps ≡ most_steps) }
         ensures err { OnErr result (self.new ≡ self.old) }
         ensures sound { Sound self.new }
