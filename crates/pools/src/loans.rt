@@ -1,6 +1,7 @@
 //! What a pool has lent, and what it answered last.
 ghost use Rattle.std.specs.Prelude.{◌≡◌, ◌-◌, ◌≤◌};
-ghost use Rattle.pools.specs.Account.{MayAsk, IsAnswer, opening_account, account_after_answer, account_after_return};
+ghost use Rattle.pools.specs.Account.{MayAsk, IsAnswer, opening_account};
+ghost use Rattle.pools.specs.Account.{account_after_answer, account_after_return};
 
 use crate::interface::{Figures, Lend};
 use std::marker::Model;
