@@ -1,5 +1,5 @@
 -- What holds of the bits that are written for a value.
-use Rattle.std.specs.Prelude.{ℕ, ◌≡◌, ◌≤◌, List, ◌++◌, Bool, length, Result, Ok}
+use Rattle.std.specs.Prelude.{ℕ, ◌≡◌, ◌≤◌, ◌%◌, List, ◌++◌, Bool, length, Result, Ok, Err}
 use Rattle.per_bits.specs.Bits.{place_of}
 
 -- These bits are an encoding, and no encoding at this place is shorter.
@@ -13,3 +13,15 @@ abbrev pub ReadsBack : {A F : Type 0} → (List Bool → Result (A × List Bool)
     → (ℕ → List Bool) → Type 0
 ReadsBack {A} {F} read x encoding = (place : ℕ) (rest : List Bool)
     → place_of (encoding place ++ rest) ≡ place → read (encoding place ++ rest) ≡ Ok (x, rest)
+
+-- What reading gives with more bits behind: the same value, with those bits left; and the same
+-- fault, but where it is that the octets end.
+abbrev pub Keeps : {A F : Type 0} → F → Result (A × List Bool) F → Result (A × List Bool) F
+    → List Bool → Type 0
+Keeps ended (Ok value) further more = further ≡ Ok (value.0, value.1 ++ more)
+Keeps ended (Err fault) further more = (fault ≡ ended → ⊥) → further ≡ Err fault
+
+-- Octets behind those that are read do not change what is read of these.
+abbrev pub IsLocal : {A F : Type 0} → F → (List Bool → Result (A × List Bool) F) → Type 0
+IsLocal {A} {F} ended read = (bits more : List Bool) → length more % 8 ≡ 0
+    → Keeps ended (read bits) (read (bits ++ more)) more
