@@ -1,5 +1,5 @@
 -- What holds of the bits that are written for a value.
-use Rattle.std.specs.Prelude.{ℕ, ◌≡◌, ◌≤◌, ◌%◌, List, ◌++◌, Bool, length, Result, Ok, Err}
+use Rattle.std.specs.Prelude.{ℕ, ◌≡◌, ◌<◌, ◌≤◌, ◌+◌, ◌%◌, List, ◌++◌, Bool, length, Result, Ok, Err}
 use Rattle.per_bits.specs.Bits.{place_of}
 
 -- These bits are an encoding, and no encoding at this place is shorter.
@@ -25,3 +25,12 @@ Keeps ended (Err fault) further more = (fault ≡ ended → ⊥) → further ≡
 abbrev pub IsLocal : {A F : Type 0} → F → (List Bool → Result (A × List Bool) F) → Type 0
 IsLocal {A} {F} ended read = (bits more : List Bool) → length more % 8 ≡ 0
     → Keeps ended (read bits) (read (bits ++ more)) more
+
+-- What reading gives passes at most so many bits; and the octets end only where fewer are left.
+abbrev pub Spends : {A F : Type 0} → F → ℕ → List Bool → Result (A × List Bool) F → Type 0
+Spends ended most bits (Ok value) = length bits ≤ length value.1 + most
+Spends ended most bits (Err fault) = fault ≡ ended → length bits < most
+
+-- Wherever so many bits are left, they are enough.
+abbrev pub IsWithin : {A F : Type 0} → F → ℕ → (List Bool → Result (A × List Bool) F) → Type 0
+IsWithin ended most read = (bits : List Bool) → Spends ended most bits (read bits)
