@@ -1,5 +1,6 @@
--- What holds of the bits that are written for a value.
-use Rattle.std.specs.Prelude.{ℕ, ◌≡◌, ◌<◌, ◌≤◌, ◌+◌, ◌%◌, List, ◌++◌, Bool, length, Result, Ok, Err}
+-- What may hold of the bits that are written for a value, and of a reading.
+use Rattle.std.specs.Prelude.{ℕ, ◌≡◌, ◌<◌, ◌≤◌, ◌+◌, ◌%◌, List, ◌++◌, Bool, length, Result}
+use Rattle.std.specs.Prelude.{Ok, Err}
 use Rattle.per_bits.specs.Bits.{place_of}
 
 -- These bits are an encoding, and no encoding at this place is shorter.
@@ -31,6 +32,6 @@ abbrev pub Spends : {A F : Type 0} → F → ℕ → List Bool → Result (A × 
 Spends ended most bits (Ok value) = length bits ≤ length value.1 + most
 Spends ended most bits (Err fault) = fault ≡ ended → length bits < most
 
--- Wherever so many bits are left, they are enough.
+-- Wherever so many bits are left, these are enough for what is read.
 abbrev pub IsWithin : {A F : Type 0} → F → ℕ → (List Bool → Result (A × List Bool) F) → Type 0
 IsWithin ended most read = (bits : List Bool) → Spends ended most bits (read bits)
