@@ -5,3 +5,4 @@ pub mod Values
 pub mod Places
 pub mod Rows
 pub mod Lists
+pub mod Searches

@@ -16,11 +16,11 @@ use Rattle.std.specs.Ordering.{is_lt, is_eq, ordering_index}
 use Rattle.std.specs.FinMap as fin
 use Rattle.std.specs.FinMap.{FinMap, IsAntisymmetric}
 use Rattle.std.specs.FinMap.Entries.{below_all, is_sorted, same_entries}
-use Rattle.keyed.specs.Places.{map_of, entries_of, AreApart}
+use Rattle.keyed.specs.Places.{row_in, map_of, entries_of, AreApart}
 use Rattle.keyed.proofs.Decide.{by_place}
 use Rattle.keyed.proofs.Maps.{itself}
 use Rattle.keyed.proofs.Places.{IsMapOf, one_map}
-use Rattle.keyed.proofs.Rows.{row_in, Changed-set, IsMapOf-rows}
+use Rattle.keyed.proofs.Rows.{Changed-set, IsMapOf-rows}
 
 -- each key is below those of the rows behind it
 record IsRisingBy {K X : Type 0} (R : K → K → Ordering) (key : X → K) (rows : List X) : Type 0 where

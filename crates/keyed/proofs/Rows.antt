@@ -9,7 +9,7 @@ use Rattle.std.specs.declared.cmp.Ordering.{Ordering}
 use Rattle.std.specs.FinMap as fin
 use Rattle.std.specs.FinMap.{FinMap, IsAntisymmetric}
 use Rattle.keyed.specs.Maps.{Changed, total, retain_values}
-use Rattle.keyed.specs.Places.{map_of, entries_of, AreApart}
+use Rattle.keyed.specs.Places.{row_in, map_of, entries_of, AreApart}
 use Rattle.keyed.proofs.Decide.{some_none, same_some}
 use Rattle.std.specs.Prelude.{filter, Bool, true, false, cond}
 use Rattle.std.proofs.lemmas.Map.Entries.{option_filter}
@@ -17,10 +17,6 @@ use Rattle.keyed.proofs.Maps.{by_key, Changed-insert, Changed-remove, len_more, 
 use Rattle.keyed.proofs.Sums.{total-insert, total-empty}
 use Rattle.keyed.proofs.Values.{find_one, find_none}
 use Rattle.keyed.proofs.Places.{IsMapOf, StandsAt, one_map, IsMapOf-put, AreApart-set}
-
--- what stands where in a list
-abbrev pub row_in : {X : Type 0} → List X → ℕ → Option X
-row_in rows i = slice_get rows i
 
 -- what a push, a write and a removal do at each place
 pub Changed-push : {X : Type 0} (rows : List X) (v : X) → Changed (row_in rows) (row_in (rows ++ v ∷ [])) (length rows) (Some v)
@@ -235,3 +231,26 @@ module _ {K X : Type 0} {R : K → K → Ordering} (o : IsTotalOrder R) (same : 
         (let s = of.stands q x there in
         let place = alone s.0 found.0 s.1 r s.2.there found.1 (ap p s.2.value_is ∙ passes) found.2 in
         sym s.2.value_is ∙ same_some s.1 r (sym s.2.there ∙ (ap (slice_get rows) place ∙ found.1))))
+
+-- the rows that a test leaves stood elsewhere apart, and stay so
+module _ {A X : Type 0} (part : X → A) (test : X → Bool) where
+  was_there : (rows : List X) (i : ℕ) (r : X) → slice_get (filter test rows) i ≡ Some r → (j : ℕ) × (slice_get rows j ≡ Some r)
+  was_there [] i r e = some_none (sym e)
+  was_there (x ∷ rows) i r e = cases (was_there rows) (test x) i e where
+    cases : ((i : ℕ) (r : X) → slice_get (filter test rows) i ≡ Some r → (j : ℕ) × (slice_get rows j ≡ Some r))
+        → (b : Bool) (i : ℕ) → slice_get (cond b (x ∷ filter test rows) (filter test rows)) i ≡ Some r → (j : ℕ) × (slice_get (x ∷ rows) j ≡ Some r)
+    cases rest true zero e = (zero, e)
+    cases rest true (suc i) e = (let s = rest i r e in (suc s.0, s.1))
+    cases rest false i e = (let s = rest i r e in (suc s.0, s.1))
+
+  pub AreApart-filter : (rows : List X) → AreApart part (row_in rows) → AreApart part (row_in (filter test rows))
+  AreApart-filter [] h = h
+  AreApart-filter (x ∷ rows) h = cases (AreApart-filter rows (apart_tail part x rows h)) (test x) where
+    cases : AreApart part (row_in (filter test rows)) → (b : Bool) → AreApart part (row_in (cond b (x ∷ filter test rows) (filter test rows)))
+    cases rest true = record { apart = places rest } where
+      places : AreApart part (row_in (filter test rows)) → (i j : ℕ) (r s : X) → slice_get (x ∷ filter test rows) i ≡ Some r → slice_get (x ∷ filter test rows) j ≡ Some s → part r ≡ part s → i ≡ j
+      places rest zero zero r s p q e = refl
+      places rest zero (suc j) r s p q e = (let was = was_there rows j s q in let at : zero ≡ suc was.0 = h.apart zero (suc was.0) r s p was.1 e in absurd (omega arith))
+      places rest (suc i) zero r s p q e = (let was = was_there rows i r p in let at : suc was.0 ≡ zero = h.apart (suc was.0) zero r s was.1 q e in absurd (omega arith))
+      places rest (suc i) (suc j) r s p q e = ap suc (rest.apart i j r s p q e)
+    cases rest false = rest
