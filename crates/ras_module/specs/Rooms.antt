@@ -1,6 +1,5 @@
 -- How many octets are enough for a reply.
 use Rattle.std.specs.Prelude.{ℕ, ◌+◌, ◌*◌, length}
-use Rattle.ras_module.specs.declared.reason.RegistrationRejectReason.{RegistrationRejectReason}
 use Rattle.ras_module.specs.declared.reason.RegistrationRejectReason.TheVariants.{DuplicateAlias}
 use Rattle.ras_module.specs.declared.reply.Reply.{Reply}
 use Rattle.ras_module.specs.declared.reply.Reply.TheVariants.{Gcf, Rcf, Rrj}
