@@ -1,3 +1,4 @@
 pub mod Behind
 pub mod Each
 pub mod Octets
+pub mod Widths

@@ -15,3 +15,6 @@ mod sequence;
 pub use fault::ReadFault;
 pub use message::read;
 pub use reply::write_into;
+
+#[cfg(test)]
+mod tests;
