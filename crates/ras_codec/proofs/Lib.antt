@@ -1,4 +1,6 @@
 pub mod Behind
+pub mod Dialled
 pub mod Each
+pub mod Firsts
 pub mod Octets
 pub mod Widths

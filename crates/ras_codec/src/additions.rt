@@ -28,6 +28,13 @@ impl Model for PresentAdditions {
 }
 
 impl PresentAdditions {
+    /// Whether the addition of an index is there.
+    pub fn is_present(&self, index: usize) -> bool
+        ensures { result ≡ is_present self.now index }
+    {
+        index < self.count && self.present[index]
+    }
+
     fn as_slice(&self) -> &[bool]
         ensures { result.now ≡ self.now }
     {

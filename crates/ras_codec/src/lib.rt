@@ -3,6 +3,8 @@
 
 mod additions;
 mod address;
+mod alias;
+mod call;
 mod decoder;
 mod encoder;
 mod endpoint_type;

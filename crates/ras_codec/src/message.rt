@@ -6,7 +6,10 @@ ghost use Rattle.ras_codec.specs.Messages.{ras_message, root_message, message_re
 
 use crate::decoder::Decoder;
 use crate::fault::ReadFault;
-use crate::request::gatekeeper_request;
+use crate::request::{
+    bandwidth_request, disengage_request, gatekeeper_request, info_request_response,
+    unregistration_request,
+};
 use ras_module::Request;
 use std::alloc::Global;
 
@@ -17,6 +20,10 @@ fn root_message(_alloc: Global, decoder: &mut Decoder<'_>) -> Result<Option<Requ
     let index = ahead.choice_index(24)?;
     let request = match index {
         0 => Some(gatekeeper_request(&mut ahead)?),
+        6 => Some(unregistration_request(&mut ahead)?),
+        12 => Some(bandwidth_request(&mut ahead)?),
+        15 => Some(disengage_request(&mut ahead)?),
+        22 => Some(info_request_response(&mut ahead)?),
         _ => None,
     };
     *decoder = ahead;
