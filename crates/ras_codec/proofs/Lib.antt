@@ -2,5 +2,6 @@ pub mod Behind
 pub mod Dialled
 pub mod Each
 pub mod Firsts
+pub mod Kept
 pub mod Octets
 pub mod Widths

@@ -1,7 +1,7 @@
 -- Transport addresses (H.225.0, TransportAddress).
-use Rattle.std.specs.Prelude.{ℕ, List, [], ◌∷◌, Option, Some, None}
+use Rattle.std.specs.Prelude.{ℕ, List, [], ◌∷◌, Bool, Option, Some, None}
 use Rattle.ras_module.specs.declared.address.Address.{Address}
-use Rattle.ras_codec.specs.Grammar.{Grammar, ◌>>=◌, is, nothing, boolean, bits, whole, length, octets, each, if◌equals◌take◌else◌}
+use Rattle.ras_codec.specs.Grammar.{Grammar, ◌>>=◌, is, nothing, boolean, bits, whole, length, octets, each, either, if◌equals◌take◌else◌}
 use Rattle.ras_codec.specs.Sequences.{list_skipped, choice, null_choice, skipped_additions, sized_octet_string, non_standard_parameter}
 
 -- ipAddress: ip, port
@@ -96,3 +96,7 @@ unfoldable pub address_list : Grammar (Option Address)
 address_list = do
   count ← length
   first_each count
+
+-- a TransportAddress that is OPTIONAL: its address where it is an ipAddress
+abbrev pub optional_address : Bool → Grammar (Option Address)
+optional_address present = either present transport_address (is None)

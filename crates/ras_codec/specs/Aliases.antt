@@ -1,10 +1,10 @@
 -- Aliases (H.225.0, AliasAddress).
-use Rattle.std.specs.Prelude.{ℕ, ◌+◌, List, [], ◌∷◌, Bool, Option, Some, None, nat_eq, nat_lt, if◌then◌else◌}
+use Rattle.std.specs.Prelude.{ℕ, ◌+◌, List, [], ◌∷◌, ◌++◌, Bool, Option, Some, None, nat_eq, nat_lt, if◌then◌else◌}
 use Rattle.ras_module.specs.declared.alias.Alias.{Alias}
 use Rattle.ras_module.specs.declared.alias.Alias.TheVariants.{Digits, H323Id}
 use Rattle.ras_codec.specs.declared.fault.ReadFault.TheVariants.{BadCharacter}
-use Rattle.ras_codec.specs.Grammar.{Grammar, ◌>>=◌, is, failure, bits, whole, aligned, each, either, if◌equals◌take◌else◌}
-use Rattle.ras_codec.specs.Sequences.{list_of, list_skipped, choice, bmp_string}
+use Rattle.ras_codec.specs.Grammar.{Grammar, ◌>>=◌, is, failure, bits, whole, length, aligned, each, either, if◌equals◌take◌else◌}
+use Rattle.ras_codec.specs.Sequences.{list_skipped, choice, bmp_string}
 
 -- the character of a code, in the order of the permitted alphabet: # * , 0 to 9
 abbrev pub digit_of : ℕ → ℕ
@@ -49,8 +49,23 @@ served_in [] = []
 served_in (Some alias ∷ others) = alias ∷ served_in others
 served_in (None ∷ others) = served_in others
 
--- SEQUENCE OF AliasAddress
+-- aliases, and one more where it is served
+abbrev pub keeping : List Alias → Option Alias → List Alias
+keeping front None = front
+keeping front (Some alias) = front ++ alias ∷ []
+
+-- so many aliases, of which the served ones are kept
+abbrev pub served_each : ℕ → Grammar (List Alias)
+served_each count = do
+  all ← each count alias_address
+  is (served_in all)
+
+-- SEQUENCE OF AliasAddress: the served aliases
 unfoldable pub alias_list : Grammar (List Alias)
 alias_list = do
-  all ← list_of alias_address
-  is (served_in all)
+  count ← length
+  served_each count
+
+-- the same where it is OPTIONAL
+abbrev pub optional_aliases : Bool → Grammar (List Alias)
+optional_aliases present = either present alias_list (is [])

@@ -82,6 +82,13 @@ fn skip_open_type(decoder: &mut Decoder<'_>, present: bool) -> Result<(), ReadFa
     Ok(())
 }
 
+/// Passes over the addition of an index.
+pub fn skip_addition(decoder: &mut Decoder<'_>, additions: &PresentAdditions, index: usize) -> Result<(), ReadFault>
+    ensures { Gives (skipped_addition additions.now index).reading decoder.old result decoder.new }
+{
+    skip_open_type(decoder, additions.is_present(index))
+}
+
 fn skip_each(decoder: &mut Decoder<'_>, additions: &PresentAdditions) -> Result<(), ReadFault>
     ensures { Gives (skipped_each additions.now).reading decoder.old result decoder.new }
 {

@@ -1,16 +1,17 @@
 //! Aliases (H.225.0, AliasAddress).
 
-ghost use Rattle.std.specs.Prelude.{◌≡◌, ◌≤◌, ◌<◌, ◌^◌, length, IfOk, IsTrue};
+ghost use Rattle.std.specs.Prelude.{◌≡◌, ◌≤◌, ◌<◌, ◌^◌, length, IfOk, OnOk, IsTrue};
 ghost use Rattle.per_bits.specs.Readings.{Gives};
 ghost use Rattle.ras_module.specs.DialledDigits.{is_dialled, AreDialled};
-ghost use Rattle.ras_codec.specs.Faults.{front_of};
+ghost use Rattle.ras_codec.specs.Faults.{front_of, GivesUnlessMemory};
 ghost use Rattle.ras_codec.specs.Grammar.{each, each_skipped, skipped};
-ghost use Rattle.ras_codec.specs.Aliases.{digit_of, digit, dialled_digits, root_alias, alias_address, skipped_aliases};
+ghost use Rattle.ras_codec.specs.Aliases.{digit_of, digit, dialled_digits, root_alias, alias_address, skipped_aliases, keeping, served_each, alias_list, optional_aliases};
 
 use crate::decoder::Decoder;
 use crate::fault::ReadFault;
 use crate::sequence::{bmp_string, unknown_alternative};
-use ras_module::{Alias, BmpString, DialledDigits};
+use ras_module::{Alias, AliasList, BmpString, DialledDigits};
+use std::alloc::{AllocError, Global};
 
 /// The character of a code.
 fn digit_of(code: u32) -> u16
@@ -120,4 +121,43 @@ pub fn skip_aliases(decoder: &mut Decoder<'_>, present: bool) -> Result<(), Read
     skip_each_alias(&mut ahead, count)?;
     *decoder = ahead;
     Ok(())
+}
+
+/// Adds an alias, if it is served.
+fn keep(aliases: &mut AliasList, alias: Option<Alias>) -> Result<(), AllocError>
+    ensures { OnOk result (aliases.new ≡ keeping aliases.old alias) }
+{
+    match alias {
+        Some(alias) => aliases.push(alias),
+        None => Ok(()),
+    }
+}
+
+/// The served aliases among so many. Memory is asked for alias by alias, once it has been read.
+fn served_aliases(alloc: Global, decoder: &mut Decoder<'_>, count: u32) -> Result<AliasList, ReadFault>
+    ensures { GivesUnlessMemory (served_each count).reading decoder.old result decoder.new }
+{
+    let mut ahead = decoder.ahead();
+    let mut aliases = AliasList::new(alloc);
+    for _ in 0..count {
+        let alias = alias_address(&mut ahead)?;
+        keep(&mut aliases, alias)?;
+    }
+    *decoder = ahead;
+    Ok(aliases)
+}
+
+/// The served aliases of a list; none where the list isn't there.
+#[tactic(auto, unfolding(crate::specs::Aliases::alias_list))]
+pub fn optional_aliases(alloc: Global, decoder: &mut Decoder<'_>, present: bool) -> Result<AliasList, ReadFault>
+    ensures { GivesUnlessMemory (optional_aliases present).reading decoder.old result decoder.new }
+{
+    if !present {
+        return Ok(AliasList::new(alloc));
+    }
+    let mut ahead = decoder.ahead();
+    let count = ahead.length()?;
+    let aliases = served_aliases(alloc, &mut ahead, count)?;
+    *decoder = ahead;
+    Ok(aliases)
 }

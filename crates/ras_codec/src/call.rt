@@ -6,9 +6,9 @@ ghost use Rattle.per_bits.specs.Readings.{Gives};
 ghost use Rattle.per_bits.specs.Bits.{bits_of};
 ghost use Rattle.ras_codec.specs.Grammar.{skipped};
 ghost use Rattle.ras_codec.specs.Sequences.{addition};
-ghost use Rattle.ras_codec.specs.Requests.{call_identifier, call_type, disengage_reason, call_key};
+ghost use Rattle.ras_codec.specs.Requests.{call_identifier, call_type, call_model, q954_details, qseries_options, disengage_reason, call_key};
 
-use crate::additions::PresentAdditions;
+use crate::additions::{PresentAdditions, skip_additions};
 use crate::decoder::Decoder;
 use crate::fault::ReadFault;
 use crate::sequence::{octet_array, skip_null_choice};
@@ -56,13 +56,75 @@ fn is_all_zero(octets: &[u8]) -> bool
     octets.iter().all(|octet| *octet == 0)
 }
 
-/// CallType, where it is there.
+/// CallType.
 #[tactic(auto, unfolding(crate::specs::Requests::call_type))]
+pub fn call_type(decoder: &mut Decoder<'_>) -> Result<(), ReadFault>
+    ensures { Gives call_type.reading decoder.old result decoder.new }
+{
+    skip_null_choice(decoder, 3)
+}
+
+/// CallType, where it is there.
 pub fn skip_call_type(decoder: &mut Decoder<'_>, present: bool) -> Result<(), ReadFault>
     ensures { Gives (skipped present call_type).reading decoder.old result decoder.new }
 {
     if present {
-        skip_null_choice(decoder, 3)?;
+        call_type(decoder)?;
+    }
+    Ok(())
+}
+
+/// CallModel, where it is there.
+#[tactic(auto, unfolding(crate::specs::Requests::call_model))]
+pub fn skip_call_model(decoder: &mut Decoder<'_>, present: bool) -> Result<(), ReadFault>
+    ensures { Gives (skipped present call_model).reading decoder.old result decoder.new }
+{
+    if present {
+        skip_null_choice(decoder, 1)?;
+    }
+    Ok(())
+}
+
+/// Q954Details.
+#[tactic(auto, unfolding(crate::specs::Requests::q954_details))]
+fn q954_details(decoder: &mut Decoder<'_>) -> Result<(), ReadFault>
+    ensures { Gives q954_details.reading decoder.old result decoder.new }
+{
+    let mut ahead = decoder.ahead();
+    let extended = ahead.boolean()?;
+    ahead.boolean()?;
+    ahead.boolean()?;
+    skip_additions(&mut ahead, extended)?;
+    *decoder = ahead;
+    Ok(())
+}
+
+/// QseriesOptions.
+#[tactic(auto, unfolding(crate::specs::Requests::qseries_options))]
+fn qseries_options(decoder: &mut Decoder<'_>) -> Result<(), ReadFault>
+    ensures { Gives qseries_options.reading decoder.old result decoder.new }
+{
+    let mut ahead = decoder.ahead();
+    let extended = ahead.boolean()?;
+    ahead.boolean()?;
+    ahead.boolean()?;
+    ahead.boolean()?;
+    ahead.boolean()?;
+    ahead.boolean()?;
+    ahead.boolean()?;
+    ahead.boolean()?;
+    q954_details(&mut ahead)?;
+    skip_additions(&mut ahead, extended)?;
+    *decoder = ahead;
+    Ok(())
+}
+
+/// callServices, where they are there.
+pub fn skip_call_services(decoder: &mut Decoder<'_>, present: bool) -> Result<(), ReadFault>
+    ensures { Gives (skipped present qseries_options).reading decoder.old result decoder.new }
+{
+    if present {
+        qseries_options(decoder)?;
     }
     Ok(())
 }
