@@ -1,6 +1,9 @@
 -- Components behind octets.
 use Rattle.std.proofs.Common.{◌≡◌, ℕ, suc, ◌+◌, ◌/◌, ◌%◌, ◌<◌, List, [], ◌∷◌, ◌++◌, Bool, false, length, get_or, arith, refl, sym, ap, ◌∙◌, append_assoc, append-nil, length-append}
 use Rattle.std.proofs.lemmas.List.{take_at, drop_at, length-replicate}
+use Rattle.std.proofs.Common.{drop, drop-cons, add-one}
+use Rattle.ras_module.specs.declared.alias.Alias.{Alias}
+use Rattle.ras_codec.specs.Replies.{alias_address, alias_addresses}
 use Rattle.per_bits.specs.Bits.{bits_of, octets_in, octet, pad_length}
 use Rattle.per_bits.specs.Canonical.{pad}
 use Rattle.per_bits.proofs.Binary.{number-octet}
@@ -56,3 +59,10 @@ appended old new components bits fit_old fit_new written finished =
     omega (arith, length-bits_of new, ap length all, length-append (bits_of old) (more ++ pad (length more % 8)), length-append more (pad (length more % 8)), length-bits_of old, length-replicate (pad_length (length more % 8)) false) in
     sym (octets_in-all new (bits_of old ++ (more ++ pad (length more % 8))) (length old + (length more + 7) / 8) fit_new all count)
     ∙ octets_in-bits_of old ((length more + 7) / 8) (more ++ pad (length more % 8)) fit_old
+
+-- aliases behind others
+pub aliases_more : (aliases : List Alias) (alias : Alias) (i : ℕ) (bits more : List Bool) → alias ≡ get_or aliases i alias → i < length aliases
+    → more ≡ behind (alias_address alias) bits → behind (alias_addresses (drop (i + 1) aliases)) more ≡ behind (alias_addresses (drop i aliases)) bits
+aliases_more aliases alias i bits more is lt e =
+    let parts : drop i aliases ≡ alias ∷ drop (i + 1) aliases = drop-cons aliases i alias lt ∙ ap (λ (a : Alias). a ∷ drop (suc i) aliases) (sym is) ∙ ap (λ (n : ℕ). alias ∷ drop n aliases) (sym (add-one i)) in
+    rw (e, parts) (sym (behind_append (alias_address alias) (alias_addresses (drop (i + 1) aliases)) bits))

@@ -138,3 +138,9 @@ module _ {A : Type 0} (g : Grammar A) (count i : ℕ) (start bits : List Bool)
   dropped-done e =
       made_ok ((each count g).reading start) (fold_list dropping tt) (λ xs. tt {0}) (tt {0}, bits) fold_list-dropping
       (each-done dropping g count i tt tt start bits so_far e)
+
+-- values that are made into one
+module _ {A B : Type 0} (f : B → A → B) (g : Grammar A) (count i : ℕ) (first y : B) (start bits : List Bool)
+    (so_far : folded f g.reading (count - i) y bits ≡ folded f g.reading count first start) (s : List A → B) (is : (xs : List A) → fold_list f first xs ≡ s xs) where
+  pub each-made : i ≡ count → ((each count g).reading start >>= made s) ≡ Ok (y, bits)
+  each-made e = made_ok ((each count g).reading start) (fold_list f first) s (y, bits) is (each-done f g count i first y start bits so_far e)

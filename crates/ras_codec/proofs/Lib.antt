@@ -1,3 +1,7 @@
 pub mod Behind
+pub mod Dialled
 pub mod Each
+pub mod Firsts
+pub mod Kept
 pub mod Octets
+pub mod Widths

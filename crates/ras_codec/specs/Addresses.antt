@@ -1,8 +1,8 @@
 -- Transport addresses (H.225.0, TransportAddress).
-use Rattle.std.specs.Prelude.{ℕ, Option, Some, None}
+use Rattle.std.specs.Prelude.{ℕ, List, [], ◌∷◌, Bool, Option, Some, None}
 use Rattle.ras_module.specs.declared.address.Address.{Address}
-use Rattle.ras_codec.specs.Grammar.{Grammar, ◌>>=◌, is, nothing, boolean, bits, whole, octets, if◌equals◌take◌else◌}
-use Rattle.ras_codec.specs.Sequences.{list_skipped, choice, skipped_additions, sized_octet_string, non_standard_parameter}
+use Rattle.ras_codec.specs.Grammar.{Grammar, ◌>>=◌, is, nothing, boolean, bits, whole, length, octets, each, either, if◌equals◌take◌else◌}
+use Rattle.ras_codec.specs.Sequences.{list_skipped, choice, null_choice, skipped_additions, sized_octet_string, non_standard_parameter}
 
 -- ipAddress: ip, port
 unfoldable pub ip_address : Grammar Address
@@ -13,7 +13,7 @@ ip_address = do
 
 -- routing: strict, loose
 abbrev pub routing : Grammar (Unit {0})
-routing = choice 1 tt (λ index. nothing)
+routing = null_choice 1
 
 -- ipSourceRoute: ip, port, route, routing
 unfoldable pub ip_source_route : Grammar (Unit {0})
@@ -78,3 +78,25 @@ root_address index =
 -- TransportAddress: the address of an ipAddress, None for any other
 unfoldable pub transport_address : Grammar (Option Address)
 transport_address = choice 6 None root_address
+
+-- the first that is there
+abbrev pub first_of : List (Option Address) → Option Address
+first_of [] = None
+first_of (Some address ∷ others) = Some address
+first_of (None ∷ others) = first_of others
+
+-- so many addresses, of which the first ipAddress is kept
+abbrev pub first_each : ℕ → Grammar (Option Address)
+first_each count = do
+  all ← each count transport_address
+  is (first_of all)
+
+-- SEQUENCE OF TransportAddress: its first ipAddress
+unfoldable pub address_list : Grammar (Option Address)
+address_list = do
+  count ← length
+  first_each count
+
+-- a TransportAddress that is OPTIONAL: its address where it is an ipAddress
+abbrev pub optional_address : Bool → Grammar (Option Address)
+optional_address present = either present transport_address (is None)

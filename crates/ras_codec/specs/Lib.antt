@@ -4,6 +4,7 @@ pub mod Forms
 pub mod Grammar
 pub mod Sequences
 pub mod Addresses
+pub mod Aliases
 pub mod EndpointTypes
 pub mod Requests
 pub mod Messages

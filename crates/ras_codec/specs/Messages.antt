@@ -4,7 +4,7 @@ use Rattle.per_bits.specs.Bits.{bits_of}
 use Rattle.ras_module.specs.declared.request.Request.{Request}
 use Rattle.ras_codec.specs.declared.fault.ReadFault.{ReadFault}
 use Rattle.ras_codec.specs.Grammar.{Grammar, ◌>>=◌, is, boolean, choice_index, either, if◌equals◌take◌else◌}
-use Rattle.ras_codec.specs.Requests.{gatekeeper_request}
+use Rattle.ras_codec.specs.Requests.{gatekeeper_request, registration_request, unregistration_request, admission_request, bandwidth_request, disengage_request, info_request_response}
 
 abbrev pub served : Grammar Request → Grammar (Option Request)
 served message = do
@@ -18,7 +18,14 @@ not_served = is None
 abbrev pub root_message : Grammar (Option Request)
 root_message = do
   index ← choice_index 24
-  if index equals 0 take served gatekeeper_request else not_served
+  if index equals 0 take served gatekeeper_request
+    else if index equals 3 take served registration_request
+    else if index equals 6 take served unregistration_request
+    else if index equals 9 take served admission_request
+    else if index equals 12 take served bandwidth_request
+    else if index equals 15 take served disengage_request
+    else if index equals 22 take served info_request_response
+    else not_served
 
 -- RasMessage: a request that is served, or None for any other message, of which no more is read
 unfoldable pub ras_message : Grammar (Option Request)

@@ -1,8 +1,12 @@
 -- The replies of the gatekeeper (H.225.0), component by component.
-use Rattle.std.specs.Prelude.{ℕ, List, [], ◌∷◌, ◌++◌, true, false, length, replicate}
+use Rattle.std.specs.Prelude.{ℕ, ◌+◌, ◌-◌, List, [], ◌∷◌, ◌++◌, Bool, true, false, length, replicate, nat_eq, if◌then◌else◌}
 use Rattle.ras_module.specs.declared.address.Address.{Address}
 use Rattle.ras_module.specs.declared.reason.GatekeeperRejectReason.{GatekeeperRejectReason}
 use Rattle.ras_module.specs.declared.reason.GatekeeperRejectReason.TheVariants as gatekeeper
+use Rattle.ras_module.specs.declared.alias.Alias.{Alias}
+use Rattle.ras_module.specs.declared.alias.Alias.TheVariants.{Digits, H323Id}
+use Rattle.ras_module.specs.declared.reason.RegistrationRejectReason.{RegistrationRejectReason}
+use Rattle.ras_module.specs.declared.reason.RegistrationRejectReason.TheVariants as registration
 use Rattle.ras_module.specs.declared.reason.UnregRejectReason.{UnregRejectReason}
 use Rattle.ras_module.specs.declared.reason.UnregRejectReason.TheVariants as unreg
 use Rattle.ras_module.specs.declared.reason.AdmissionRejectReason.{AdmissionRejectReason}
@@ -13,6 +17,7 @@ use Rattle.ras_module.specs.declared.reason.DisengageRejectReason.{DisengageReje
 use Rattle.ras_module.specs.declared.reason.DisengageRejectReason.TheVariants as disengage
 use Rattle.ras_module.specs.declared.reply.Reply.{Reply}
 use Rattle.ras_module.specs.declared.reply.Reply.TheVariants.{Gcf, Grj, Rcf, Rrj, Ucf, Urj, Acf, Arj, Bcf, Brj, Dcf, Drj, Irq, Rip}
+use Rattle.per_bits.specs.Bits.{octets_for}
 use Rattle.ras_codec.specs.Encoding.{Encoding, in_order, padded_octets, boolean, align, bits, whole, size, small, octets}
 
 -- ---- what many messages share
@@ -44,6 +49,31 @@ identifier text = bmp_string 128 text
 unfoldable pub transport_address : Address → List Encoding
 transport_address address = boolean false ∷ whole 0 6 0 ∷ octets address.ip ∷ whole 0 65535 address.port ∷ []
 
+-- the code of a character that may be dialled, in the order of the permitted alphabet: # * , 0 to 9
+abbrev pub digit_code : ℕ → ℕ
+digit_code character =
+    if nat_eq character 35 then 0
+    else if nat_eq character 42 then 1
+    else if nat_eq character 44 then 2
+    else character - 45
+
+abbrev pub digits : List ℕ → List Encoding
+digits [] = []
+digits (character ∷ others) = bits 4 (digit_code character) ∷ digits others
+
+-- AliasAddress: dialledDigits, h323-ID
+unfoldable pub alias_address : Alias → List Encoding
+alias_address (Digits text) = boolean false ∷ whole 0 1 0 ∷ whole 1 128 (length text) ∷ align ∷ digits text
+alias_address (H323Id text) = boolean false ∷ whole 0 1 1 ∷ bmp_string 256 text
+
+abbrev pub alias_addresses : List Alias → List Encoding
+alias_addresses [] = []
+alias_addresses (alias ∷ others) = alias_address alias ++ alias_addresses others
+
+-- SEQUENCE OF AliasAddress
+abbrev pub alias_list : List Alias → List Encoding
+alias_list aliases = size (length aliases) ∷ alias_addresses aliases
+
 -- BandWidth, in units of 100 bit/s
 abbrev pub band_width : ℕ → Encoding
 band_width units = whole 0 4294967295 units
@@ -56,10 +86,27 @@ null_choice last index = boolean false ∷ whole 0 last index ∷ []
 abbrev pub zero_octet : List Encoding
 zero_octet = size 1 ∷ octets (0 ∷ []) ∷ []
 
+-- an alternative behind the extension marker that is a NULL, by its index there
+abbrev pub null_extension : ℕ → List Encoding
+null_extension index = boolean true ∷ small index ∷ zero_octet
+
 -- ---- the reasons
 
 abbrev pub gatekeeper_reason : GatekeeperRejectReason → ℕ
 gatekeeper_reason gatekeeper.TerminalExcluded = 1
+
+unfoldable pub registration_reason : RegistrationRejectReason → List Encoding
+registration_reason registration.DiscoveryRequired = null_choice 7 0
+registration_reason registration.InvalidCallSignalAddress = null_choice 7 2
+registration_reason registration.InvalidRasAddress = null_choice 7 3
+registration_reason (registration.DuplicateAlias held) = null_choice 7 4 ++ alias_list held
+registration_reason registration.ResourceUnavailable = null_extension 1
+registration_reason registration.FullRegistrationRequired = null_extension 4
+
+-- how many aliases a reason names
+abbrev pub held_in : RegistrationRejectReason → ℕ
+held_in (registration.DuplicateAlias held) = length held
+held_in other = 0
 
 abbrev pub unreg_reason : UnregRejectReason → ℕ
 unreg_reason unreg.NotCurrentlyRegistered = 0
@@ -82,6 +129,25 @@ disengage_reason disengage.RequestToDropOther = 1
 
 -- ---- the messages
 
+abbrev pub has_aliases : List Alias → Bool
+has_aliases [] = false
+has_aliases (first ∷ others) = true
+
+-- terminalAlias, where there are aliases
+unfoldable pub terminal_alias : List Alias → List Encoding
+terminal_alias [] = []
+terminal_alias (first ∷ others) = alias_list (first ∷ others)
+
+-- the octets of a TimeToLive
+abbrev pub time_to_live_octets : ℕ → ℕ
+time_to_live_octets seconds = 1 + octets_for (seconds - 1)
+
+unfoldable pub registration_confirm_additions : ℕ → List Encoding
+registration_confirm_additions granted =
+    small 5 ∷ bits 6 17
+    ∷ size (time_to_live_octets granted) ∷ whole 1 4294967295 granted
+    ∷ zero_octet
+
 -- GatekeeperConfirm: requestSeqNum, protocolIdentifier, nonStandardData?, gatekeeperIdentifier?, rasAddress
 unfoldable pub gatekeeper_confirm : ℕ → List ℕ → Address → List Encoding
 gatekeeper_confirm seq gatekeeper ras =
@@ -100,6 +166,33 @@ gatekeeper_reject seq reason =
     ∷ request_seq_num seq
     ∷ protocol_identifier
     ++ null_choice 3 (gatekeeper_reason reason)
+
+unfoldable pub registration_confirm_front : ℕ → Address → Bool → List Encoding
+registration_confirm_front seq call_signal has_aliases =
+    root_message 4
+    ++ boolean true ∷ boolean false ∷ boolean has_aliases ∷ boolean true
+    ∷ request_seq_num seq
+    ∷ protocol_identifier
+    ++ size 1 ∷ transport_address call_signal
+
+-- RegistrationConfirm: requestSeqNum, protocolIdentifier, nonStandardData?, callSignalAddress, terminalAlias?,
+-- gatekeeperIdentifier?, endpointIdentifier; additions 1 timeToLive, 5 willRespondToIRR
+unfoldable pub registration_confirm : ℕ → Address → List Alias → List ℕ → List ℕ → ℕ → List Encoding
+registration_confirm seq call_signal aliases gatekeeper endpoint granted =
+    registration_confirm_front seq call_signal (has_aliases aliases)
+    ++ terminal_alias aliases
+    ++ identifier gatekeeper
+    ++ identifier endpoint
+    ++ registration_confirm_additions granted
+
+-- RegistrationReject: requestSeqNum, protocolIdentifier, nonStandardData?, rejectReason, gatekeeperIdentifier?
+unfoldable pub registration_reject : ℕ → RegistrationRejectReason → List Encoding
+registration_reject seq reason =
+    root_message 5
+    ++ boolean false ∷ boolean false ∷ boolean false
+    ∷ request_seq_num seq
+    ∷ protocol_identifier
+    ++ registration_reason reason
 
 -- UnregistrationConfirm: requestSeqNum, nonStandardData?
 unfoldable pub unregistration_confirm : ℕ → List Encoding
@@ -194,8 +287,9 @@ request_in_progress seq delay =
 abbrev pub components : Reply → List Encoding
 components (Gcf seq gatekeeper ras) = gatekeeper_confirm seq gatekeeper ras
 components (Grj seq reason) = gatekeeper_reject seq reason
-components (Rcf seq call_signal aliases gatekeeper endpoint granted) = []
-components (Rrj seq reason) = []
+components (Rcf seq call_signal aliases gatekeeper endpoint granted) =
+    registration_confirm seq call_signal aliases gatekeeper endpoint granted
+components (Rrj seq reason) = registration_reject seq reason
 components (Ucf seq) = unregistration_confirm seq
 components (Urj seq reason) = unregistration_reject seq reason
 components (Acf seq units dest) = admission_confirm seq units dest

@@ -59,6 +59,10 @@ choice last unknown root = do
     index ← choice_index last
     root index)
 
+-- a CHOICE of NULLs, by the index of its last root alternative
+abbrev pub null_choice : ℕ → Grammar (Unit {0})
+null_choice last = choice last tt (λ index. nothing)
+
 -- OCTET STRING without a size
 abbrev pub octet_string : Grammar (List ℕ)
 octet_string = do

@@ -28,6 +28,13 @@ impl Model for PresentAdditions {
 }
 
 impl PresentAdditions {
+    /// Whether the addition of an index is there.
+    pub fn is_present(&self, index: usize) -> bool
+        ensures { result ≡ is_present self.now index }
+    {
+        index < self.count && self.present[index]
+    }
+
     fn as_slice(&self) -> &[bool]
         ensures { result.now ≡ self.now }
     {
@@ -73,6 +80,13 @@ fn skip_open_type(decoder: &mut Decoder<'_>, present: bool) -> Result<(), ReadFa
         decoder.open_type()?;
     }
     Ok(())
+}
+
+/// Passes over the addition of an index.
+pub fn skip_addition(decoder: &mut Decoder<'_>, additions: &PresentAdditions, index: usize) -> Result<(), ReadFault>
+    ensures { Gives (skipped_addition additions.now index).reading decoder.old result decoder.new }
+{
+    skip_open_type(decoder, additions.is_present(index))
 }
 
 fn skip_each(decoder: &mut Decoder<'_>, additions: &PresentAdditions) -> Result<(), ReadFault>

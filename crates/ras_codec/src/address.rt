@@ -2,13 +2,13 @@
 
 ghost use Rattle.per_bits.specs.Readings.{Gives};
 ghost use Rattle.ras_codec.specs.Grammar.{each_skipped, octets};
-ghost use Rattle.ras_codec.specs.Addresses.{ip_address, ip_source_route, ipx_address, ip6_address, net_bios, nsap, routing, transport_address, root_address};
+ghost use Rattle.ras_codec.specs.Addresses.{ip_address, ip_source_route, ipx_address, ip6_address, net_bios, nsap, transport_address, root_address, first_each, address_list, optional_address};
 
 use crate::additions::skip_additions;
 use crate::decoder::Decoder;
 use crate::fault::ReadFault;
 use crate::sequence::{
-    non_standard_parameter, octet_array, sized_octet_string, unknown_alternative,
+    non_standard_parameter, octet_array, sized_octet_string, skip_null_choice, unknown_alternative,
 };
 use ras_module::Address;
 
@@ -36,20 +36,6 @@ fn skip_route(decoder: &mut Decoder<'_>, count: u32) -> Result<(), ReadFault>
     Ok(())
 }
 
-/// How a source route is followed.
-fn routing(decoder: &mut Decoder<'_>) -> Result<(), ReadFault>
-    ensures { Gives routing.reading decoder.old result decoder.new }
-{
-    let mut ahead = decoder.ahead();
-    if ahead.boolean()? {
-        unknown_alternative(&mut ahead)?;
-    } else {
-        ahead.choice_index(1)?;
-    }
-    *decoder = ahead;
-    Ok(())
-}
-
 /// ipSourceRoute.
 #[tactic(auto, unfolding(crate::specs::Addresses::ip_source_route))]
 fn ip_source_route(decoder: &mut Decoder<'_>) -> Result<(), ReadFault>
@@ -61,7 +47,7 @@ fn ip_source_route(decoder: &mut Decoder<'_>) -> Result<(), ReadFault>
     ahead.whole(0, 65535)?;
     let count = ahead.length()?;
     skip_route(&mut ahead, count)?;
-    routing(&mut ahead)?;
+    skip_null_choice(&mut ahead, 1)?;
     skip_additions(&mut ahead, extended)?;
     *decoder = ahead;
     Ok(())
@@ -143,4 +129,41 @@ pub fn transport_address(decoder: &mut Decoder<'_>) -> Result<Option<Address>, R
     };
     *decoder = ahead;
     Ok(address)
+}
+
+/// The first ipAddress of so many addresses.
+fn first_address(decoder: &mut Decoder<'_>, count: u32) -> Result<Option<Address>, ReadFault>
+    ensures { Gives (first_each count).reading decoder.old result decoder.new }
+{
+    let mut ahead = decoder.ahead();
+    let mut first = None;
+    for _ in 0..count {
+        let address = transport_address(&mut ahead)?;
+        first = first.or(address);
+    }
+    *decoder = ahead;
+    Ok(first)
+}
+
+/// The first ipAddress of a list.
+#[tactic(auto, unfolding(crate::specs::Addresses::address_list))]
+pub fn address_list(decoder: &mut Decoder<'_>) -> Result<Option<Address>, ReadFault>
+    ensures { Gives address_list.reading decoder.old result decoder.new }
+{
+    let mut ahead = decoder.ahead();
+    let count = ahead.length()?;
+    let first = first_address(&mut ahead, count)?;
+    *decoder = ahead;
+    Ok(first)
+}
+
+/// An address that is OPTIONAL.
+pub fn optional_address(decoder: &mut Decoder<'_>, present: bool) -> Result<Option<Address>, ReadFault>
+    ensures { Gives (optional_address present).reading decoder.old result decoder.new }
+{
+    if present {
+        transport_address(decoder)
+    } else {
+        Ok(None)
+    }
 }

@@ -1,5 +1,6 @@
 //! Why octets are no message.
 
+use std::alloc::AllocError;
 use thiserror::Error;
 
 /// What is wrong with the octets of a message, or that memory was wanting.
@@ -34,5 +35,16 @@ impl From<per_bits::ReadFault> for ReadFault {
             per_bits::ReadFault::Fragmented => ReadFault::Fragmented,
             per_bits::ReadFault::TooMany => ReadFault::TooMany,
         }
+    }
+}
+
+impl From<AllocError> for ReadFault {
+    ghost use Rattle.std.specs.Prelude.{◌≡◌};
+    ghost use Rattle.ras_codec.specs.declared.fault.ReadFault.TheVariants.{Memory};
+
+    ghost from_gives = { λ _ fault. fault ≡ Memory };
+
+    fn from(_: AllocError) -> ReadFault {
+        ReadFault::Memory
     }
 }

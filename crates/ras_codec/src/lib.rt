@@ -3,6 +3,8 @@
 
 mod additions;
 mod address;
+mod alias;
+mod call;
 mod decoder;
 mod encoder;
 mod endpoint_type;
@@ -15,3 +17,6 @@ mod sequence;
 pub use fault::ReadFault;
 pub use message::read;
 pub use reply::write_into;
+
+#[cfg(test)]
+mod tests;

@@ -1,22 +1,31 @@
 //! All messages of RAS (H.225.0, RasMessage).
 
 ghost use Rattle.std.specs.Prelude.{◌≡◌};
-ghost use Rattle.per_bits.specs.Readings.{Gives};
+ghost use Rattle.ras_codec.specs.Faults.{GivesUnlessMemory, IsUnlessMemory};
 ghost use Rattle.ras_codec.specs.Messages.{ras_message, root_message, message_reading};
 
 use crate::decoder::Decoder;
 use crate::fault::ReadFault;
-use crate::request::gatekeeper_request;
+use crate::request::{
+    admission_request, bandwidth_request, disengage_request, gatekeeper_request,
+    info_request_response, registration_request, unregistration_request,
+};
 use ras_module::Request;
 use std::alloc::Global;
 
-fn root_message(_alloc: Global, decoder: &mut Decoder<'_>) -> Result<Option<Request>, ReadFault>
-    ensures { Gives root_message.reading decoder.old result decoder.new }
+fn root_message(alloc: Global, decoder: &mut Decoder<'_>) -> Result<Option<Request>, ReadFault>
+    ensures { GivesUnlessMemory root_message.reading decoder.old result decoder.new }
 {
     let mut ahead = decoder.ahead();
     let index = ahead.choice_index(24)?;
     let request = match index {
         0 => Some(gatekeeper_request(&mut ahead)?),
+        3 => Some(registration_request(alloc, &mut ahead)?),
+        6 => Some(unregistration_request(&mut ahead)?),
+        9 => Some(admission_request(alloc, &mut ahead)?),
+        12 => Some(bandwidth_request(&mut ahead)?),
+        15 => Some(disengage_request(&mut ahead)?),
+        22 => Some(info_request_response(&mut ahead)?),
         _ => None,
     };
     *decoder = ahead;
@@ -25,7 +34,7 @@ fn root_message(_alloc: Global, decoder: &mut Decoder<'_>) -> Result<Option<Requ
 
 #[tactic(auto, unfolding(crate::specs::Messages::ras_message))]
 fn ras_message(alloc: Global, decoder: &mut Decoder<'_>) -> Result<Option<Request>, ReadFault>
-    ensures { Gives ras_message.reading decoder.old result decoder.new }
+    ensures { GivesUnlessMemory ras_message.reading decoder.old result decoder.new }
 {
     let mut ahead = decoder.ahead();
     let request = if ahead.boolean()? {
@@ -40,7 +49,7 @@ fn ras_message(alloc: Global, decoder: &mut Decoder<'_>) -> Result<Option<Reques
 /// The request that octets begin with, or None where they are another message.
 #[tactic(auto, unfolding(crate::specs::Messages::message_reading))]
 pub fn read(alloc: Global, octets: &[u8]) -> Result<Option<Request>, ReadFault>
-    ensures { result ≡ message_reading octets.now }
+    ensures { IsUnlessMemory (message_reading octets.now) result }
 {
     let mut decoder = Decoder::new(octets);
     ras_message(alloc, &mut decoder)

@@ -1,18 +1,20 @@
 //! The replies of the gatekeeper (H.225.0).
 
 ghost use Rattle.std.specs.Prelude.{◌≡◌, ◌≤◌, ◌<◌, ◌+◌, ◌*◌, [], ◌∷◌, ◌++◌, length, vec_len, vec_capacity, OnOk, OnErr, IsOk};
+ghost use Rattle.per_bits.specs.Bits.{octets_for};
+ghost use Rattle.ras_module.specs.declared.reply.Reply.TheVariants as reply;
 ghost use Rattle.ras_codec.specs.Encoding.{Writes};
-ghost use Rattle.ras_codec.specs.Replies.{gatekeeper_reason, unreg_reason, admission_reason, band_reason, disengage_reason, gatekeeper_confirm, gatekeeper_reject, unregistration_confirm, unregistration_reject, admission_confirm, admission_confirm_additions, admission_reject, bandwidth_confirm, bandwidth_reject, disengage_confirm, disengage_reject, info_request, request_in_progress, components, encoding_of};
+ghost use Rattle.ras_codec.specs.Replies.{gatekeeper_reason, registration_reason, held_in, registration_confirm, registration_confirm_front, registration_confirm_additions, registration_reject, terminal_alias, unreg_reason, admission_reason, band_reason, disengage_reason, gatekeeper_confirm, gatekeeper_reject, unregistration_confirm, unregistration_reject, admission_confirm, admission_confirm_additions, admission_reject, bandwidth_confirm, bandwidth_reject, disengage_confirm, disengage_reject, info_request, request_in_progress, components, encoding_of};
 ghost use Rattle.ras_module.specs.Rooms.{room_of};
 
 use crate::encoder::{
-    band_width, identifier, null_choice, protocol_identifier, request_seq_num, root_message,
+    alias_list, band_width, identifier, null_choice, null_extension, protocol_identifier, request_seq_num, root_message,
     transport_address, zero_octet,
 };
 use per_bits::BitWriter;
 use ras_module::{
-    Address, AdmissionRejectReason, BandRejectReason, Delay, DisengageRejectReason,
-    GatekeeperRejectReason, Name, Reply, RequestSeqNum, UnregRejectReason,
+    Address, Alias, AdmissionRejectReason, BandRejectReason, Delay, DisengageRejectReason,
+    GatekeeperRejectReason, Name, Reply, RegistrationRejectReason, RequestSeqNum, TimeToLive, UnregRejectReason,
 };
 use std::alloc::AllocError;
 use std::mem;
@@ -69,6 +71,25 @@ fn disengage_reason(reason: DisengageRejectReason) -> u32
     }
 }
 
+/// RegistrationRejectReason.
+#[tactic(auto, using(crate::proofs::Behind::behind_append), unfolding(crate::specs::Replies::registration_reason))]
+fn registration_reason(writer: &mut BitWriter, reason: &RegistrationRejectReason)
+    requires { 65 + 4128 * held_in reason.now ≤ writer.old.room }
+    ensures { Writes (65 + 4128 * held_in reason.now) (registration_reason reason.now) writer.old writer.new }
+{
+    match reason {
+        RegistrationRejectReason::DiscoveryRequired => null_choice(writer, 7, 0),
+        RegistrationRejectReason::InvalidCallSignalAddress => null_choice(writer, 7, 2),
+        RegistrationRejectReason::InvalidRasAddress => null_choice(writer, 7, 3),
+        RegistrationRejectReason::DuplicateAlias(held) => {
+            null_choice(writer, 7, 4);
+            alias_list(writer, held.as_slice());
+        }
+        RegistrationRejectReason::ResourceUnavailable => null_extension(writer, 1),
+        RegistrationRejectReason::FullRegistrationRequired => null_extension(writer, 4),
+    }
+}
+
 /// GatekeeperConfirm.
 #[tactic(auto, using(crate::proofs::Behind::behind_append), unfolding(crate::specs::Replies::gatekeeper_confirm))]
 pub fn gatekeeper_confirm(
@@ -103,6 +124,72 @@ pub fn gatekeeper_reject(writer: &mut BitWriter, seq: RequestSeqNum, reason: Gat
     request_seq_num(writer, seq);
     protocol_identifier(writer);
     null_choice(writer, 3, gatekeeper_reason(reason));
+}
+
+/// How many octets a number has that is written in the fewest.
+fn octets_for(n: u32) -> u32
+    ensures value { result ≡ octets_for n }
+    ensures within { result ≤ 4 }
+{
+    (u32::BITS - n.leading_zeros()).saturating_sub(1) / 8 + 1
+}
+
+/// The additions of a RegistrationConfirm: timeToLive, and willRespondToIRR false.
+#[tactic(auto, unfolding(crate::specs::Replies::registration_confirm_additions))]
+fn registration_confirm_additions(writer: &mut BitWriter, granted: TimeToLive)
+    requires { 120 ≤ writer.old.room }
+    ensures { Writes 120 (registration_confirm_additions granted) writer.old writer.new }
+{
+    let seconds = granted.get();
+    writer.small(5);
+    writer.bits(6, 17);
+    writer.length(1 + octets_for(seconds - 1));
+    writer.whole(1, 4_294_967_295, seconds);
+    zero_octet(writer);
+}
+
+/// terminalAlias, where there are aliases.
+#[tactic(auto, unfolding(crate::specs::Replies::terminal_alias))]
+fn terminal_alias(writer: &mut BitWriter, aliases: &[Alias])
+    requires few { length aliases.now ≤ 32 }
+    requires room { 23 + 4128 * length aliases.now ≤ writer.old.room }
+    ensures { Writes (23 + 4128 * length aliases.now) (terminal_alias aliases.now) writer.old writer.new }
+{
+    if !aliases.is_empty() {
+        alias_list(writer, aliases);
+    }
+}
+
+/// The front of a RegistrationConfirm, up to its callSignalAddress.
+#[tactic(auto, using(crate::proofs::Behind::behind_append), unfolding(crate::specs::Replies::registration_confirm_front))]
+fn registration_confirm_front(writer: &mut BitWriter, seq: RequestSeqNum, call_signal: &Address, has_aliases: bool)
+    requires { 400 ≤ writer.old.room }
+    ensures { Writes 400 (registration_confirm_front seq call_signal.now has_aliases) writer.old writer.new }
+{
+    root_message(writer, 4);
+    writer.bit(true);
+    writer.bit(false);
+    writer.bit(has_aliases);
+    writer.bit(true);
+    request_seq_num(writer, seq);
+    protocol_identifier(writer);
+    writer.length(1);
+    transport_address(writer, call_signal);
+}
+
+/// RegistrationReject.
+#[tactic(auto, using(crate::proofs::Behind::behind_append), unfolding(crate::specs::Replies::registration_reject))]
+pub fn registration_reject(writer: &mut BitWriter, seq: RequestSeqNum, reason: &RegistrationRejectReason)
+    requires { 8 * room_of (reply.Rrj seq reason.now) ≤ writer.old.room }
+    ensures { Writes (8 * room_of (reply.Rrj seq reason.now)) (registration_reject seq reason.now) writer.old writer.new }
+{
+    root_message(writer, 5);
+    writer.bit(false);
+    writer.bit(false);
+    writer.bit(false);
+    request_seq_num(writer, seq);
+    protocol_identifier(writer);
+    registration_reason(writer, reason);
 }
 
 /// UnregistrationConfirm.
@@ -264,6 +351,7 @@ pub fn request_in_progress(writer: &mut BitWriter, seq: RequestSeqNum, delay: De
 }
 
 /// The components of a reply.
+#[tactic(auto, using(crate::proofs::Behind::behind_append), unfolding(crate::specs::Replies::registration_confirm))]
 fn write_components(writer: &mut BitWriter, reply: &Reply)
     requires { 8 * room_of reply.now ≤ writer.old.room }
     ensures { Writes (8 * room_of reply.now) (components reply.now) writer.old writer.new }
@@ -275,8 +363,22 @@ fn write_components(writer: &mut BitWriter, reply: &Reply)
             ras,
         } => gatekeeper_confirm(writer, *seq, gatekeeper, ras),
         Reply::Grj { seq, reason } => gatekeeper_reject(writer, *seq, *reason),
-        Reply::Rcf { .. } => {}
-        Reply::Rrj { .. } => {}
+        Reply::Rcf {
+            seq,
+            call_signal,
+            aliases,
+            gatekeeper,
+            endpoint,
+            granted,
+        } => {
+            let aliases = aliases.as_slice();
+            registration_confirm_front(writer, *seq, call_signal, !aliases.is_empty());
+            terminal_alias(writer, aliases);
+            identifier(writer, gatekeeper.as_slice());
+            identifier(writer, endpoint.as_slice());
+            registration_confirm_additions(writer, *granted);
+        }
+        Reply::Rrj { seq, reason } => registration_reject(writer, *seq, reason),
         Reply::Ucf { seq } => unregistration_confirm(writer, *seq),
         Reply::Urj { seq, reason } => unregistration_reject(writer, *seq, *reason),
         Reply::Acf { seq, units, dest } => admission_confirm(writer, *seq, *units, dest),

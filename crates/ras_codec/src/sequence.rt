@@ -3,13 +3,13 @@
 ghost use Rattle.std.specs.Prelude.{◌≡◌, ◌≤◌, ◌<◌, length, take, IfOk};
 ghost use Rattle.per_bits.specs.Readings.{Gives};
 ghost use Rattle.ras_codec.specs.Grammar.{skipped, optional, each, bits, octets};
-ghost use Rattle.ras_codec.specs.Sequences.{non_standard_parameter, non_standard_identifier, h221_non_standard, octet_string, sized_octet_string, unknown_alternative, identifier, bmp_string, request_seq_num};
+ghost use Rattle.ras_codec.specs.Sequences.{non_standard_parameter, non_standard_identifier, h221_non_standard, octet_string, sized_octet_string, unknown_alternative, null_choice, identifier, bmp_string, request_seq_num};
 ghost use Rattle.ras_codec.specs.Faults.{of_octets, front_of};
 
 use crate::additions::skip_additions;
 use crate::decoder::Decoder;
 use crate::fault::ReadFault;
-use ras_module::{BmpString, RequestSeqNum};
+use ras_module::{BmpString, EndpointId, RequestSeqNum};
 
 /// RequestSeqNum.
 pub fn request_seq_num(decoder: &mut Decoder<'_>) -> Result<RequestSeqNum, ReadFault>
@@ -80,6 +80,13 @@ pub fn bmp_string<const MOST: usize>(
     Ok(BmpString::new(&characters[..count]).unwrap())
 }
 
+/// EndpointIdentifier.
+pub fn endpoint_identifier(decoder: &mut Decoder<'_>) -> Result<EndpointId, ReadFault>
+    ensures { Gives identifier.reading decoder.old result decoder.new }
+{
+    Ok(EndpointId::new(bmp_string(decoder)?))
+}
+
 /// An identifier that is OPTIONAL.
 pub fn optional_identifier(
     decoder: &mut Decoder<'_>,
@@ -101,6 +108,20 @@ pub fn unknown_alternative(decoder: &mut Decoder<'_>) -> Result<(), ReadFault>
     let mut ahead = decoder.ahead();
     ahead.small()?;
     ahead.open_type()?;
+    *decoder = ahead;
+    Ok(())
+}
+
+/// A CHOICE of NULLs, by the index of its last root alternative.
+pub fn skip_null_choice(decoder: &mut Decoder<'_>, last: u32) -> Result<(), ReadFault>
+    ensures { Gives (null_choice last).reading decoder.old result decoder.new }
+{
+    let mut ahead = decoder.ahead();
+    if ahead.boolean()? {
+        unknown_alternative(&mut ahead)?;
+    } else {
+        ahead.choice_index(last)?;
+    }
     *decoder = ahead;
     Ok(())
 }
