@@ -34,8 +34,10 @@ address_decides a b = (
 )
 
 pub alias_decides : (a b : Alias) → Decides (same_alias a b) (a ≡ b)
-alias_decides (Digits a) (Digits b) = (λ h. ap Digits ((texts_decide a b).0 h), λ e. (texts_decide a b).1 (cc e))
-alias_decides (H323Id a) (H323Id b) = (λ h. ap H323Id ((texts_decide a b).0 h), λ e. (texts_decide a b).1 (cc e))
+alias_decides (Digits a) (Digits b) =
+    (λ h. ap Digits ((texts_decide a b).0 h), λ e. (texts_decide a b).1 (cc e))
+alias_decides (H323Id a) (H323Id b) =
+    (λ h. ap H323Id ((texts_decide a b).0 h), λ e. (texts_decide a b).1 (cc e))
 alias_decides (Digits a) (H323Id b) = (λ h. absurd (cc h), λ e. absurd (cc e))
 alias_decides (H323Id a) (Digits b) = (λ h. absurd (cc h), λ e. absurd (cc e))
 
@@ -49,7 +51,8 @@ together false true to back = absurd (cc (back refl))
 together false false to back = refl
 
 -- a test that decides equality is an equivalence
-equivalence : {A : Type 0} (test : A → A → Bool) → ((a b : A) → Decides (test a b) (a ≡ b)) → IsEquivalence test
+equivalence : {A : Type 0} (test : A → A → Bool) → ((a b : A) → Decides (test a b) (a ≡ b))
+    → IsEquivalence test
 equivalence {A} test decides = record {
   refl = λ x. (decides x x).1 refl;
   symm = λ x y. together (test x y) (test y x)
