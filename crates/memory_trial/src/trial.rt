@@ -46,7 +46,7 @@ fn event(alloc: Global, bytes: &[u8], milliseconds: u64) -> Option<Event> {
     Some(Event::Datagram(source, Octets::from_vec(bytes), moment))
 }
 
-/// One step; where it was refused for want of memory, the zone is as it was, and the step is made again.
+/// One step; where it was refused for want of memory, the zone is as it was, and it is made again.
 fn step(
     alloc: Global,
     zone: &mut Zone,
@@ -103,8 +103,8 @@ fn events(alloc: Global) -> Option<Vec<Event>> {
     Some(events)
 }
 
-/// A run from one event on; where it was refused, the steps before the event that its fault names stand, and
-/// the run goes on from there.
+/// A run from one event on; where it was refused, the steps before the event that its fault names
+/// stand, and the run goes on from there.
 fn run(zone: &mut Zone, events: &[Event], outcomes: &mut Vec<Outcome>) -> Result<(), &'static str> {
     for _ in 0..TRIES {
         let done = outcomes.len();
