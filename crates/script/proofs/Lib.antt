@@ -1,4 +1,4 @@
-pub mod Tests
+pub mod FourTests
 pub mod Parting
 pub mod Numbers
 pub mod Names

@@ -10,7 +10,7 @@ use Rattle.std.specs.Option.{SomeIff}
 use Rattle.std.specs.Str.{chars, is_utf8, IsUtf8}
 use Rattle.ras_module.specs.Texts.{IsText}
 use Rattle.script.specs.Fields.{name_of}
-use Rattle.script.proofs.Tests.{if_all, none_at_first, none_at_second, none_at_third, none_at_last, some_at_all, not_all}
+use Rattle.script.proofs.FourTests.{if_all, none_at_first, none_at_second, none_at_third, none_at_last, some_at_all, not_all}
 
 abbrev pub is_small : ℕ → Bool
 is_small c = nat_lt c 65536

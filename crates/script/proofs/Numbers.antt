@@ -8,7 +8,7 @@ use Rattle.std.specs.Char.{is_ascii_digit, digit_value}
 use Rattle.std.specs.List.{list_all}
 use Rattle.std.specs.Str.Parse.{digits_value}
 use Rattle.script.specs.Fields.{number_of}
-use Rattle.script.proofs.Tests.{none_at_second, none_at_last, not_all}
+use Rattle.script.proofs.FourTests.{none_at_second, none_at_last, not_all}
 
 pub no_digit : (low high : ℕ) (word : List ℕ) (i : ℕ) → i < length word → is_ascii_digit (get_or word i 0) ≡ false
     → None ≡ number_of low high word

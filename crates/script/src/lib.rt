@@ -18,3 +18,6 @@ mod setting;
 pub use fault::{RunFault, ScriptFault};
 pub use read::{Events, Script, read_script};
 pub use run::run_script;
+
+#[cfg(test)]
+mod tests;

@@ -34,7 +34,7 @@ impl Events {
     pub fn from_vec(items: Vec<Event>) -> Self
         ensures { result ≡ items.items }
     {
-        Events { items }
+        Self { items }
     }
 
     /// The vector of the events. This takes no memory.
