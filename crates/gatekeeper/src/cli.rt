@@ -14,16 +14,17 @@ pub enum Choice {
 }
 
 const ABOUT: &str = "\
-A gatekeeper for one H.323 zone. H.323 is the ITU's standard for calls over packet networks: before a \
-phone, a gateway or a conference bridge may call, it asks the gatekeeper of its zone, in short datagrams \
-(the RAS messages of H.225.0), who the gatekeeper is, whether it may register, and how much bandwidth a \
-call may take. This program answers them.";
+A gatekeeper for one H.323 zone. H.323 is the ITU's standard for calls over packet networks:
+before a phone, a gateway or a conference bridge may call, it asks the gatekeeper of its zone, in
+short datagrams (the RAS messages of H.225.0), who the gatekeeper is, whether it may register, and
+how much bandwidth a call may take. This program answers them.";
 
 const REPLAY_ABOUT: &str = "Answers the datagrams of a script, and prints the answers";
 
 const REPLAY_LONG_ABOUT: &str = "\
-Reads a script on standard input, gives its datagrams to a gatekeeper one after the other, and prints a \
-line for each on standard output. Nothing goes over a network, and time is what the script says.";
+Reads a script on standard input, gives its datagrams to a gatekeeper one after the other, and
+prints a line for each on standard output. Nothing goes over a network, and time is what the
+script says.";
 
 const REPLAY_HELP: &str = "\
 The script (at most 1,048,576 octets; words are parted by spaces, blank lines are passed over):

@@ -1,6 +1,9 @@
 //! The gatekeeper's program.
 #![tactic(auto)]
 
+ghost use Rattle.std.specs.Prelude.{◌≡◌};
+ghost use Rattle.gatekeeper.specs.Replays.{status_of};
+
 mod cli;
 mod replay;
 
@@ -40,7 +43,9 @@ fn run<R: Input + Print + Eprint>(rt: &R, alloc: Global, words: &[String]) -> u8
     }
 }
 
-fn out_of_memory(rt: &impl Eprint) -> u8 {
+fn out_of_memory(rt: &impl Eprint) -> u8
+    ensures { result ≡ 3 }
+{
     let _ = rt.eprintln("out of memory");
     NO_MEMORY
 }
@@ -58,7 +63,9 @@ fn replay_input<R: Input + Print + Eprint>(rt: &R, alloc: Global) -> u8 {
 }
 
 /// Tells of a fault in one line on standard error.
-fn refuse(rt: &impl Eprint, fault: &ReplayFault) -> u8 {
+fn refuse(rt: &impl Eprint, fault: &ReplayFault) -> u8
+    ensures { result ≡ status_of fault.now }
+{
     let _ = eprintln!(rt; "{fault}");
     fault.status()
 }
