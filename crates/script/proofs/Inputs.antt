@@ -1,18 +1,22 @@
 -- What is read of an input is what a script is read of.
-use Rattle.std.proofs.Common.{◌≡◌, ℕ, ◌≤◌, true, false, Option, Some, None, Result, Ok, Err, List, length, refl, subst, map, arith, nat_lt}
+use Rattle.std.proofs.Common.{◌≡◌, ℕ, ◌≤◌, true, false, Option, Some, None, Result, Ok, Err, List}
+use Rattle.std.proofs.Common.{length, refl, subst, map, arith, nat_lt}
 use Rattle.std.proofs.lemmas.Bool.Decides.{nat_tests}
 use Rattle.std.specs.Io.KnownBytes.{Consumes, IsAtEnd}
 use Rattle.ras_module.specs.declared.address.Address.{Address}
 use Rattle.ras_core.specs.declared.event.Event.{Event}
 use Rattle.script.specs.declared.fault.ScriptFault.{ScriptFault}
-use Rattle.script.specs.declared.fault.ScriptFault.TheVariants.{TooLong, BadLine, NoZone, Stream, Memory}
+use Rattle.script.specs.declared.fault.ScriptFault.TheVariants.{TooLong, BadLine, NoZone, Stream}
+use Rattle.script.specs.declared.fault.ScriptFault.TheVariants.{Memory}
 use Rattle.script.specs.declared.key.Key.{Key}
 use Rattle.script.specs.declared.read.Script.{Script}
 use Rattle.script.specs.Said.{Said}
 use Rattle.script.specs.Words.{lines_of}
 use Rattle.script.specs.Lines.{line_of}
-use Rattle.script.specs.Scripts.{script_from, script_unless, in_place, said_by, bad_line, script_of, GivesUnlessStopped}
-use Rattle.script.specs.Reads.{ConsumesAtMost, ConsumesExactly, IsInputFault, IsAtEndIfRead, ReadsScript}
+use Rattle.script.specs.Scripts.{script_from, script_unless, in_place, said_by, bad_line, script_of}
+use Rattle.script.specs.Scripts.{GivesUnlessStopped}
+use Rattle.script.specs.Reads.{ConsumesAtMost, ConsumesExactly, IsInputFault, IsAtEndIfRead}
+use Rattle.script.specs.Reads.{ReadsScript}
 
 too_long : (text : List ℕ) → length text ≡ 1048577 → script_of text ≡ Err TooLong
 unfolding script_of
@@ -20,7 +24,8 @@ too_long text e =
     let large : nat_lt 1048576 (length text) ≡ true = grind (arith, nat_tests) in
     rw large refl
 
-never_from : (place : Option (List ℕ × Address)) (settings : List (Key × ℕ)) (events : List Event) → script_from place settings events ≡ Err TooLong → ⊥
+never_from : (place : Option (List ℕ × Address)) (settings : List (Key × ℕ)) (events : List Event)
+    → script_from place settings events ≡ Err TooLong → ⊥
 never_from None settings events e = absurd (cc e)
 never_from (Some zone) settings events e = absurd (cc e)
 
@@ -35,7 +40,8 @@ not_long text few e =
     let lines = in_place (map line_of (lines_of text)) in
     never_long (bad_line lines) (said_by lines) (rw small at e)
 
-ends : (answer : Result Script ScriptFault) (left : Option (List ℕ)) → IsAtEnd left → IsAtEndIfRead answer left
+ends : (answer : Result Script ScriptFault) (left : Option (List ℕ)) → IsAtEnd left
+    → IsAtEndIfRead answer left
 ends (Ok script) left e = e
 ends (Err TooLong) left e = tt
 ends (Err (BadLine line)) left e = e
@@ -43,8 +49,10 @@ ends (Err NoZone) left e = e
 ends (Err Stream) left e = tt
 ends (Err Memory) left e = tt
 
-pub whole_answer : (old new : Option (List ℕ)) (text : List ℕ) (answer : Result Script ScriptFault) → Consumes old new text → IsAtEnd new
-    → length text ≤ 1048576 → GivesUnlessStopped (script_of text) answer → ReadsScript old new answer
+pub whole_answer : (old new : Option (List ℕ)) (text : List ℕ) (answer : Result Script ScriptFault)
+    → Consumes old new text → IsAtEnd new
+    → length text ≤ 1048576 → GivesUnlessStopped (script_of text) answer
+    → ReadsScript old new answer
 whole_answer old new text answer taken end few meaning = record {
   text = text;
   taken = taken;
@@ -54,7 +62,8 @@ whole_answer old new text answer taken end few meaning = record {
   end = ends answer new end;
 }
 
-pub fault_answer : (old new : Option (List ℕ)) (fault : ScriptFault) → IsInputFault fault → (fault ≡ TooLong → ConsumesExactly 1048577 old new)
+pub fault_answer : (old new : Option (List ℕ)) (fault : ScriptFault) → IsInputFault fault
+    → (fault ≡ TooLong → ConsumesExactly 1048577 old new)
     → ConsumesAtMost 1048577 old new → ReadsScript old new (Err fault)
 fault_answer old new TooLong kind long most =
     let exact = long refl in record {

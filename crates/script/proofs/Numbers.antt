@@ -1,5 +1,6 @@
 -- Numbers in decimal digits.
-use Rattle.std.proofs.Common.{◌≡◌, ℕ, ◌+◌, ◌-◌, ◌*◌, ◌<◌, true, false, leb, ltb, None, List, length, take, get_or, ap, ◌∙◌, arith, rules}
+use Rattle.std.proofs.Common.{◌≡◌, ℕ, ◌+◌, ◌-◌, ◌*◌, ◌<◌, true, false, leb, ltb, None, List, length}
+use Rattle.std.proofs.Common.{take, get_or, ap, ◌∙◌, arith, rules}
 use Rattle.std.proofs.lemmas.Bool.Decides.{nat_tests}
 use Rattle.std.proofs.lemmas.Int.Digits.{digits_value_more}
 use Rattle.std.proofs.lemmas.List.Folds.{list_all_more}
@@ -10,7 +11,8 @@ use Rattle.std.specs.Str.Parse.{digits_value}
 use Rattle.script.specs.Fields.{number_of}
 use Rattle.script.proofs.FourTests.{none_at_second, none_at_last, not_all}
 
-pub no_digit : (low high : ℕ) (word : List ℕ) (i : ℕ) → i < length word → is_ascii_digit (get_or word i 0) ≡ false
+pub no_digit : (low high : ℕ) (word : List ℕ) (i : ℕ) → i < length word
+    → is_ascii_digit (get_or word i 0) ≡ false
     → None ≡ number_of low high word
 no_digit low high word i below fails =
     none_at_second (ltb 0 (length word)) _ (leb low (digits_value 10 word)) (leb (digits_value 10 word) high) (digits_value 10 word)
@@ -32,6 +34,8 @@ pub digit_more : (word : List ℕ) (i : ℕ) → i < length word → is_ascii_di
 digit_more word i below e =
     digits_value_more 10 word i below ∙ ap (λ d. digits_value 10 (take i word) * 10 + d) (digit_value_is (get_or word i 0) e)
 
-pub digits_more : (word : List ℕ) (i : ℕ) → i < length word → is_ascii_digit (get_or word i 0) ≡ true
-    → list_all is_ascii_digit (take i word) ≡ true → list_all is_ascii_digit (take (i + 1) word) ≡ true
+pub digits_more : (word : List ℕ) (i : ℕ) → i < length word
+    → is_ascii_digit (get_or word i 0) ≡ true
+    → list_all is_ascii_digit (take i word) ≡ true
+    → list_all is_ascii_digit (take (i + 1) word) ≡ true
 digits_more word i below e so_far = list_all_more is_ascii_digit word i 0 below ∙ rw so_far e

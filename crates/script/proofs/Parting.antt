@@ -1,5 +1,7 @@
 -- A text is parted at its first mark.
-use Rattle.std.proofs.Common.{◌≡◌, ℕ, ◌+◌, ◌-◌, ◌<◌, ◌≤◌, ◌⊎◌, inl, inr, Bool, true, false, cond, eqb, ltb, Option, Some, None, List, [], ◌∷◌, length, take, drop, sym, ap, ◌∙◌, arith, rules, filter, nat_lt, length-drop}
+use Rattle.std.proofs.Common.{◌≡◌, ℕ, ◌+◌, ◌-◌, ◌<◌, ◌≤◌, ◌⊎◌, inl, inr, Bool, true, false, cond}
+use Rattle.std.proofs.Common.{eqb, ltb, Option, Some, None, List, [], ◌∷◌, length, take, drop, sym}
+use Rattle.std.proofs.Common.{ap, ◌∙◌, arith, rules, filter, nat_lt, length-drop}
 use Rattle.std.proofs.lemmas.Bool.{cases_lt}
 use Rattle.std.proofs.lemmas.Bool.Decides.{nat_tests}
 use Rattle.std.proofs.lemmas.List.{take_all, drop_all}
@@ -33,7 +35,8 @@ no_place n m e = elim (cases_lt n m) [
   | inr h ↦ h
 ]
 
-pub front_found : (mark place : ℕ) (text : List ℕ) → found_in mark text ≡ Some place → take place text ≡ front_part mark text
+pub front_found : (mark place : ℕ) (text : List ℕ) → found_in mark text ≡ Some place
+    → take place text ≡ front_part mark text
 front_found mark place text e = ap (λ n. take n text) (some_place _ _ place e).0
 
 pub rest_found : (mark place : ℕ) (text : List ℕ) → found_in mark text ≡ Some place
@@ -42,7 +45,8 @@ rest_found mark place text e =
     take_all (length text - (place + 1)) (drop (place + 1) text) (omega (arith, length-drop (place + 1) text))
     ∙ ap (λ n. drop (n + 1) text) (some_place _ _ place e).0
 
-pub front_of_all : (mark : ℕ) (text : List ℕ) → found_in mark text ≡ None → text ≡ front_part mark text
+pub front_of_all : (mark : ℕ) (text : List ℕ) → found_in mark text ≡ None
+    → text ≡ front_part mark text
 front_of_all mark text e = sym (take_all (place_of mark text) text (no_place _ _ e))
 
 pub rest_of_all : (mark : ℕ) (text : List ℕ) → found_in mark text ≡ None → [] ≡ rest_part mark text
@@ -71,10 +75,12 @@ words_step line = elim (split_step 32 line) [
   | inr e ↦ ap (filter is_word) e.0 ∙ ap (λ rest. cond (is_word (front_part 32 line)) (front_part 32 line ∷ words_of rest) (words_of rest)) (sym e.1)
 ]
 
-pub rest_shorter : (mark : ℕ) (text : List ℕ) → 0 < length text → length (rest_part mark text) < length text
+pub rest_shorter : (mark : ℕ) (text : List ℕ) → 0 < length text
+    → length (rest_part mark text) < length text
 rest_shorter mark text some = omega (arith, length-drop (place_of mark text + 1) text)
 
-pub words_more : (line front rest : List ℕ) → front ≡ front_part 32 line → rest ≡ rest_part 32 line → (0 < length front)
+pub words_more : (line front rest : List ℕ) → front ≡ front_part 32 line
+    → rest ≡ rest_part 32 line → (0 < length front)
     → words_of line ≡ front ∷ words_of rest
 words_more line front rest is_front is_rest some =
     let b : is_word front ≡ true = search (rules, nat_tests) in

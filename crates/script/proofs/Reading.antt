@@ -1,11 +1,14 @@
 -- Lines are read one after the other.
-use Rattle.std.proofs.Common.{◌≡◌, ℕ, ◌+◌, ◌≤◌, false, not, Option, Some, None, is_some, Result, Ok, Err, List, [], ◌∷◌, ◌++◌, length, map, filter_map, inl, inr, refl, sym, ap, ◌∙◌, append-nil, append_assoc, subst, arith, nat_lt}
+use Rattle.std.proofs.Common.{◌≡◌, ℕ, ◌+◌, ◌≤◌, false, not, Option, Some, None, is_some, Result, Ok}
+use Rattle.std.proofs.Common.{Err, List, [], ◌∷◌, ◌++◌, length, map, filter_map, inl, inr, refl}
+use Rattle.std.proofs.Common.{sym, ap, ◌∙◌, append-nil, append_assoc, subst, arith, nat_lt}
 use Rattle.std.proofs.lemmas.Bool.Decides.{nat_tests}
 use Rattle.std.specs.List.{position_from, last_or}
 use Rattle.ras_module.specs.declared.address.Address.{Address}
 use Rattle.ras_core.specs.declared.event.Event.{Event}
 use Rattle.script.specs.declared.fault.ScriptFault.{ScriptFault}
-use Rattle.script.specs.declared.fault.ScriptFault.TheVariants.{TooLong, BadLine, NoZone, Stream, Memory}
+use Rattle.script.specs.declared.fault.ScriptFault.TheVariants.{TooLong, BadLine, NoZone, Stream}
+use Rattle.script.specs.declared.fault.ScriptFault.TheVariants.{Memory}
 use Rattle.script.specs.declared.key.Key.{Key}
 use Rattle.script.specs.declared.line.Line.{Line}
 use Rattle.script.specs.declared.line.Line.TheVariants.{Blank, Zone, Set, At}
@@ -13,7 +16,8 @@ use Rattle.script.specs.declared.read.Script.{Script}
 use Rattle.script.specs.Words.{front_part, rest_part, lines_of}
 use Rattle.script.specs.Lines.{line_of}
 use Rattle.script.specs.Said.{Said, zone_in, setting_in, event_in, with_line, MayFollow}
-use Rattle.script.specs.Scripts.{behind_event, in_place, script_from, script_unless, script_of, GivesUnlessStopped}
+use Rattle.script.specs.Scripts.{behind_event, in_place, script_from, script_unless, script_of}
+use Rattle.script.specs.Scripts.{GivesUnlessStopped}
 use Rattle.script.proofs.Parting.{split_step}
 
 abbrev pub readings : List ℕ → List (Option Line)
@@ -106,18 +110,21 @@ unfolding answer_from
 no_lines n place settings [] = rw (append-nil settings) refl
 no_lines n place settings (event ∷ events) = rw (append-nil settings, append-nil (event ∷ events)) refl
 
-pub last_answer : (n : ℕ) (said : Said) (text : List ℕ) → length text ≡ 0 → answer_from n said (readings text) ≡ script_from said.zone said.settings said.events
+pub last_answer : (n : ℕ) (said : Said) (text : List ℕ) → length text ≡ 0
+    → answer_from n said (readings text) ≡ script_from said.zone said.settings said.events
 last_answer n said [] e = sym (blank_last n said.zone said.settings said.events) ∙ no_lines n said.zone said.settings said.events
 last_answer n said (c ∷ text) e = absurd (omega (arith, e))
 
-first_reading : (text front rest : List ℕ) (P : List (Option Line) → Type 0) → front ≡ front_part 10 text → rest ≡ rest_part 10 text
+first_reading : (text front rest : List ℕ) (P : List (Option Line) → Type 0)
+    → front ≡ front_part 10 text → rest ≡ rest_part 10 text
     → P (line_of front ∷ readings rest) → (rest ≡ [] → P (line_of front ∷ [])) → P (readings text)
 first_reading text front rest P is_front is_rest more last = elim (split_step 10 text) [
   | inl e ↦ subst P (sym (ap (map line_of) e ∙ ap (λ (f : List ℕ). line_of f ∷ readings (rest_part 10 text)) (sym is_front) ∙ ap (λ (r : List ℕ). line_of front ∷ readings r) (sym is_rest))) more
   | inr e ↦ subst P (sym (ap (map line_of) e.0 ∙ ap (λ (f : List ℕ). line_of f ∷ []) (sym is_front))) (last (is_rest ∙ e.1))
 ]
 
-pub answer_more : (n : ℕ) (said : Said) (text front rest : List ℕ) (line : Line) → front ≡ front_part 10 text → rest ≡ rest_part 10 text
+pub answer_more : (n : ℕ) (said : Said) (text front rest : List ℕ) (line : Line)
+    → front ≡ front_part 10 text → rest ≡ rest_part 10 text
     → line_of front ≡ Some line → MayFollow said.events line
     → answer_from n said (readings text) ≡ answer_from (n + 1) (with_line said line) (readings rest)
 answer_more n said text front rest line is_front is_rest reads may =
@@ -127,21 +134,25 @@ answer_more n said text front rest line is_front is_rest reads may =
     ∙ blank_last (n + 1) (with_line said line).zone (with_line said line).settings (with_line said line).events
     ∙ ap (λ (r : List ℕ). answer_from (n + 1) (with_line said line) (readings r)) (sym e))
 
-pub unread_line : (n : ℕ) (said : Said) (text front rest : List ℕ) → front ≡ front_part 10 text → rest ≡ rest_part 10 text
+pub unread_line : (n : ℕ) (said : Said) (text front rest : List ℕ) → front ≡ front_part 10 text
+    → rest ≡ rest_part 10 text
     → line_of front ≡ None → answer_from n said (readings text) ≡ Err (BadLine n)
 unread_line n said text front rest is_front is_rest reads =
     first_reading text front rest (λ lines. answer_from n said lines ≡ Err (BadLine n)) is_front is_rest
     (ap (λ (l : Option Line). answer_from n said (l ∷ readings rest)) reads ∙ unread n said.zone said.settings said.events (readings rest))
     (λ e. ap (λ (l : Option Line). answer_from n said (l ∷ [])) reads ∙ unread n said.zone said.settings said.events [])
 
-pub misplaced_line : (n : ℕ) (said : Said) (text front rest : List ℕ) (line : Line) → front ≡ front_part 10 text → rest ≡ rest_part 10 text
-    → line_of front ≡ Some line → ¬ (MayFollow said.events line) → answer_from n said (readings text) ≡ Err (BadLine n)
+pub misplaced_line : (n : ℕ) (said : Said) (text front rest : List ℕ) (line : Line)
+    → front ≡ front_part 10 text → rest ≡ rest_part 10 text
+    → line_of front ≡ Some line → ¬ (MayFollow said.events line)
+    → answer_from n said (readings text) ≡ Err (BadLine n)
 misplaced_line n said text front rest line is_front is_rest reads not_so =
     first_reading text front rest (λ lines. answer_from n said lines ≡ Err (BadLine n)) is_front is_rest
     (ap (λ (l : Option Line). answer_from n said (l ∷ readings rest)) reads ∙ misplaced n said.zone said.settings said.events line (readings rest) not_so)
     (λ e. ap (λ (l : Option Line). answer_from n said (l ∷ [])) reads ∙ misplaced n said.zone said.settings said.events line [] not_so)
 
-pub gives_same : (answer given : Result Script ScriptFault) → answer ≡ given → GivesUnlessStopped answer given
+pub gives_same : (answer given : Result Script ScriptFault) → answer ≡ given
+    → GivesUnlessStopped answer given
 gives_same answer (Ok script) e = e
 gives_same answer (Err TooLong) e = e
 gives_same answer (Err (BadLine line)) e = e

@@ -2,7 +2,8 @@
 use Rattle.std.specs.Prelude.{ℕ, ◌≡◌, ◌≤◌, List, length, Option, Result, Ok, Err}
 use Rattle.std.specs.Io.KnownBytes.{Consumes, IsAtEnd}
 use Rattle.script.specs.declared.fault.ScriptFault.{ScriptFault}
-use Rattle.script.specs.declared.fault.ScriptFault.TheVariants.{TooLong, BadLine, NoZone, Stream, Memory}
+use Rattle.script.specs.declared.fault.ScriptFault.TheVariants.{TooLong, BadLine, NoZone, Stream}
+use Rattle.script.specs.declared.fault.ScriptFault.TheVariants.{Memory}
 use Rattle.script.specs.declared.read.Script.{Script}
 use Rattle.script.specs.Scripts.{script_of, GivesUnlessStopped}
 

@@ -1,12 +1,14 @@
 -- What a script says as a whole.
-use Rattle.std.specs.Prelude.{ℕ, ◌≡◌, not, List, [], ◌∷◌, length, nat_lt, map, fold, filter_map, Option, Some, None, is_some, Result, Ok, Err, if◌then◌else◌}
+use Rattle.std.specs.Prelude.{ℕ, ◌≡◌, not, List, [], ◌∷◌, length, nat_lt, map, fold, filter_map}
+use Rattle.std.specs.Prelude.{Option, Some, None, is_some, Result, Ok, Err, if◌then◌else◌}
 use Rattle.std.specs.List.{position_from, last_or}
 use Rattle.ras_module.specs.declared.address.Address.{Address}
 use Rattle.ras_core.specs.declared.config.ConfigParts.{ConfigParts}
 use Rattle.ras_core.specs.declared.event.Event.{Event}
 use Rattle.ras_core.specs.Defaults.{default_parts}
 use Rattle.script.specs.declared.fault.ScriptFault.{ScriptFault}
-use Rattle.script.specs.declared.fault.ScriptFault.TheVariants.{TooLong, BadLine, NoZone, Stream, Memory}
+use Rattle.script.specs.declared.fault.ScriptFault.TheVariants.{TooLong, BadLine, NoZone, Stream}
+use Rattle.script.specs.declared.fault.ScriptFault.TheVariants.{Memory}
 use Rattle.script.specs.declared.key.Key.{Key}
 use Rattle.script.specs.declared.line.Line.{Line}
 use Rattle.script.specs.declared.line.Line.TheVariants.{Blank, Zone, Set, At}

@@ -4,7 +4,9 @@ use Rattle.std.specs.Str.{bytes_eq}
 use Rattle.ras_core.specs.declared.config.ConfigParts.{ConfigParts}
 use Rattle.script.specs.Fields.{◌>>=◌, number_of}
 use Rattle.script.specs.declared.key.Key.{Key}
-use Rattle.script.specs.declared.key.Key.TheVariants.{Limit, CallLimit, TimeToLive, Endpoints, Calls, Kept, Window, Silence, Delay, Retries, Asks, AskWait, PoolTurn}
+use Rattle.script.specs.declared.key.Key.TheVariants.{Limit, CallLimit, TimeToLive, Endpoints}
+use Rattle.script.specs.declared.key.Key.TheVariants.{Calls, Kept, Window, Silence, Delay, Retries}
+use Rattle.script.specs.declared.key.Key.TheVariants.{Asks, AskWait, PoolTurn}
 
 abbrev pub key_of : List ℕ → Option Key
 key_of word =

@@ -3,7 +3,8 @@
 ghost use Rattle.std.specs.Prelude.{◌≡◌, ◌+◌, ◌<◌, ◌^◌, OnOk, slice_index};
 ghost use Rattle.std.specs.Io.KnownBytes.{Appends};
 ghost use Rattle.hex.specs.Hex.{encode_upper, upper_digits};
-ghost use Rattle.script.specs.Prints.{note_text, address_text, output_text, outcome_line, outcome_lines};
+ghost use Rattle.script.specs.Prints.{note_text, address_text, output_text, outcome_line};
+ghost use Rattle.script.specs.Prints.{outcome_lines};
 
 use ras_core::{Datagram, IgnoredCause, Note, Outcome};
 use ras_module::Address;

@@ -1,4 +1,5 @@
-use Rattle.std.proofs.Common.{◌≡◌, ◌<◌, ◌∙◌, length, get_or, take, arith, rules, true, subst, List, ℕ}
+use Rattle.std.proofs.Common.{◌≡◌, ◌<◌, ◌∙◌, length, get_or, take, arith, rules, true, subst, List}
+use Rattle.std.proofs.Common.{ℕ}
 use Rattle.std.proofs.lemmas.Iterator.{YieldsList-from_chars}
 use Rattle.std.proofs.lemmas.Iterator.Consumers.{YieldsList-turn, YieldsList-end}
 use Rattle.std.proofs.lemmas.List.{take_all, length_push, length-set, get_or_read}
@@ -6,9 +7,11 @@ use Rattle.std.specs.List.{list_all}
 use Rattle.std.specs.Option.{SomeIff}
 use Rattle.std.specs.Str.{chars, IsUtf8}
 use Rattle.ras_module.specs.Texts.{IsText}
-use Rattle.script.proofs.Names.{is_small, no_utf8, large_character, too_many, name_read, units_more, small_more}
+use Rattle.script.proofs.Names.{is_small, no_utf8, large_character, too_many, name_read, units_more}
+use Rattle.script.proofs.Names.{small_more}
 use Rattle.script.proofs.name.name_of.Goals as goal
-use Rattle.script.proofs.name.name_of.Goals.{then-number-gt65535-via-then-number-gt65535, then-number-gt65535-via-else-number-gt65535+then-count-eq-MOST}
+use Rattle.script.proofs.name.name_of.Goals.{then-number-gt65535-via-then-number-gt65535}
+use Rattle.script.proofs.name.name_of.Goals.{then-number-gt65535-via-else-number-gt65535+then-count-eq-MOST}
 
 pub returns-in_default : goal.returns-in_default
 returns-in_default c = no_utf8 c.args.word.now c.in_default.ensures.cases.0

@@ -5,7 +5,8 @@ use Rattle.script.proofs.Numbers.{too_large, digit_more, digits_more}
 use Rattle.script.proofs.number.number_of.Goals as goal
 use Rattle.script.proofs.number.number_of.Goals.{After-from}
 
-value_more : (c : After-from) → c.loop-c.number * 10 + c.from.result ≡ digits_value 10 (take (c.loop-c.c-index + 1) c.args.word.now)
+value_more : (c : After-from)
+    → c.loop-c.number * 10 + c.from.result ≡ digits_value 10 (take (c.loop-c.c-index + 1) c.args.word.now)
 value_more c =
     let i = c.loop-c.c-index in
     let below : i < length c.args.word.now = search rules in

@@ -1,4 +1,5 @@
-use Rattle.std.proofs.Common.{rules, ◌≡◌, ◌<◌, ◌/◌, ◌%◌, ◌∷◌, [], sym, subst, List, ℕ, length, get_or, slice_index, take}
+use Rattle.std.proofs.Common.{rules, ◌≡◌, ◌<◌, ◌/◌, ◌%◌, ◌∷◌, [], sym, subst, List, ℕ, length}
+use Rattle.std.proofs.Common.{get_or, slice_index, take}
 use Rattle.std.specs.Io.KnownBytes.{Appends}
 use Rattle.hex.specs.Hex.{upper_digits, encode_with, encode_upper}
 use Rattle.script.proofs.KnownBytes.{appends_then}

@@ -2,7 +2,8 @@ use Rattle.std.proofs.Common.{◌≡◌, ◌+◌, ◌∙◌, subst, sym, ap, ari
 use Rattle.std.proofs.lemmas.Bool.Decides.{nat_tests}
 use Rattle.script.specs.Said.{Said, MayFollow}
 use Rattle.script.specs.Scripts.{script_of}
-use Rattle.script.proofs.Reading.{answer_from, readings, first_answer, last_answer, answer_more, unread_line, misplaced_line, gives_same}
+use Rattle.script.proofs.Reading.{answer_from, readings, first_answer, last_answer, answer_more}
+use Rattle.script.proofs.Reading.{unread_line, misplaced_line, gives_same}
 use Rattle.script.proofs.Parting.{rest_shorter}
 use Rattle.script.proofs.read.script_of.Goals as goal
 
