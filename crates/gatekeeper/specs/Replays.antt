@@ -19,11 +19,12 @@ status_of (OfRun (run.Memory step)) = 3
 status_of (OfRun (run.Closed step)) = 1
 status_of (OfRun run.Stream) = 4
 
--- A script was read and run; or it was read and not run to its end; or it was not read, and the writer is
--- as it was.
+-- A script was read and run; or it was read and not run to its end; or it was not read, and the
+-- writer is as it was.
 abbrev pub Replays : Option (List ℕ) → Option (List ℕ) → Option (List ℕ) → Option (List ℕ) → Result Unit ReplayFault → Type 0
 Replays left left_now old new (Ok done) =
     (script : Script) × ReadsScript left left_now (Ok script) × IsRunAnswer script old new (Ok done)
 Replays left left_now old new (Err (OfRun fault)) =
     (script : Script) × ReadsScript left left_now (Ok script) × IsRunAnswer script old new (Err fault)
-Replays left left_now old new (Err (OfScript fault)) = ReadsScript left left_now (Err fault) × (new ≡ old)
+Replays left left_now old new (Err (OfScript fault)) =
+    ReadsScript left left_now (Err fault) × (new ≡ old)

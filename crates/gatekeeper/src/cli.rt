@@ -63,8 +63,8 @@ fn matched<'a>(alloc: Global, words: &'a [String]) -> Result<ArgMatches<'a>, Err
     command.try_get_matches_from(words)
 }
 
-/// Reads the words of the command line. Where they ask for help or can't be followed, `clap`'s text is
-/// printed.
+/// Reads the words of the command line. Where they ask for help or can't be followed, `clap`'s text
+/// is printed.
 pub fn chosen<R: Print + Eprint>(
     rt: &R,
     alloc: Global,

@@ -20,8 +20,8 @@ pub enum ReplayFault {
 }
 
 impl ReplayFault {
-    /// The exit status: 1 where the input is refused, 3 where there is no memory, and 4 where a stream
-    /// failed.
+    /// The exit status: 1 where the input is refused, 3 where there is no memory, and 4 where a
+    /// stream failed.
     pub fn status(&self) -> u8
         ensures { result ≡ status_of self.now }
     {
@@ -40,8 +40,8 @@ impl ReplayFault {
     }
 }
 
-/// Reads a script whole, and then runs it and writes its lines. Of a script that isn't read nothing is
-/// written.
+/// Reads a script whole, and then runs it and writes its lines. Of a script that isn't read nothing
+/// is written.
 pub fn replay<R: Read, W: Write>(
     alloc: Global,
     input: &mut R,

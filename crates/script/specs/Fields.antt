@@ -18,7 +18,8 @@ first >>= next = option_and_then next first
 abbrev pub number_of : ℕ → ℕ → List ℕ → Option ℕ
 number_of low high word =
     let number = digits_value 10 word in
-    if nat_lt 0 (length word) && list_all is_ascii_digit word && nat_le low number && nat_le number high
+    if nat_lt 0 (length word) && list_all is_ascii_digit word
+    && nat_le low number && nat_le number high
     then Some number
     else None
 
@@ -40,7 +41,8 @@ address_of word =
 abbrev pub name_of : List ℕ → Option (List ℕ)
 name_of word =
     let name = chars word in
-    if is_utf8 word && list_all (λ c. nat_lt c 65536) name && nat_le 1 (length name) && nat_le (length name) 128
+    if is_utf8 word && list_all (λ c. nat_lt c 65536) name
+    && nat_le 1 (length name) && nat_le (length name) 128
     then Some name
     else None
 

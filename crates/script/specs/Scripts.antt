@@ -49,7 +49,8 @@ parts_of zone settings = fold with_setting (default_parts zone.0 zone.1) setting
 
 abbrev pub script_from : Option (List ℕ × Address) → List (Key × ℕ) → List Event → Result Script ScriptFault
 script_from None settings events = Err NoZone
-script_from (Some zone) settings events = Ok (record { config = parts_of zone settings; events = events })
+script_from (Some zone) settings events =
+    Ok (record { config = parts_of zone settings; events = events })
 
 -- the first line that is not understood, counted from 1
 abbrev pub bad_line : List (Option Line) → Option ℕ

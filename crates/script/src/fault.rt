@@ -7,7 +7,8 @@ use std::alloc::AllocError;
 use std::fmt;
 use thiserror::Error;
 
-/// Why a script isn't read. Of the first three, the first that applies to the whole script is answered.
+/// Why a script isn't read. Of the first three, the first that applies to the whole script is
+/// answered.
 #[derive(Clone, Copy, Debug, PartialEq, Eq, Error)]
 pub enum ScriptFault {
     /// It has more than 1,048,576 octets.
@@ -52,8 +53,8 @@ impl From<AllocError> for ScriptFault {
     }
 }
 
-/// Why a run stopped. Events are counted from 1; the lines of the events before the one that is named
-/// were written.
+/// Why a run stopped. Events are counted from 1; the lines of the events before the one that is
+/// named were written.
 #[derive(Clone, Copy, Debug, PartialEq, Eq, Error)]
 pub enum RunFault {
     /// There is no memory for the step of this event; 0: for the zone, before the first event.

@@ -17,7 +17,8 @@ const CHUNK: usize = 4096;
 
 /// Reads an input to its end. At most one octet past the greatest size is read.
 pub fn read_whole<R: Read>(alloc: Global, reader: &mut R) -> Result<Vec<u8>, ScriptFault>
-    ensures whole { IfOk result (λ v. Consumes (R.remaining reader.old) (R.remaining reader.new) v.items) }
+    ensures whole { IfOk result
+        (λ v. Consumes (R.remaining reader.old) (R.remaining reader.new) v.items) }
     ensures end { IfOk result (λ v. IsAtEnd (R.remaining reader.new)) }
     ensures len { IfOk result (λ v. vec_len v ≤ 1048576) }
     ensures long { IfErr result (λ e. e ≡ TooLong

@@ -31,7 +31,8 @@ fn digit(number: u8) -> u8
 }
 
 fn write_hex<W: Write>(octets: &[u8], out: &mut W) -> io::Result<()>
-    ensures { OnOk result (Appends (W.contents out.old) (W.contents out.new) (encode_upper octets.now)) }
+    ensures { OnOk result (Appends (W.contents out.old) (W.contents out.new)
+        (encode_upper octets.now)) }
 {
     for octet in octets {
         out.write_all(&[digit(*octet / 16), digit(*octet % 16)])?;
@@ -40,14 +41,16 @@ fn write_hex<W: Write>(octets: &[u8], out: &mut W) -> io::Result<()>
 }
 
 fn write_address<W: Write>(address: &Address, out: &mut W) -> io::Result<()>
-    ensures { OnOk result (Appends (W.contents out.old) (W.contents out.new) (address_text address.now)) }
+    ensures { OnOk result (Appends (W.contents out.old) (W.contents out.new)
+        (address_text address.now)) }
 {
     let [a, b, c, d] = address.ip;
     write!(out, "{a}.{b}.{c}.{d}:{}", address.port)
 }
 
 fn write_output<W: Write>(output: &Option<Datagram>, out: &mut W) -> io::Result<()>
-    ensures { OnOk result (Appends (W.contents out.old) (W.contents out.new) (output_text output.now)) }
+    ensures { OnOk result (Appends (W.contents out.old) (W.contents out.new)
+        (output_text output.now)) }
 {
     match output {
         None => Ok(()),
@@ -61,7 +64,8 @@ fn write_output<W: Write>(output: &Option<Datagram>, out: &mut W) -> io::Result<
 }
 
 fn write_outcome<W: Write>(number: usize, outcome: &Outcome, out: &mut W) -> io::Result<()>
-    ensures { OnOk result (Appends (W.contents out.old) (W.contents out.new) (outcome_line number outcome.now)) }
+    ensures { OnOk result (Appends (W.contents out.old) (W.contents out.new)
+        (outcome_line number outcome.now)) }
 {
     write!(out, "{number} {}", note_text(outcome.note))?;
     write_output(&outcome.output, out)?;
@@ -70,7 +74,8 @@ fn write_outcome<W: Write>(number: usize, outcome: &Outcome, out: &mut W) -> io:
 
 /// Writes a line for each outcome, numbered from 1.
 pub fn write_outcomes<W: Write>(outcomes: &[Outcome], out: &mut W) -> io::Result<()>
-    ensures { OnOk result (Appends (W.contents out.old) (W.contents out.new) (outcome_lines outcomes.now)) }
+    ensures { OnOk result (Appends (W.contents out.old) (W.contents out.new)
+        (outcome_lines outcomes.now)) }
 {
     for (i, outcome) in outcomes.iter().enumerate() {
         write_outcome(i + 1, outcome, out)?;

@@ -83,8 +83,8 @@ fn script_of(alloc: Global, text: &[u8]) -> Result<Script, ScriptFault>
     draft.into_script()
 }
 
-/// Reads the script that an input is, to the input's end. Lines are counted from 1, the blank ones too.
-/// At most one octet past the greatest size is read.
+/// Reads the script that an input is, to the input's end. Lines are counted from 1, the blank ones
+/// too. At most one octet past the greatest size is read.
 pub fn read_script<R: Read>(alloc: Global, reader: &mut R) -> Result<Script, ScriptFault>
     ensures { ReadsScript (R.remaining reader.old) (R.remaining reader.new) result }
 {

@@ -10,8 +10,8 @@ use ras_core::{StepFault, Zone};
 use std::alloc::Global;
 use std::io::Write;
 
-/// Runs the events of a script on its zone, one after the other, and writes a line for each outcome. Where
-/// an event can't be run, the lines of those before it are written. The writer is flushed.
+/// Runs the events of a script on its zone, one after the other, and writes a line for each outcome.
+/// Where an event can't be run, the lines of those before it are written. The writer is flushed.
 pub fn run_script<W: Write>(alloc: Global, script: Script, out: &mut W) -> Result<(), RunFault>
     ensures { IsRunAnswer script (W.contents out.old) (W.contents out.new) result }
 {
