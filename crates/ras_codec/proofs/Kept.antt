@@ -1,5 +1,5 @@
 -- The served aliases of a list, kept in a loop.
-use Rattle.std.proofs.Common.{◌≡◌, List, [], ◌∷◌, ◌++◌, Option, Some, None, refl, sym, ◌∙◌, append_assoc, append-nil}
+use Rattle.std.proofs.Common.{◌≡◌, List, [], ◌∷◌, ◌++◌, Option, Some, None, sym, ◌∙◌, append_assoc, append-nil}
 use Rattle.ras_module.specs.declared.alias.Alias.{Alias}
 use Rattle.ras_codec.specs.Aliases.{served_in, keeping}
 use Rattle.ras_codec.proofs.Each.{fold_list}

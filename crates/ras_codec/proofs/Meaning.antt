@@ -1,10 +1,8 @@
 -- What is read, in the words of the encoding.
-use Rattle.std.proofs.Common.{◌≡◌, ℕ, suc, ◌+◌, ◌%◌, ◌≤◌, List, [], ◌∷◌, ◌++◌, Bool, true, false, length, take, drop, nat_eq, Option, Some, None, Result, Ok, Err, ◌⊎◌, inl, inr, refl, sym, ap, subst, ◌∙◌, arith, length-take, take-append-drop}
+use Rattle.std.proofs.Common.{◌≡◌, ℕ, ◌+◌, ◌%◌, ◌≤◌, List, [], ◌∷◌, ◌++◌, Bool, true, false, length, take, drop, nat_eq, Option, Some, None, Result, Ok, Err, ◌⊎◌, inl, inr, refl, sym, ap, subst, ◌∙◌, arith, length-take, take-append-drop}
 use Rattle.std.specs.Prelude.{◌||◌}
 use Rattle.std.specs.Result.{IfErr}
-use Rattle.std.specs.List.{list_any}
 use Rattle.per_bits.specs.Bits.{bits_of, number, place_of, width}
-use Rattle.per_bits.specs.Readings.{◌>>=◌}
 use Rattle.per_bits.proofs.Results.{bind_ok, ok_is}
 use Rattle.per_bits.proofs.Octets.{length-bits_of}
 use Rattle.ras_module.specs.declared.request.Request.{Request}
@@ -12,7 +10,7 @@ use Rattle.ras_codec.specs.declared.fault.ReadFault.{ReadFault}
 use Rattle.ras_codec.specs.declared.fault.ReadFault.TheVariants.{Memory}
 use Rattle.ras_codec.specs.Faults.{IsUnlessMemory}
 use Rattle.ras_codec.specs.Grammar.{Grammar, either, choice_index}
-use Rattle.ras_codec.specs.Messages.{served, not_served, root_alternative, root_message, ras_message, value_of, message_reading, Reads, NotServed, IsFaulty, is_served}
+use Rattle.ras_codec.specs.Messages.{served, root_alternative, ras_message, value_of, message_reading, Reads, NotServed, IsFaulty, is_served}
 
 value_ok : {A : Type 0} (r : Result (A × List Bool) ReadFault) (x : A) → value_of r ≡ Ok x → (rest : List Bool) × (r ≡ Ok (x, rest))
 value_ok {A} (Ok p) x e =

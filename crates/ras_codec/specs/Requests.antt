@@ -1,12 +1,12 @@
 -- The requests of endpoints (H.225.0), component by component.
-use Rattle.std.specs.Prelude.{ℕ, List, [], ◌∷◌, Bool, true, false, Option, Some, None, nat_eq, unwrap_or, if◌then◌else◌}
+use Rattle.std.specs.Prelude.{ℕ, List, Bool, false, Option, Some, None, nat_eq, unwrap_or, if◌then◌else◌}
 use Rattle.std.specs.List.{list_all}
 use Rattle.ras_module.specs.declared.call_key.CallKey.{CallKey}
 use Rattle.ras_module.specs.declared.request.Request.{Request}
 use Rattle.ras_module.specs.declared.request.Request.TheVariants.{Grq, Rrq, Urq, Arq, Brq, Drq, Irr}
 use Rattle.ras_codec.specs.declared.request.RegistrationAdditions.{RegistrationAdditions}
 use Rattle.ras_codec.specs.declared.request.AdmissionPreamble.{AdmissionPreamble}
-use Rattle.ras_codec.specs.Grammar.{Grammar, ◌>>=◌, is, nothing, boolean, whole, octets, optional, skipped}
+use Rattle.ras_codec.specs.Grammar.{Grammar, ◌>>=◌, is, boolean, whole, octets, optional, skipped}
 use Rattle.ras_codec.specs.Sequences.{null_choice, additions, addition, skipped_addition, skipped_additions, request_seq_num, protocol_identifier, identifier, non_standard_parameter}
 use Rattle.ras_codec.specs.Addresses.{transport_address, optional_address, address_list}
 use Rattle.ras_codec.specs.Aliases.{skipped_aliases, optional_aliases}

@@ -83,7 +83,11 @@ fn skip_open_type(decoder: &mut Decoder<'_>, present: bool) -> Result<(), ReadFa
 }
 
 /// Passes over the addition of an index.
-pub fn skip_addition(decoder: &mut Decoder<'_>, additions: &PresentAdditions, index: usize) -> Result<(), ReadFault>
+pub fn skip_addition(
+    decoder: &mut Decoder<'_>,
+    additions: &PresentAdditions,
+    index: usize,
+) -> Result<(), ReadFault>
     ensures { Gives (skipped_addition additions.now index).reading decoder.old result decoder.new }
 {
     skip_open_type(decoder, additions.is_present(index))

@@ -158,7 +158,10 @@ pub fn address_list(decoder: &mut Decoder<'_>) -> Result<Option<Address>, ReadFa
 }
 
 /// An address that is OPTIONAL.
-pub fn optional_address(decoder: &mut Decoder<'_>, present: bool) -> Result<Option<Address>, ReadFault>
+pub fn optional_address(
+    decoder: &mut Decoder<'_>,
+    present: bool,
+) -> Result<Option<Address>, ReadFault>
     ensures { Gives (optional_address present).reading decoder.old result decoder.new }
 {
     if present {

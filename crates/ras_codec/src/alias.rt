@@ -134,7 +134,11 @@ fn keep(aliases: &mut AliasList, alias: Option<Alias>) -> Result<(), AllocError>
 }
 
 /// The served aliases among so many. Memory is asked for alias by alias, once it has been read.
-fn served_aliases(alloc: Global, decoder: &mut Decoder<'_>, count: u32) -> Result<AliasList, ReadFault>
+fn served_aliases(
+    alloc: Global,
+    decoder: &mut Decoder<'_>,
+    count: u32,
+) -> Result<AliasList, ReadFault>
     ensures { GivesUnlessMemory (served_each count).reading decoder.old result decoder.new }
 {
     let mut ahead = decoder.ahead();
@@ -149,7 +153,11 @@ fn served_aliases(alloc: Global, decoder: &mut Decoder<'_>, count: u32) -> Resul
 
 /// The served aliases of a list; none where the list isn't there.
 #[tactic(auto, unfolding(crate::specs::Aliases::alias_list))]
-pub fn optional_aliases(alloc: Global, decoder: &mut Decoder<'_>, present: bool) -> Result<AliasList, ReadFault>
+pub fn optional_aliases(
+    alloc: Global,
+    decoder: &mut Decoder<'_>,
+    present: bool,
+) -> Result<AliasList, ReadFault>
     ensures { GivesUnlessMemory (optional_aliases present).reading decoder.old result decoder.new }
 {
     if !present {

@@ -27,7 +27,11 @@ fn call_identifier(decoder: &mut Decoder<'_>) -> Result<[u8; 16], ReadFault>
 }
 
 /// The callIdentifier among the additions of a message.
-pub fn call_identifier_at(decoder: &mut Decoder<'_>, present: &PresentAdditions, index: usize) -> Result<Option<[u8; 16]>, ReadFault>
+pub fn call_identifier_at(
+    decoder: &mut Decoder<'_>,
+    present: &PresentAdditions,
+    index: usize,
+) -> Result<Option<[u8; 16]>, ReadFault>
     ensures { Gives (addition present.now index call_identifier).reading decoder.old result decoder.new }
 {
     if !present.is_present(index) {

@@ -8,13 +8,14 @@ ghost use Rattle.ras_codec.specs.Replies.{gatekeeper_reason, registration_reason
 ghost use Rattle.ras_module.specs.Rooms.{room_of};
 
 use crate::encoder::{
-    alias_list, band_width, identifier, null_choice, null_extension, protocol_identifier, request_seq_num, root_message,
-    transport_address, zero_octet,
+    alias_list, band_width, identifier, null_choice, null_extension, protocol_identifier,
+    request_seq_num, root_message, transport_address, zero_octet,
 };
 use per_bits::BitWriter;
 use ras_module::{
-    Address, Alias, AdmissionRejectReason, BandRejectReason, Delay, DisengageRejectReason,
-    GatekeeperRejectReason, Name, Reply, RegistrationRejectReason, RequestSeqNum, TimeToLive, UnregRejectReason,
+    Address, AdmissionRejectReason, Alias, BandRejectReason, Delay, DisengageRejectReason,
+    GatekeeperRejectReason, Name, RegistrationRejectReason, Reply, RequestSeqNum, TimeToLive,
+    UnregRejectReason,
 };
 use std::alloc::AllocError;
 use std::mem;
@@ -162,7 +163,12 @@ fn terminal_alias(writer: &mut BitWriter, aliases: &[Alias])
 
 /// The front of a RegistrationConfirm, up to its callSignalAddress.
 #[tactic(auto, using(crate::proofs::Behind::behind_append), unfolding(crate::specs::Replies::registration_confirm_front))]
-fn registration_confirm_front(writer: &mut BitWriter, seq: RequestSeqNum, call_signal: &Address, has_aliases: bool)
+fn registration_confirm_front(
+    writer: &mut BitWriter,
+    seq: RequestSeqNum,
+    call_signal: &Address,
+    has_aliases: bool,
+)
     requires { 400 ≤ writer.old.room }
     ensures { Writes 400 (registration_confirm_front seq call_signal.now has_aliases) writer.old writer.new }
 {
@@ -179,7 +185,11 @@ fn registration_confirm_front(writer: &mut BitWriter, seq: RequestSeqNum, call_s
 
 /// RegistrationReject.
 #[tactic(auto, using(crate::proofs::Behind::behind_append), unfolding(crate::specs::Replies::registration_reject))]
-pub fn registration_reject(writer: &mut BitWriter, seq: RequestSeqNum, reason: &RegistrationRejectReason)
+pub fn registration_reject(
+    writer: &mut BitWriter,
+    seq: RequestSeqNum,
+    reason: &RegistrationRejectReason,
+)
     requires { 8 * room_of (reply.Rrj seq reason.now) ≤ writer.old.room }
     ensures { Writes (8 * room_of (reply.Rrj seq reason.now)) (registration_reject seq reason.now) writer.old writer.new }
 {

@@ -10,8 +10,8 @@ use crate::additions::{PresentAdditions, additions, skip_addition};
 use crate::address::{address_list, optional_address, transport_address};
 use crate::alias::{optional_aliases, skip_aliases};
 use crate::call::{
-    call_identifier_at, call_key, call_type, disengage_reason, skip_call_model,
-    skip_call_services, skip_call_type,
+    call_identifier_at, call_key, call_type, disengage_reason, skip_call_model, skip_call_services,
+    skip_call_type,
 };
 use crate::decoder::Decoder;
 use crate::endpoint_type::{endpoint_type, vendor_identifier};
@@ -52,7 +52,11 @@ struct RegistrationAdditions {
     endpoint: Option<EndpointId>,
 }
 
-fn time_to_live_at(decoder: &mut Decoder<'_>, present: &PresentAdditions, index: usize) -> Result<Option<TimeToLive>, ReadFault>
+fn time_to_live_at(
+    decoder: &mut Decoder<'_>,
+    present: &PresentAdditions,
+    index: usize,
+) -> Result<Option<TimeToLive>, ReadFault>
     ensures { Gives (addition present.now index time_to_live).reading decoder.old result decoder.new }
 {
     if !present.is_present(index) {
@@ -65,7 +69,11 @@ fn time_to_live_at(decoder: &mut Decoder<'_>, present: &PresentAdditions, index:
     Ok(Some(TimeToLive::new(seconds).unwrap()))
 }
 
-fn boolean_at(decoder: &mut Decoder<'_>, present: &PresentAdditions, index: usize) -> Result<Option<bool>, ReadFault>
+fn boolean_at(
+    decoder: &mut Decoder<'_>,
+    present: &PresentAdditions,
+    index: usize,
+) -> Result<Option<bool>, ReadFault>
     ensures { Gives (addition present.now index boolean).reading decoder.old result decoder.new }
 {
     if !present.is_present(index) {
@@ -78,7 +86,11 @@ fn boolean_at(decoder: &mut Decoder<'_>, present: &PresentAdditions, index: usiz
     Ok(Some(bit))
 }
 
-fn endpoint_at(decoder: &mut Decoder<'_>, present: &PresentAdditions, index: usize) -> Result<Option<EndpointId>, ReadFault>
+fn endpoint_at(
+    decoder: &mut Decoder<'_>,
+    present: &PresentAdditions,
+    index: usize,
+) -> Result<Option<EndpointId>, ReadFault>
     ensures { Gives (addition present.now index identifier).reading decoder.old result decoder.new }
 {
     if !present.is_present(index) {
@@ -92,7 +104,10 @@ fn endpoint_at(decoder: &mut Decoder<'_>, present: &PresentAdditions, index: usi
 }
 
 #[tactic(auto, unfolding(crate::specs::Requests::registration_additions))]
-fn registration_additions(decoder: &mut Decoder<'_>, extended: bool) -> Result<RegistrationAdditions, ReadFault>
+fn registration_additions(
+    decoder: &mut Decoder<'_>,
+    extended: bool,
+) -> Result<RegistrationAdditions, ReadFault>
     ensures { Gives (registration_additions extended).reading decoder.old result decoder.new }
 {
     let mut ahead = decoder.ahead();

@@ -137,9 +137,15 @@ fn aliases(alloc: Global, last: &[u8]) -> Result<AliasList, AllocError> {
 
 #[test]
 fn gatekeeper_requests(rt: HostRuntime) -> Result<(), Fail> {
-    let any = Request::Grq { seq: seq(1), gatekeeper: None };
+    let any = Request::Grq {
+        seq: seq(1),
+        gatekeeper: None,
+    };
     assert!(rt; read(rt.alloc(), &GRQ)? == Some(any));
-    let other = Request::Grq { seq: seq(1), gatekeeper: Name::new(&[0x78, 0x78]) };
+    let other = Request::Grq {
+        seq: seq(1),
+        gatekeeper: Name::new(&[0x78, 0x78]),
+    };
     assert!(rt; read(rt.alloc(), &GRQ_OF_XX)? == Some(other));
     Ok(())
 }
@@ -227,16 +233,28 @@ fn admission_requests(rt: HostRuntime) -> Result<(), Fail> {
 #[test]
 fn requests_about_a_call(rt: HostRuntime) -> Result<(), Fail> {
     let call = CallKey { octets: [0x11; 16] };
-    let more = Request::Brq { seq: seq(7), endpoint: endpoint(b'1'), call, asked: 2000 };
+    let more = Request::Brq {
+        seq: seq(7),
+        endpoint: endpoint(b'1'),
+        call,
+        asked: 2000,
+    };
     assert!(rt; read(rt.alloc(), &BRQ)? == Some(more));
-    let end = Request::Drq { seq: seq(9), endpoint: endpoint(b'1'), call };
+    let end = Request::Drq {
+        seq: seq(9),
+        endpoint: endpoint(b'1'),
+        call,
+    };
     assert!(rt; read(rt.alloc(), &DRQ)? == Some(end));
     Ok(())
 }
 
 #[test]
 fn a_sign_of_life(rt: HostRuntime) -> Result<(), Fail> {
-    let alive = Request::Irr { seq: seq(1), endpoint: endpoint(b'1') };
+    let alive = Request::Irr {
+        seq: seq(1),
+        endpoint: endpoint(b'1'),
+    };
     assert!(rt; read(rt.alloc(), &IRR)? == Some(alive));
     Ok(())
 }

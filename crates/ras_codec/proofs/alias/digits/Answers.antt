@@ -1,4 +1,4 @@
-use Rattle.std.proofs.Common.{◌≡◌, ◌<◌, arith, ◌∙◌, refl, length, length-set}
+use Rattle.std.proofs.Common.{◌<◌, arith, ◌∙◌, refl, length, length-set}
 use Rattle.std.proofs.lemmas.Result.{err_from_is_err_and}
 use Rattle.ras_codec.specs.Aliases.{digit}
 use Rattle.ras_codec.proofs.Dialled.{AreDialled-more}

@@ -1,4 +1,4 @@
-use Rattle.std.proofs.Common.{◌≡◌, [], arith, refl, inr}
+use Rattle.std.proofs.Common.{[], arith, refl, inr}
 use Rattle.std.proofs.lemmas.Result.{err_from_is_err_and}
 use Rattle.ras_codec.specs.Aliases.{alias_address, served_in, keeping}
 use Rattle.ras_codec.proofs.Each.{each-fault, each-more, each-made}
