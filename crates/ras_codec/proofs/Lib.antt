@@ -6,3 +6,5 @@ pub mod Kept
 pub mod Meaning
 pub mod Octets
 pub mod Widths
+pub mod Written
+pub mod RepliesRead

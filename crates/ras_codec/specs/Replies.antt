@@ -155,8 +155,7 @@ gatekeeper_confirm seq gatekeeper ras =
     ++ boolean false ∷ boolean false ∷ boolean true
     ∷ request_seq_num seq
     ∷ protocol_identifier
-    ++ identifier gatekeeper
-    ++ transport_address ras
+    ++ (identifier gatekeeper ++ transport_address ras)
 
 -- GatekeeperReject: requestSeqNum, protocolIdentifier, nonStandardData?, gatekeeperIdentifier?, rejectReason
 unfoldable pub gatekeeper_reject : ℕ → GatekeeperRejectReason → List Encoding
@@ -180,10 +179,10 @@ registration_confirm_front seq call_signal has_aliases =
 unfoldable pub registration_confirm : ℕ → Address → List Alias → List ℕ → List ℕ → ℕ → List Encoding
 registration_confirm seq call_signal aliases gatekeeper endpoint granted =
     registration_confirm_front seq call_signal (has_aliases aliases)
-    ++ terminal_alias aliases
-    ++ identifier gatekeeper
-    ++ identifier endpoint
-    ++ registration_confirm_additions granted
+    ++ (terminal_alias aliases
+    ++ (identifier gatekeeper
+    ++ (identifier endpoint
+    ++ registration_confirm_additions granted)))
 
 -- RegistrationReject: requestSeqNum, protocolIdentifier, nonStandardData?, rejectReason, gatekeeperIdentifier?
 unfoldable pub registration_reject : ℕ → RegistrationRejectReason → List Encoding

@@ -1,0 +1,118 @@
+-- Each reply is an encoding of itself.
+use Rattle.std.proofs.Common.{◌≡◌, ℕ, ◌+◌, ◌%◌, ◌≤◌, ◌<◌, ◌^◌, List, [], ◌∷◌, ◌++◌, Bool, true, false, length, refl, sym, subst, append-nil, arith, lit<}
+use Rattle.std.specs.List.{AllByRecursion}
+use Rattle.per_bits.specs.Canonical as canonical
+use Rattle.per_bits.proofs.Agreement.{length_encodes, octets_encode}
+use Rattle.ras_module.specs.declared.reply.Reply.TheVariants.{Grj, Ucf, Urj, Arj, Bcf, Brj, Dcf, Drj}
+use Rattle.ras_module.specs.declared.reason.GatekeeperRejectReason.{GatekeeperRejectReason}
+use Rattle.ras_module.specs.declared.reason.GatekeeperRejectReason.TheVariants as gatekeeper
+use Rattle.ras_module.specs.declared.reason.UnregRejectReason.{UnregRejectReason}
+use Rattle.ras_module.specs.declared.reason.UnregRejectReason.TheVariants as unreg
+use Rattle.ras_module.specs.declared.reason.AdmissionRejectReason.{AdmissionRejectReason}
+use Rattle.ras_module.specs.declared.reason.AdmissionRejectReason.TheVariants as admission
+use Rattle.ras_module.specs.declared.reason.BandRejectReason.{BandRejectReason}
+use Rattle.ras_module.specs.declared.reason.BandRejectReason.TheVariants as band
+use Rattle.ras_module.specs.declared.reason.DisengageRejectReason.{DisengageRejectReason}
+use Rattle.ras_module.specs.declared.reason.DisengageRejectReason.TheVariants as disengage
+use Rattle.ras_codec.specs.Replies.{null_choice, protocol_identifier, gatekeeper_reject, unregistration_confirm, unregistration_reject, admission_reject, bandwidth_confirm, bandwidth_reject, disengage_confirm, disengage_reject}
+use Rattle.ras_codec.specs.Replies as replies
+use Rattle.ras_codec.specs.Sequences as sequences
+use Rattle.ras_codec.specs.Grammar as forms
+use Rattle.ras_codec.specs.ReplyGrammar as grammar
+use Rattle.ras_codec.specs.ReplyGrammar.{reply_message, root_choice}
+use Rattle.ras_codec.proofs.Written.{Says, Writes, done, one, part, none, alone, last, boolean_said, whole_said, index_said}
+
+-- ---- reasons
+
+gatekeeper_reason_written : (reason : GatekeeperRejectReason) → Writes (root_choice 3 grammar.gatekeeper_reason) reason (null_choice 3 (replies.gatekeeper_reason reason))
+gatekeeper_reason_written gatekeeper.TerminalExcluded = one _ (boolean_said false) (one _ (index_said 3 1 (omega arith) (omega arith)) done)
+
+unreg_reason_written : (reason : UnregRejectReason) → Writes (root_choice 2 grammar.unreg_reason) reason (null_choice 2 (replies.unreg_reason reason))
+unreg_reason_written unreg.NotCurrentlyRegistered = one _ (boolean_said false) (one _ (index_said 2 0 (omega arith) (omega arith)) done)
+unreg_reason_written unreg.CallInProgress = one _ (boolean_said false) (one _ (index_said 2 1 (omega arith) (omega arith)) done)
+
+admission_reason_written : (reason : AdmissionRejectReason) → Writes (root_choice 7 grammar.admission_reason) reason (null_choice 7 (replies.admission_reason reason))
+admission_reason_written admission.CalledPartyNotRegistered = one _ (boolean_said false) (one _ (index_said 7 0 (omega arith) (omega arith)) done)
+admission_reason_written admission.RequestDenied = one _ (boolean_said false) (one _ (index_said 7 2 (omega arith) (omega arith)) done)
+admission_reason_written admission.InvalidEndpointIdentifier = one _ (boolean_said false) (one _ (index_said 7 6 (omega arith) (omega arith)) done)
+admission_reason_written admission.ResourceUnavailable = one _ (boolean_said false) (one _ (index_said 7 7 (omega arith) (omega arith)) done)
+
+band_reason_written : (reason : BandRejectReason) → Writes (root_choice 5 grammar.band_reason) reason (null_choice 5 (replies.band_reason reason))
+band_reason_written band.NotBound = one _ (boolean_said false) (one _ (index_said 5 0 (omega arith) (omega arith)) done)
+band_reason_written band.InvalidConferenceId = one _ (boolean_said false) (one _ (index_said 5 1 (omega arith) (omega arith)) done)
+band_reason_written band.InsufficientResources = one _ (boolean_said false) (one _ (index_said 5 3 (omega arith) (omega arith)) done)
+
+disengage_reason_written : (reason : DisengageRejectReason) → Writes (root_choice 1 grammar.disengage_reason) reason (null_choice 1 (replies.disengage_reason reason))
+disengage_reason_written disengage.NotRegistered = one _ (boolean_said false) (one _ (index_said 1 0 (omega arith) (omega arith)) done)
+disengage_reason_written disengage.RequestToDropOther = one _ (boolean_said false) (one _ (index_said 1 1 (omega arith) (omega arith)) done)
+
+-- ---- what many messages share
+
+protocol_written : Writes sequences.protocol_identifier (0 ∷ 8 ∷ 145 ∷ 74 ∷ 0 ∷ 2 ∷ []) protocol_identifier
+unfolding protocol_identifier
+protocol_written =
+    let contents : List ℕ = 0 ∷ 8 ∷ 145 ∷ 74 ∷ 0 ∷ 2 ∷ [] in
+    record {
+      here = λ place small.
+          let front = canonical.length_encoding 6 place in
+          let after = (place + length front) % 8 in
+          let octets = canonical.octets_encoding contents after in
+          (6, (front, octets ++ [], refl, length_encodes 6 place (omega arith),
+            subst (λ (t : List Bool). (forms.octets 6).encodes contents after t) (sym (append-nil octets)) (octets_encode contents after (lit< tt, (lit< tt, (lit< tt, (lit< tt, (lit< tt, (lit< tt, tt)))))))));
+    }
+
+-- ---- the messages
+
+module _ (seq : ℕ) (low : 1 ≤ seq) (high : seq ≤ 65535) where
+  seq_said : Says sequences.request_seq_num seq (replies.request_seq_num seq)
+  seq_said = whole_said 1 65535 seq low high (omega arith)
+
+  pub ucf_written : Writes reply_message (Ucf seq) (unregistration_confirm seq)
+  unfolding reply_message unregistration_confirm grammar.unregistration_confirm
+  ucf_written =
+      one _ (boolean_said false) (one _ (index_said 24 7 (omega arith) (omega arith))
+      (one _ (boolean_said false) (one _ (boolean_said false) (one _ seq_said (none _ done done)))))
+
+  pub dcf_written : Writes reply_message (Dcf seq) (disengage_confirm seq)
+  unfolding reply_message disengage_confirm grammar.disengage_confirm
+  dcf_written =
+      one _ (boolean_said false) (one _ (index_said 24 16 (omega arith) (omega arith))
+      (one _ (boolean_said false) (one _ (boolean_said false) (one _ seq_said (none _ done done)))))
+
+  pub bcf_written : (units : ℕ) → units ≤ 4294967295 → Writes reply_message (Bcf seq units) (bandwidth_confirm seq units)
+  unfolding reply_message bandwidth_confirm grammar.bandwidth_confirm
+  bcf_written units most =
+      one _ (boolean_said false) (one _ (index_said 24 13 (omega arith) (omega arith))
+      (one _ (boolean_said false) (one _ (boolean_said false) (one _ seq_said (one _ (whole_said 0 4294967295 units (omega arith) most (omega arith)) (none _ done done))))))
+
+  pub urj_written : (reason : UnregRejectReason) → Writes reply_message (Urj seq reason) (unregistration_reject seq reason)
+  unfolding reply_message unregistration_reject grammar.unregistration_reject
+  urj_written reason =
+      one _ (boolean_said false) (one _ (index_said 24 8 (omega arith) (omega arith))
+      (one _ (boolean_said false) (one _ (boolean_said false) (one _ seq_said (last _ (unreg_reason_written reason) (none _ done done))))))
+
+  pub arj_written : (reason : AdmissionRejectReason) → Writes reply_message (Arj seq reason) (admission_reject seq reason)
+  unfolding reply_message admission_reject grammar.admission_reject
+  arj_written reason =
+      one _ (boolean_said false) (one _ (index_said 24 11 (omega arith) (omega arith))
+      (one _ (boolean_said false) (one _ (boolean_said false) (one _ seq_said (last _ (admission_reason_written reason) (none _ done done))))))
+
+  pub drj_written : (reason : DisengageRejectReason) → Writes reply_message (Drj seq reason) (disengage_reject seq reason)
+  unfolding reply_message disengage_reject grammar.disengage_reject
+  drj_written reason =
+      one _ (boolean_said false) (one _ (index_said 24 17 (omega arith) (omega arith))
+      (one _ (boolean_said false) (one _ (boolean_said false) (one _ seq_said (last _ (disengage_reason_written reason) (none _ done done))))))
+
+  pub brj_written : (reason : BandRejectReason) (allowed : ℕ) → allowed ≤ 4294967295 → Writes reply_message (Brj seq reason allowed) (bandwidth_reject seq reason allowed)
+  unfolding reply_message bandwidth_reject grammar.bandwidth_reject
+  brj_written reason allowed most =
+      one _ (boolean_said false) (one _ (index_said 24 14 (omega arith) (omega arith))
+      (one _ (boolean_said false) (one _ (boolean_said false) (one _ seq_said (part _ (band_reason_written reason)
+      (one _ (whole_said 0 4294967295 allowed (omega arith) most (omega arith)) (none _ done done)))))))
+
+  pub grj_written : (reason : GatekeeperRejectReason) → Writes reply_message (Grj seq reason) (gatekeeper_reject seq reason)
+  unfolding reply_message gatekeeper_reject grammar.gatekeeper_reject
+  grj_written reason =
+      one _ (boolean_said false) (one _ (index_said 24 2 (omega arith) (omega arith))
+      (one _ (boolean_said false) (one _ (boolean_said false) (one _ (boolean_said false) (one _ seq_said (part _ protocol_written
+      (none _ done (none _ done (last _ (gatekeeper_reason_written reason) done)))))))))

@@ -1,0 +1,192 @@
+-- Which bits encode the replies of the gatekeeper (H.225.0), component by component, as a decoder takes them.
+use Rattle.std.specs.Prelude.{ℕ, List, Bool, true, false, Option, Some, None}
+use Rattle.ras_module.specs.declared.address.Address.{Address}
+use Rattle.ras_module.specs.declared.reason.GatekeeperRejectReason.{GatekeeperRejectReason}
+use Rattle.ras_module.specs.declared.reason.GatekeeperRejectReason.TheVariants as gatekeeper
+use Rattle.ras_module.specs.declared.reason.UnregRejectReason.{UnregRejectReason}
+use Rattle.ras_module.specs.declared.reason.UnregRejectReason.TheVariants as unreg
+use Rattle.ras_module.specs.declared.reason.AdmissionRejectReason.{AdmissionRejectReason}
+use Rattle.ras_module.specs.declared.reason.AdmissionRejectReason.TheVariants as admission
+use Rattle.ras_module.specs.declared.reason.BandRejectReason.{BandRejectReason}
+use Rattle.ras_module.specs.declared.reason.BandRejectReason.TheVariants as band
+use Rattle.ras_module.specs.declared.reason.DisengageRejectReason.{DisengageRejectReason}
+use Rattle.ras_module.specs.declared.reason.DisengageRejectReason.TheVariants as disengage
+use Rattle.ras_module.specs.declared.reply.Reply.{Reply}
+use Rattle.ras_module.specs.declared.reply.Reply.TheVariants.{Gcf, Grj, Ucf, Urj, Arj, Bcf, Brj, Dcf, Drj}
+use Rattle.ras_codec.specs.declared.fault.ReadFault.TheVariants.{BadChoice}
+use Rattle.ras_codec.specs.Grammar.{Grammar, is, failure, boolean, whole, choice_index, either, if◌equals◌take◌else◌, skipped}
+use Rattle.ras_codec.specs.Chain.{◌>>=◌}
+use Rattle.ras_codec.specs.Sequences.{request_seq_num, protocol_identifier, identifier, non_standard_parameter}
+use Rattle.ras_codec.specs.Addresses.{transport_address}
+use Rattle.ras_codec.specs.Requests.{band_width}
+
+-- what is no reply of this gatekeeper
+abbrev pub no_reply : {A : Type 0} → Grammar A
+no_reply {A} = failure {A = A} BadChoice
+
+abbrev pub required : {A : Type 0} → Bool → Grammar A → Grammar A
+required present g = either present g no_reply
+
+abbrev pub only_ip : Option Address → Grammar Address
+only_ip (Some address) = is address
+only_ip None = no_reply
+
+-- the ipAddress of a TransportAddress
+abbrev pub ip_transport_address : Grammar Address
+ip_transport_address = do
+  address ← transport_address
+  only_ip address
+
+-- a root alternative of a CHOICE, by the index of the last one
+abbrev pub root_choice : {A : Type 0} → ℕ → (ℕ → Grammar A) → Grammar A
+root_choice {A} last alternative = do
+  extended ← boolean
+  either extended no_reply (do
+    index ← choice_index last
+    alternative index)
+
+-- ---- the reasons
+
+abbrev pub gatekeeper_reason : ℕ → Grammar GatekeeperRejectReason
+gatekeeper_reason index = if index equals 1 take is gatekeeper.TerminalExcluded else no_reply
+
+abbrev pub unreg_reason : ℕ → Grammar UnregRejectReason
+unreg_reason index =
+    if index equals 0 take is unreg.NotCurrentlyRegistered
+    else if index equals 1 take is unreg.CallInProgress
+    else no_reply
+
+abbrev pub admission_reason : ℕ → Grammar AdmissionRejectReason
+admission_reason index =
+    if index equals 0 take is admission.CalledPartyNotRegistered
+    else if index equals 2 take is admission.RequestDenied
+    else if index equals 6 take is admission.InvalidEndpointIdentifier
+    else if index equals 7 take is admission.ResourceUnavailable
+    else no_reply
+
+abbrev pub band_reason : ℕ → Grammar BandRejectReason
+band_reason index =
+    if index equals 0 take is band.NotBound
+    else if index equals 1 take is band.InvalidConferenceId
+    else if index equals 3 take is band.InsufficientResources
+    else no_reply
+
+abbrev pub disengage_reason : ℕ → Grammar DisengageRejectReason
+disengage_reason index =
+    if index equals 0 take is disengage.NotRegistered
+    else if index equals 1 take is disengage.RequestToDropOther
+    else no_reply
+
+-- ---- the messages
+
+-- GatekeeperConfirm; that of this gatekeeper has its gatekeeperIdentifier
+unfoldable pub gatekeeper_confirm : Grammar Reply
+gatekeeper_confirm = do
+  extended ← boolean
+  has_non_standard_data ← boolean
+  has_gatekeeper ← boolean
+  seq ← request_seq_num
+  protocol ← protocol_identifier
+  non_standard_data ← skipped has_non_standard_data non_standard_parameter
+  gatekeeper ← required has_gatekeeper identifier
+  ras ← ip_transport_address
+  is (Gcf seq gatekeeper ras)
+
+-- GatekeeperReject
+unfoldable pub gatekeeper_reject : Grammar Reply
+gatekeeper_reject = do
+  extended ← boolean
+  has_non_standard_data ← boolean
+  has_gatekeeper ← boolean
+  seq ← request_seq_num
+  protocol ← protocol_identifier
+  non_standard_data ← skipped has_non_standard_data non_standard_parameter
+  gatekeeper ← skipped has_gatekeeper identifier
+  reason ← root_choice 3 gatekeeper_reason
+  is (Grj seq reason)
+
+-- UnregistrationConfirm
+unfoldable pub unregistration_confirm : Grammar Reply
+unregistration_confirm = do
+  extended ← boolean
+  has_non_standard_data ← boolean
+  seq ← request_seq_num
+  non_standard_data ← skipped has_non_standard_data non_standard_parameter
+  is (Ucf seq)
+
+-- UnregistrationReject
+unfoldable pub unregistration_reject : Grammar Reply
+unregistration_reject = do
+  extended ← boolean
+  has_non_standard_data ← boolean
+  seq ← request_seq_num
+  reason ← root_choice 2 unreg_reason
+  non_standard_data ← skipped has_non_standard_data non_standard_parameter
+  is (Urj seq reason)
+
+-- AdmissionReject
+unfoldable pub admission_reject : Grammar Reply
+admission_reject = do
+  extended ← boolean
+  has_non_standard_data ← boolean
+  seq ← request_seq_num
+  reason ← root_choice 7 admission_reason
+  non_standard_data ← skipped has_non_standard_data non_standard_parameter
+  is (Arj seq reason)
+
+-- BandwidthConfirm
+unfoldable pub bandwidth_confirm : Grammar Reply
+bandwidth_confirm = do
+  extended ← boolean
+  has_non_standard_data ← boolean
+  seq ← request_seq_num
+  units ← band_width
+  non_standard_data ← skipped has_non_standard_data non_standard_parameter
+  is (Bcf seq units)
+
+-- BandwidthReject
+unfoldable pub bandwidth_reject : Grammar Reply
+bandwidth_reject = do
+  extended ← boolean
+  has_non_standard_data ← boolean
+  seq ← request_seq_num
+  reason ← root_choice 5 band_reason
+  allowed ← band_width
+  non_standard_data ← skipped has_non_standard_data non_standard_parameter
+  is (Brj seq reason allowed)
+
+-- DisengageConfirm
+unfoldable pub disengage_confirm : Grammar Reply
+disengage_confirm = do
+  extended ← boolean
+  has_non_standard_data ← boolean
+  seq ← request_seq_num
+  non_standard_data ← skipped has_non_standard_data non_standard_parameter
+  is (Dcf seq)
+
+-- DisengageReject
+unfoldable pub disengage_reject : Grammar Reply
+disengage_reject = do
+  extended ← boolean
+  has_non_standard_data ← boolean
+  seq ← request_seq_num
+  reason ← root_choice 1 disengage_reason
+  non_standard_data ← skipped has_non_standard_data non_standard_parameter
+  is (Drj seq reason)
+
+abbrev pub root_reply : ℕ → Grammar Reply
+root_reply index =
+    if index equals 1 take gatekeeper_confirm
+    else if index equals 2 take gatekeeper_reject
+    else if index equals 7 take unregistration_confirm
+    else if index equals 8 take unregistration_reject
+    else if index equals 11 take admission_reject
+    else if index equals 13 take bandwidth_confirm
+    else if index equals 14 take bandwidth_reject
+    else if index equals 16 take disengage_confirm
+    else if index equals 17 take disengage_reject
+    else no_reply
+
+-- RasMessage
+unfoldable pub reply_message : Grammar Reply
+reply_message = root_choice 24 root_reply
