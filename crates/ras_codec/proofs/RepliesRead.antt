@@ -1,9 +1,15 @@
 -- Each reply is an encoding of itself.
-use Rattle.std.proofs.Common.{◌≡◌, ℕ, ◌+◌, ◌%◌, ◌≤◌, ◌<◌, ◌^◌, List, [], ◌∷◌, ◌++◌, Bool, true, false, length, refl, sym, subst, append-nil, arith, lit<}
+use Rattle.std.proofs.Common.{◌≡◌, ℕ, ◌+◌, ◌%◌, ◌≤◌, ◌<◌, ◌^◌, List, [], ◌∷◌, ◌++◌, Bool, true, false, length, refl, sym, subst, append-nil, arith, lit<, ◌*◌}
 use Rattle.std.specs.List.{AllByRecursion}
 use Rattle.per_bits.specs.Canonical as canonical
 use Rattle.per_bits.proofs.Agreement.{length_encodes, octets_encode}
-use Rattle.ras_module.specs.declared.reply.Reply.TheVariants.{Grj, Ucf, Urj, Arj, Bcf, Brj, Dcf, Drj}
+use Rattle.std.proofs.Common.{replicate}
+use Rattle.per_bits.specs.Bits.{octet}
+use Rattle.per_bits.specs.Canonical.{offset_encoding}
+use Rattle.ras_codec.specs.Encoding as encoding
+use Rattle.ras_module.specs.declared.address.Address.{Address}
+use Rattle.ras_codec.specs.Properties.{IsAddress, IsName}
+use Rattle.ras_module.specs.declared.reply.Reply.TheVariants.{Gcf, Grj, Acf, Irq, Rip, Ucf, Urj, Arj, Bcf, Brj, Dcf, Drj}
 use Rattle.ras_module.specs.declared.reason.GatekeeperRejectReason.{GatekeeperRejectReason}
 use Rattle.ras_module.specs.declared.reason.GatekeeperRejectReason.TheVariants as gatekeeper
 use Rattle.ras_module.specs.declared.reason.UnregRejectReason.{UnregRejectReason}
@@ -14,13 +20,13 @@ use Rattle.ras_module.specs.declared.reason.BandRejectReason.{BandRejectReason}
 use Rattle.ras_module.specs.declared.reason.BandRejectReason.TheVariants as band
 use Rattle.ras_module.specs.declared.reason.DisengageRejectReason.{DisengageRejectReason}
 use Rattle.ras_module.specs.declared.reason.DisengageRejectReason.TheVariants as disengage
-use Rattle.ras_codec.specs.Replies.{null_choice, protocol_identifier, gatekeeper_reject, unregistration_confirm, unregistration_reject, admission_reject, bandwidth_confirm, bandwidth_reject, disengage_confirm, disengage_reject}
+use Rattle.ras_codec.specs.Replies.{null_choice, transport_address, identifier, admission_confirm_additions, gatekeeper_confirm, admission_confirm, info_request, request_in_progress, protocol_identifier, gatekeeper_reject, unregistration_confirm, unregistration_reject, admission_reject, bandwidth_confirm, bandwidth_reject, disengage_confirm, disengage_reject}
 use Rattle.ras_codec.specs.Replies as replies
 use Rattle.ras_codec.specs.Sequences as sequences
 use Rattle.ras_codec.specs.Grammar as forms
 use Rattle.ras_codec.specs.ReplyGrammar as grammar
 use Rattle.ras_codec.specs.ReplyGrammar.{reply_message, root_choice}
-use Rattle.ras_codec.proofs.Written.{Says, Writes, done, one, part, none, alone, last, boolean_said, whole_said, index_said}
+use Rattle.ras_codec.proofs.Written.{Says, Writes, done, one, part, none, alone, last, boolean_said, whole_said, index_said, small_said, identifier_written, address_written, inside_written, skipped_written, additions_written}
 
 -- ---- reasons
 
@@ -60,6 +66,24 @@ protocol_written =
           (6, (front, octets ++ [], refl, length_encodes 6 place (omega arith),
             subst (λ (t : List Bool). (forms.octets 6).encodes contents after t) (sym (append-nil octets)) (octets_encode contents after (lit< tt, (lit< tt, (lit< tt, (lit< tt, (lit< tt, (lit< tt, tt)))))))));
     }
+
+transport_written : (address : Address) → IsAddress address → Writes grammar.ip_transport_address address (transport_address address)
+transport_written address h = last _ (address_written address h.four h.fit h.port) done
+
+model_written : Writes (root_choice 1 grammar.call_model) tt (null_choice 1 0)
+model_written = one _ (boolean_said false) (one _ (index_said 1 0 (omega arith) (omega arith)) done)
+
+one_octet : length (encoding.in_order (encoding.octets (0 ∷ []) ∷ []) 0) ≡ 8 * 1
+unfolding octet
+one_octet = refl
+
+two_octets : length (encoding.in_order (encoding.octets (0 ∷ 0 ∷ []) ∷ []) 0) ≡ 8 * 2
+unfolding octet
+two_octets = refl
+
+guid_octets : length (encoding.in_order (encoding.boolean false ∷ encoding.octets (replicate 16 0) ∷ []) 0) ≡ 8 * 17
+unfolding octet
+guid_octets = refl
 
 -- ---- the messages
 
@@ -116,3 +140,54 @@ module _ (seq : ℕ) (low : 1 ≤ seq) (high : seq ≤ 65535) where
       one _ (boolean_said false) (one _ (index_said 24 2 (omega arith) (omega arith))
       (one _ (boolean_said false) (one _ (boolean_said false) (one _ (boolean_said false) (one _ seq_said (part _ protocol_written
       (none _ done (none _ done (last _ (gatekeeper_reason_written reason) done)))))))))
+
+  pub gcf_written : (gatekeeper : List ℕ) (ras : Address) → IsName gatekeeper → IsAddress ras → Writes reply_message (Gcf seq gatekeeper ras) (gatekeeper_confirm seq gatekeeper ras)
+  unfolding reply_message gatekeeper_confirm grammar.gatekeeper_confirm
+  gcf_written gatekeeper ras name address =
+      one _ (boolean_said false) (one _ (index_said 24 1 (omega arith) (omega arith))
+      (one _ (boolean_said false) (one _ (boolean_said false) (one _ (boolean_said true) (one _ seq_said (part _ protocol_written
+      (none _ done (part _ (identifier_written gatekeeper name.some name.few name.fit) (last _ (transport_written ras address) done)))))))))
+
+  pub acf_written : (units : ℕ) (dest : Address) → units ≤ 4294967295 → IsAddress dest → Writes reply_message (Acf seq units dest) (admission_confirm seq units dest)
+  unfolding reply_message admission_confirm grammar.admission_confirm admission_confirm_additions
+  acf_written units dest most address =
+      one _ (boolean_said false) (one _ (index_said 24 10 (omega arith) (omega arith))
+      (one _ (boolean_said true) (one _ (boolean_said false) (one _ (boolean_said false) (one _ seq_said
+      (one _ (whole_said 0 4294967295 units (omega arith) most (omega arith))
+      (part _ model_written (part _ (transport_written dest address)
+      (none _ done (none _ done
+      (part _ (additions_written (false ∷ false ∷ false ∷ false ∷ false ∷ false ∷ false ∷ false ∷ false ∷ true ∷ true ∷ []) 10 (encoding.bits 11 3) refl (omega arith) (λ place. refl))
+      (none _ done (none _ done (none _ done (none _ done (none _ done (none _ done (none _ done (none _ done (none _ done
+      (part _ (skipped_written 1 (encoding.octets (0 ∷ []) ∷ []) (omega arith) one_octet)
+      (last _ (skipped_written 2 (encoding.octets (0 ∷ 0 ∷ []) ∷ []) (omega arith) two_octets) done))))))))))))))))))))))
+
+  pub irq_written : Writes reply_message (Irq seq) (info_request seq)
+  unfolding reply_message info_request grammar.info_request
+  irq_written =
+      one _ (boolean_said false) (one _ (index_said 24 21 (omega arith) (omega arith))
+      (one _ (boolean_said true) (one _ (boolean_said false) (one _ (boolean_said false) (one _ seq_said
+      (one _ (whole_said 0 65535 0 (omega arith) (omega arith) (omega arith))
+      (none _ done (none _ done
+      (part _ (additions_written (true ∷ []) 0 (encoding.boolean true) refl (omega arith) (λ place. refl))
+      (last _ (skipped_written 17 (encoding.boolean false ∷ encoding.octets (replicate 16 0) ∷ []) (omega arith) guid_octets) done))))))))))
+
+  abbrev in_progress : ℕ → List encoding.Encoding
+  in_progress delay =
+      encoding.boolean false ∷ encoding.boolean false ∷ encoding.boolean false ∷ encoding.boolean false ∷ encoding.boolean false
+      ∷ replies.request_seq_num seq ∷ encoding.whole 1 65535 delay ∷ []
+
+  rip_length : (delay : ℕ) → length (encoding.in_order (in_progress delay) 0) ≡ 8 * 5
+  unfolding offset_encoding
+  rip_length delay = refl
+
+  rip_inside : (delay : ℕ) → 1 ≤ delay → delay ≤ 65535 → Writes grammar.request_in_progress (Rip seq delay) (in_progress delay)
+  unfolding grammar.request_in_progress
+  rip_inside delay some most =
+      one _ (boolean_said false) (one _ (boolean_said false) (one _ (boolean_said false) (one _ (boolean_said false) (one _ (boolean_said false) (one _ seq_said
+      (none _ done (none _ done (one _ (whole_said 1 65535 delay some most (omega arith)) done))))))))
+
+  pub rip_written : (delay : ℕ) → 1 ≤ delay → delay ≤ 65535 → Writes reply_message (Rip seq delay) (request_in_progress seq delay)
+  unfolding reply_message request_in_progress
+  rip_written delay some most =
+      one _ (boolean_said true) (one _ (small_said 0 (omega arith))
+      (inside_written grammar.request_in_progress 5 (in_progress delay) (omega arith) (rip_length delay) (rip_inside delay some most)))

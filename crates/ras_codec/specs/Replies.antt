@@ -279,7 +279,7 @@ info_request seq =
 unfoldable pub request_in_progress : ℕ → ℕ → List Encoding
 request_in_progress seq delay =
     boolean true ∷ small 0 ∷ size 5
-    ∷ bits 5 0
+    ∷ boolean false ∷ boolean false ∷ boolean false ∷ boolean false ∷ boolean false
     ∷ request_seq_num seq
     ∷ whole 1 65535 delay ∷ []
 

@@ -1,5 +1,5 @@
 -- Which bits encode the replies of the gatekeeper (H.225.0), component by component, as a decoder takes them.
-use Rattle.std.specs.Prelude.{ℕ, List, Bool, true, false, Option, Some, None}
+use Rattle.std.specs.Prelude.{ℕ, List, Bool, true, false, Option, Some, None, ◌||◌}
 use Rattle.ras_module.specs.declared.address.Address.{Address}
 use Rattle.ras_module.specs.declared.reason.GatekeeperRejectReason.{GatekeeperRejectReason}
 use Rattle.ras_module.specs.declared.reason.GatekeeperRejectReason.TheVariants as gatekeeper
@@ -12,13 +12,13 @@ use Rattle.ras_module.specs.declared.reason.BandRejectReason.TheVariants as band
 use Rattle.ras_module.specs.declared.reason.DisengageRejectReason.{DisengageRejectReason}
 use Rattle.ras_module.specs.declared.reason.DisengageRejectReason.TheVariants as disengage
 use Rattle.ras_module.specs.declared.reply.Reply.{Reply}
-use Rattle.ras_module.specs.declared.reply.Reply.TheVariants.{Gcf, Grj, Ucf, Urj, Arj, Bcf, Brj, Dcf, Drj}
+use Rattle.ras_module.specs.declared.reply.Reply.TheVariants.{Gcf, Grj, Ucf, Urj, Acf, Arj, Bcf, Brj, Dcf, Drj, Irq, Rip}
 use Rattle.ras_codec.specs.declared.fault.ReadFault.TheVariants.{BadChoice}
-use Rattle.ras_codec.specs.Grammar.{Grammar, is, failure, boolean, whole, choice_index, either, if◌equals◌take◌else◌, skipped}
+use Rattle.ras_codec.specs.Grammar.{Grammar, is, nothing, failure, small, inside, boolean, whole, choice_index, either, if◌equals◌take◌else◌, skipped}
 use Rattle.ras_codec.specs.Chain.{◌>>=◌}
-use Rattle.ras_codec.specs.Sequences.{request_seq_num, protocol_identifier, identifier, non_standard_parameter}
+use Rattle.ras_codec.specs.Sequences.{additions, skipped_addition, request_seq_num, protocol_identifier, identifier, non_standard_parameter}
 use Rattle.ras_codec.specs.Addresses.{transport_address}
-use Rattle.ras_codec.specs.Requests.{band_width}
+use Rattle.ras_codec.specs.Requests.{band_width, call_reference}
 
 -- what is no reply of this gatekeeper
 abbrev pub no_reply : {A : Type 0} → Grammar A
@@ -174,19 +174,94 @@ disengage_reject = do
   non_standard_data ← skipped has_non_standard_data non_standard_parameter
   is (Drj seq reason)
 
+-- CallModel: direct alone
+abbrev pub call_model : ℕ → Grammar (Unit {0})
+call_model index = if index equals 0 take nothing else no_reply
+
+-- AdmissionConfirm: requestSeqNum, bandWidth, callModel, destCallSignalAddress, irrFrequency?, nonStandardData?; additions up
+-- to 10
+unfoldable pub admission_confirm : Grammar Reply
+admission_confirm = do
+  extended ← boolean
+  has_irr_frequency ← boolean
+  has_non_standard_data ← boolean
+  seq ← request_seq_num
+  units ← band_width
+  model ← root_choice 1 call_model
+  dest ← ip_transport_address
+  irr_frequency ← skipped has_irr_frequency (whole 1 65535)
+  non_standard_data ← skipped has_non_standard_data non_standard_parameter
+  present ← additions extended
+  addition_0 ← skipped_addition present 0
+  addition_1 ← skipped_addition present 1
+  addition_2 ← skipped_addition present 2
+  addition_3 ← skipped_addition present 3
+  addition_4 ← skipped_addition present 4
+  addition_5 ← skipped_addition present 5
+  addition_6 ← skipped_addition present 6
+  addition_7 ← skipped_addition present 7
+  addition_8 ← skipped_addition present 8
+  will_respond_to_irr ← skipped_addition present 9
+  uuies_requested ← skipped_addition present 10
+  is (Acf seq units dest)
+
+-- InfoRequest: requestSeqNum, callReferenceValue, nonStandardData?, replyAddress?; addition 0 callIdentifier
+unfoldable pub info_request : Grammar Reply
+info_request = do
+  extended ← boolean
+  has_non_standard_data ← boolean
+  has_reply_address ← boolean
+  seq ← request_seq_num
+  reference ← call_reference
+  non_standard_data ← skipped has_non_standard_data non_standard_parameter
+  reply_address ← skipped has_reply_address transport_address
+  present ← additions extended
+  guid ← skipped_addition present 0
+  is (Irq seq)
+
+-- RequestInProgress: requestSeqNum, nonStandardData?, tokens?, cryptoTokens?, integrityCheckValue?, delay; with tokens or a
+-- check value it is none of this gatekeeper
+unfoldable pub request_in_progress : Grammar Reply
+request_in_progress = do
+  extended ← boolean
+  has_non_standard_data ← boolean
+  has_tokens ← boolean
+  has_crypto_tokens ← boolean
+  has_check_value ← boolean
+  seq ← request_seq_num
+  non_standard_data ← skipped has_non_standard_data non_standard_parameter
+  tokens ← either (has_tokens || has_crypto_tokens || has_check_value) no_reply nothing
+  delay ← whole 1 65535
+  is (Rip seq delay)
+
 abbrev pub root_reply : ℕ → Grammar Reply
 root_reply index =
     if index equals 1 take gatekeeper_confirm
     else if index equals 2 take gatekeeper_reject
     else if index equals 7 take unregistration_confirm
     else if index equals 8 take unregistration_reject
+    else if index equals 10 take admission_confirm
     else if index equals 11 take admission_reject
     else if index equals 13 take bandwidth_confirm
     else if index equals 14 take bandwidth_reject
     else if index equals 16 take disengage_confirm
     else if index equals 17 take disengage_reject
+    else if index equals 21 take info_request
     else no_reply
+
+-- the messages behind the extension marker, by their indexes there
+abbrev pub later_reply : Grammar Reply
+later_reply = do
+  index ← small
+  if index equals 0 take inside request_in_progress else no_reply
+
+abbrev pub earlier_reply : Grammar Reply
+earlier_reply = do
+  index ← choice_index 24
+  root_reply index
 
 -- RasMessage
 unfoldable pub reply_message : Grammar Reply
-reply_message = root_choice 24 root_reply
+reply_message = do
+  extended ← boolean
+  either extended later_reply earlier_reply

@@ -355,7 +355,11 @@ pub fn request_in_progress(writer: &mut BitWriter, seq: RequestSeqNum, delay: De
     writer.bit(true);
     writer.small(0);
     writer.length(5);
-    writer.bits(5, 0);
+    writer.bit(false);
+    writer.bit(false);
+    writer.bit(false);
+    writer.bit(false);
+    writer.bit(false);
     request_seq_num(writer, seq);
     writer.whole(1, 65535, u32::from(delay.get()));
 }
