@@ -6,5 +6,6 @@ pub mod Kept
 pub mod Meaning
 pub mod Octets
 pub mod Widths
+pub mod AliasesWritten
 pub mod Written
 pub mod RepliesRead

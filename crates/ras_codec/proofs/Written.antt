@@ -41,7 +41,7 @@ one {A} {B} {first} next {x} {y} {e} {es} p q = record {
       (x, (e place, in_order es after, refl, p.here place small, q.here after (below_eight (place + length (e place)))));
 }
 
-in_order-append : (xs ys : List Encoding) (place : ℕ) → place < 8
+pub in_order-append : (xs ys : List Encoding) (place : ℕ) → place < 8
     → in_order (xs ++ ys) place ≡ in_order xs place ++ in_order ys ((place + length (in_order xs place)) % 8)
 in_order-append [] ys place small =
     let same : place ≡ (place + 0) % 8 = omega arith in

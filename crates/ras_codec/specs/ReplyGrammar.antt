@@ -3,6 +3,8 @@ use Rattle.std.specs.Prelude.{ℕ, List, Bool, true, false, Option, Some, None, 
 use Rattle.ras_module.specs.declared.address.Address.{Address}
 use Rattle.ras_module.specs.declared.reason.GatekeeperRejectReason.{GatekeeperRejectReason}
 use Rattle.ras_module.specs.declared.reason.GatekeeperRejectReason.TheVariants as gatekeeper
+use Rattle.ras_module.specs.declared.reason.RegistrationRejectReason.{RegistrationRejectReason}
+use Rattle.ras_module.specs.declared.reason.RegistrationRejectReason.TheVariants as registration
 use Rattle.ras_module.specs.declared.reason.UnregRejectReason.{UnregRejectReason}
 use Rattle.ras_module.specs.declared.reason.UnregRejectReason.TheVariants as unreg
 use Rattle.ras_module.specs.declared.reason.AdmissionRejectReason.{AdmissionRejectReason}
@@ -12,13 +14,14 @@ use Rattle.ras_module.specs.declared.reason.BandRejectReason.TheVariants as band
 use Rattle.ras_module.specs.declared.reason.DisengageRejectReason.{DisengageRejectReason}
 use Rattle.ras_module.specs.declared.reason.DisengageRejectReason.TheVariants as disengage
 use Rattle.ras_module.specs.declared.reply.Reply.{Reply}
-use Rattle.ras_module.specs.declared.reply.Reply.TheVariants.{Gcf, Grj, Ucf, Urj, Acf, Arj, Bcf, Brj, Dcf, Drj, Irq, Rip}
+use Rattle.ras_module.specs.declared.reply.Reply.TheVariants.{Gcf, Grj, Rcf, Rrj, Ucf, Urj, Acf, Arj, Bcf, Brj, Dcf, Drj, Irq, Rip}
 use Rattle.ras_codec.specs.declared.fault.ReadFault.TheVariants.{BadChoice}
-use Rattle.ras_codec.specs.Grammar.{Grammar, is, nothing, failure, small, inside, boolean, whole, choice_index, either, if◌equals◌take◌else◌, skipped}
+use Rattle.ras_codec.specs.Grammar.{Grammar, is, nothing, failure, small, inside, open_type, boolean, whole, choice_index, either, if◌equals◌take◌else◌, skipped}
 use Rattle.ras_codec.specs.Chain.{◌>>=◌}
-use Rattle.ras_codec.specs.Sequences.{additions, skipped_addition, request_seq_num, protocol_identifier, identifier, non_standard_parameter}
-use Rattle.ras_codec.specs.Addresses.{transport_address}
-use Rattle.ras_codec.specs.Requests.{band_width, call_reference}
+use Rattle.ras_codec.specs.Sequences.{additions, is_present, skipped_addition, request_seq_num, protocol_identifier, identifier, non_standard_parameter}
+use Rattle.ras_codec.specs.Addresses.{transport_address, address_list}
+use Rattle.ras_codec.specs.Aliases.{alias_list, optional_aliases}
+use Rattle.ras_codec.specs.Requests.{band_width, call_reference, time_to_live}
 
 -- what is no reply of this gatekeeper
 abbrev pub no_reply : {A : Type 0} → Grammar A
@@ -104,6 +107,76 @@ gatekeeper_reject = do
   gatekeeper ← skipped has_gatekeeper identifier
   reason ← root_choice 3 gatekeeper_reason
   is (Grj seq reason)
+
+-- DuplicateAlias's aliases
+abbrev pub alias_reason : Grammar RegistrationRejectReason
+alias_reason = do
+  held ← alias_list
+  is (registration.DuplicateAlias held)
+
+-- the reasons before the extension marker
+abbrev pub registration_reason : ℕ → Grammar RegistrationRejectReason
+registration_reason index =
+    if index equals 0 take is registration.DiscoveryRequired
+    else if index equals 2 take is registration.InvalidCallSignalAddress
+    else if index equals 3 take is registration.InvalidRasAddress
+    else if index equals 4 take alias_reason
+    else no_reply
+
+-- the reasons behind it
+abbrev pub later_reason : ℕ → Grammar RegistrationRejectReason
+later_reason index =
+    if index equals 1 take is registration.ResourceUnavailable
+    else if index equals 4 take is registration.FullRegistrationRequired
+    else no_reply
+
+-- RegistrationRejectReason
+unfoldable pub registration_reject_reason : Grammar RegistrationRejectReason
+registration_reject_reason = do
+  extended ← boolean
+  either extended (do
+    index ← small
+    null ← skipped true open_type
+    later_reason index) (do
+    index ← choice_index 7
+    registration_reason index)
+
+-- RegistrationConfirm; that of this gatekeeper has its gatekeeperIdentifier and a timeToLive
+unfoldable pub registration_confirm : Grammar Reply
+registration_confirm = do
+  extended ← boolean
+  has_non_standard_data ← boolean
+  has_aliases ← boolean
+  has_gatekeeper ← boolean
+  seq ← request_seq_num
+  protocol ← protocol_identifier
+  non_standard_data ← skipped has_non_standard_data non_standard_parameter
+  first ← address_list
+  call_signal ← only_ip first
+  aliases ← optional_aliases has_aliases
+  gatekeeper ← required has_gatekeeper identifier
+  endpoint ← identifier
+  present ← additions extended
+  addition_0 ← skipped_addition present 0
+  granted ← required (is_present present 1) (inside time_to_live)
+  addition_2 ← skipped_addition present 2
+  addition_3 ← skipped_addition present 3
+  addition_4 ← skipped_addition present 4
+  will_respond_to_irr ← skipped_addition present 5
+  is (Rcf seq call_signal aliases gatekeeper endpoint granted)
+
+-- RegistrationReject
+unfoldable pub registration_reject : Grammar Reply
+registration_reject = do
+  extended ← boolean
+  has_non_standard_data ← boolean
+  has_gatekeeper ← boolean
+  seq ← request_seq_num
+  protocol ← protocol_identifier
+  non_standard_data ← skipped has_non_standard_data non_standard_parameter
+  reason ← registration_reject_reason
+  gatekeeper ← skipped has_gatekeeper identifier
+  is (Rrj seq reason)
 
 -- UnregistrationConfirm
 unfoldable pub unregistration_confirm : Grammar Reply
@@ -238,6 +311,8 @@ abbrev pub root_reply : ℕ → Grammar Reply
 root_reply index =
     if index equals 1 take gatekeeper_confirm
     else if index equals 2 take gatekeeper_reject
+    else if index equals 4 take registration_confirm
+    else if index equals 5 take registration_reject
     else if index equals 7 take unregistration_confirm
     else if index equals 8 take unregistration_reject
     else if index equals 10 take admission_confirm
