@@ -121,9 +121,16 @@ bmp_written most text some few small fit = record {
       let count = canonical.whole_encoding 1 most (length text) place in
       let after = (place + length count) % 8 in
       let pad = canonical.pad after in
-      let then = (after + length pad) % 8 in
-      (length text, (count, pad ++ in_order (characters text) then, refl, whole_encodes 1 most (length text) place some few small,
-        (pad, in_order (characters text) then, refl, length-replicate (pad_length after) false, characters_here text fit then)));
+      let then = (after + length pad) % 8 in (
+        length text,
+        (
+          count,
+          pad ++ in_order (characters text) then,
+          refl,
+          whole_encodes 1 most (length text) place some few small,
+          (pad, in_order (characters text) then, refl, length-replicate (pad_length after) false, characters_here text fit then),
+        ),
+      );
 }
 
 pub identifier_written : (text : List ℕ) → 1 ≤ length text → length text ≤ 128 → AllByRecursion (λ x. x < 65536) text → Writes sequences.identifier text (identifier text)
@@ -143,12 +150,34 @@ address_written address four fit port = record {
       let ip = canonical.octets_encoding address.ip place2 in
       let place3 = (place2 + length ip) % 8 in
       let last = canonical.whole_encoding 0 65535 address.port place3 in
-      let four_octets : (grammar.octets 4).encodes address.ip place2 ip = subst (λ (n : ℕ). (grammar.octets n).encodes address.ip place2 ip) four (octets_encode address.ip place2 fit) in
-      (false, (false ∷ [], index ++ (ip ++ (last ++ [])), refl, refl,
-        (0, (index, ip ++ (last ++ []), refl, whole_encodes 0 6 0 place1 (omega arith) (omega arith) (omega arith),
-          (address, (ip ++ (last ++ []), [], sym (append-nil (ip ++ (last ++ []))),
-            (address.ip, (ip, last ++ [], refl, four_octets, (address.port, (last, [], refl, whole_encodes 0 65535 address.port place3 (omega arith) port (omega arith), (refl, refl))))),
-            (refl, refl)))))));
+      let four_octets : (grammar.octets 4).encodes address.ip place2 ip = subst (λ (n : ℕ). (grammar.octets n).encodes address.ip place2 ip) four (octets_encode address.ip place2 fit) in (
+        false,
+        (
+          false ∷ [],
+          index ++ (ip ++ (last ++ [])),
+          refl,
+          refl,
+          (
+            0,
+            (
+              index,
+              ip ++ (last ++ []),
+              refl,
+              whole_encodes 0 6 0 place1 (omega arith) (omega arith) (omega arith),
+              (
+                address,
+                (
+                  ip ++ (last ++ []),
+                  [],
+                  sym (append-nil (ip ++ (last ++ []))),
+                  (address.ip, (ip, last ++ [], refl, four_octets, (address.port, (last, [], refl, whole_encodes 0 65535 address.port place3 (omega arith) port (omega arith), (refl, refl))))),
+                  (refl, refl),
+                ),
+              ),
+            ),
+          ),
+        ),
+      );
 }
 
 -- ---- open types
@@ -186,9 +215,16 @@ open_here count es place few len =
     let front = canonical.length_encoding count place in
     let after = (place + length front) % 8 in
     let start : 0 ≡ after = sym (length_ends count place) in
-    let contents = octets_in count (in_order es 0) in
-    (count, (front, in_order es after, refl, length_encodes count place few,
-      subst (λ (n : ℕ). (grammar.octets count).encodes contents n (in_order es n)) start (octets_of_bits count (in_order es 0) len)))
+    let contents = octets_in count (in_order es 0) in (
+      count,
+      (
+        front,
+        in_order es after,
+        refl,
+        length_encodes count place few,
+        subst (λ (n : ℕ). (grammar.octets count).encodes contents n (in_order es n)) start (octets_of_bits count (in_order es 0) len),
+      ),
+    )
 
 pub inside_written : {A : Type 0} (g : Grammar A) {x : A} (count : ℕ) (es : List Encoding) → count < 16384 → length (in_order es 0) ≡ 8 * count
     → Writes g x es → Writes (grammar.inside g) x (encoding.size count ∷ es)
@@ -223,3 +259,38 @@ additions_written present more e len few is = record {
       let there : (grammar.each (more + 1) grammar.boolean).encodes present after present = subst (λ (n : ℕ). (grammar.each n grammar.boolean).encodes present after present) len (presence_here present after) in
       (more, (front, e after ++ [], refl, small_encodes more place few, subst (λ (t : List Bool). (grammar.each (more + 1) grammar.boolean).encodes present after t) (sym all) there));
 }
+
+-- a list of one address
+pub one_address_written : (address : Address) → length address.ip ≡ 4 → AllByRecursion (λ x. x < 256) address.ip → address.port ≤ 65535
+    → Writes addresses.address_list (Some address) (encoding.size 1 ∷ transport_address address)
+unfolding addresses.address_list
+one_address_written address four fit port = record {
+  here = λ place _.
+      let front = canonical.length_encoding 1 place in
+      let after = (place + length front) % 8 in
+      let rest = in_order (transport_address address) after in
+      let item = (address_written address four fit port).here after (below_eight (place + length front)) in (
+        1,
+        (
+          front,
+          rest,
+          refl,
+          length_encodes 1 place (omega arith),
+          (
+            Some address ∷ [],
+            (
+              rest,
+              [],
+              sym (append-nil rest),
+              (Some address, (rest, [], sym (append-nil rest), item, ([], ([], [], refl, (refl, refl), (refl, refl))))),
+              (refl, refl),
+            ),
+          ),
+        ),
+      );
+}
+
+-- a part that stands with others in brackets
+pub part_of : {A B : Type 0} {first : Grammar A} (next : A → Grammar B) {x : A} {y : B} {xs : List Encoding} (ys zs : List Encoding)
+    → Writes first x xs → Writes (next x) y (ys ++ zs) → Writes (first >>= next) y ((xs ++ ys) ++ zs)
+part_of {A} {B} {first} next {x} {y} {xs} ys zs p q = subst (λ (t : List Encoding). Writes (first >>= next) y t) (sym (append_assoc xs ys zs)) (part next p q)

@@ -1,5 +1,4 @@
 -- One value and then another, as in Grammar. Proofs about replies see the chain of components, and not what it computes to.
-use Rattle.ras_codec.specs.Grammar as grammar
 use Rattle.ras_codec.specs.Grammar.{Grammar}
 use Rattle.ras_codec.specs.Forms.{EncodesBoth, both_reading}
 use Rattle.ras_codec.specs.Exact.{both_exact}

@@ -1,5 +1,5 @@
 -- Which bits encode the replies of the gatekeeper (H.225.0), component by component, as a decoder takes them.
-use Rattle.std.specs.Prelude.{ℕ, List, Bool, true, false, Option, Some, None, ◌||◌}
+use Rattle.std.specs.Prelude.{ℕ, Bool, true, Option, Some, None, ◌||◌}
 use Rattle.ras_module.specs.declared.address.Address.{Address}
 use Rattle.ras_module.specs.declared.reason.GatekeeperRejectReason.{GatekeeperRejectReason}
 use Rattle.ras_module.specs.declared.reason.GatekeeperRejectReason.TheVariants as gatekeeper
@@ -138,8 +138,8 @@ registration_reject_reason = do
     index ← small
     null ← skipped true open_type
     later_reason index) (do
-    index ← choice_index 7
-    registration_reason index)
+      index ← choice_index 7
+      registration_reason index)
 
 -- RegistrationConfirm; that of this gatekeeper has its gatekeeperIdentifier and a timeToLive
 unfoldable pub registration_confirm : Grammar Reply
