@@ -1,5 +1,6 @@
 -- What is written for aliases is an encoding of them.
-use Rattle.std.proofs.Common.{◌≡◌, ℕ, ◌+◌, ◌%◌, ◌≤◌, ◌<◌, List, [], ◌∷◌, ◌++◌, false, length, nat_lt, refl, sym, ap, append-nil, arith, Some, map}
+use Rattle.std.proofs.Common.{◌≡◌, ℕ, ◌+◌, ◌%◌, ◌≤◌, ◌<◌, List, [], ◌∷◌, ◌++◌, false, length}
+use Rattle.std.proofs.Common.{nat_lt, refl, sym, ap, append-nil, arith, Some, map}
 use Rattle.std.specs.Prelude.{IsTrue}
 use Rattle.std.specs.List.{AllByRecursion}
 use Rattle.std.proofs.lemmas.List.{length-replicate}
@@ -16,7 +17,8 @@ use Rattle.ras_codec.specs.Aliases as aliases
 use Rattle.ras_codec.specs.Aliases.{digit_of, served_in}
 use Rattle.ras_codec.specs.Encoding.{in_order}
 use Rattle.ras_codec.specs.Encoding as encoding
-use Rattle.ras_codec.specs.Replies.{digit_code, digits, bmp_string, alias_address, alias_addresses, alias_list}
+use Rattle.ras_codec.specs.Replies.{digit_code, digits, bmp_string, alias_address, alias_addresses}
+use Rattle.ras_codec.specs.Replies.{alias_list}
 use Rattle.ras_codec.specs.Properties.{IsAlias, IsDigits, AreAliases}
 use Rattle.ras_codec.proofs.Dialled.{both_true}
 use Rattle.ras_codec.proofs.Written.{Writes, bmp_written, in_order-append}
@@ -27,25 +29,31 @@ code_few c h = grind (arith, nat_tests)
 code_back : (c : ℕ) → IsTrue (is_dialled c) → digit_of (digit_code c) ≡ c
 code_back c h = grind (arith, nat_tests)
 
-digit_here : (c place : ℕ) → IsTrue (is_dialled c) → aliases.digit.encodes c place (binary 4 (digit_code c))
+digit_here : (c place : ℕ) → IsTrue (is_dialled c) → aliases.digit.encodes c place (binary 4
+    (digit_code c))
 unfolding aliases.digit
 digit_here c place h =
     let code = digit_code c in
     let few = code_few c h in
     let bits = binary 4 code in
     let test : nat_lt 12 code ≡ false = le-ltb 12 code few in
-    (code, (bits, [], sym (append-nil bits), binary_encodes 4 code place (omega arith), rw test (sym (code_back c h), refl)))
+    (code, (bits, [], sym (append-nil bits), binary_encodes 4 code place (omega arith), rw test
+        (sym (code_back c h), refl)))
 
-digits_here : (text : List ℕ) → AreDialled text → (place : ℕ) → (grammar.each (length text) aliases.digit).encodes text place (in_order (digits text) place)
+digits_here : (text : List ℕ) → AreDialled text → (place : ℕ) → (grammar.each
+    (length text) aliases.digit).encodes text place (in_order (digits text) place)
 digits_here [] h place = (refl, refl)
 digits_here (x ∷ xs) h place =
     let p = both_true (is_dialled x) _ h in
     let here = binary 4 (digit_code x) in
     let after = (place + length here) % 8 in
     let rest = in_order (digits xs) after in
-    (x, (here, rest, refl, digit_here x place p.0, (xs, (rest, [], sym (append-nil rest), digits_here xs p.1 after, (refl, refl)))))
+    (x, (here, rest, refl, digit_here x place p.0, (xs, (rest, [], sym
+        (append-nil rest), digits_here xs p.1 after, (refl, refl)))))
 
-dialled_here : (text : List ℕ) → IsDigits text → (place : ℕ) → aliases.dialled_digits.encodes text place (in_order (encoding.whole 1 128 (length text) ∷ encoding.align ∷ digits text) place)
+dialled_here : (text : List ℕ) → IsDigits text → (place : ℕ)
+    → aliases.dialled_digits.encodes text place (in_order (encoding.whole 1 128
+    (length text) ∷ encoding.align ∷ digits text) place)
 unfolding aliases.dialled_digits
 dialled_here text h place =
     let count = canonical.whole_encoding 1 128 (length text) place in
@@ -58,17 +66,20 @@ dialled_here text h place =
         pad ++ in_order (digits text) then,
         refl,
         whole_encodes 1 128 (length text) place h.some h.few (omega arith),
-        (pad, in_order (digits text) then, refl, length-replicate (pad_length after) false, digits_here text h.dialled then),
+        (pad, in_order (digits text) then, refl, length-replicate
+            (pad_length after) false, digits_here text h.dialled then),
       ),
     )
 
-pub alias_here : (alias : Alias) → IsAlias alias → (place : ℕ) → aliases.alias_address.encodes (Some alias) place (in_order (alias_address alias) place)
+pub alias_here : (alias : Alias) → IsAlias alias → (place : ℕ) → aliases.alias_address.encodes
+    (Some alias) place (in_order (alias_address alias) place)
 unfolding aliases.alias_address alias_address
 alias_here (Digits text) h place =
     let place1 = (place + 1) % 8 in
     let index = canonical.whole_encoding 0 1 0 place1 in
     let place2 = (place1 + length index) % 8 in
-    let rest = in_order (encoding.whole 1 128 (length text) ∷ encoding.align ∷ digits text) place2 in (
+    let rest = in_order (encoding.whole 1 128 (length text) ∷ encoding.align ∷ digits text) place2
+        in (
       false,
       (
         false ∷ [],
@@ -105,14 +116,16 @@ alias_here (H323Id text) h place =
             rest,
             refl,
             whole_encodes 0 1 1 place1 (omega arith) (omega arith) (omega arith),
-            (text, (rest, [], sym (append-nil rest), (bmp_written 256 text h.some h.few (omega arith) h.fit).here place2 (omega arith), (refl, refl))),
+            (text, (rest, [], sym (append-nil rest), (bmp_written 256 text h.some h.few
+                (omega arith) h.fit).here place2 (omega arith), (refl, refl))),
           ),
         ),
       ),
     )
 
 each_here : (list : List Alias) → AllByRecursion IsAlias list → (place : ℕ) → place < 8
-    → (grammar.each (length list) aliases.alias_address).encodes (map Some list) place (in_order (alias_addresses list) place)
+    → (grammar.each (length list) aliases.alias_address).encodes (map Some list) place (in_order
+        (alias_addresses list) place)
 each_here [] h place small = (refl, refl)
 each_here (x ∷ xs) h place small =
     let here = in_order (alias_address x) place in
@@ -124,7 +137,8 @@ each_here (x ∷ xs) h place small =
         rest,
         in_order-append (alias_address x) (alias_addresses xs) place small,
         alias_here x h.0 place,
-        (map Some xs, (rest, [], sym (append-nil rest), each_here xs h.1 after (omega arith), (refl, refl))),
+        (map Some xs, (rest, [], sym (append-nil rest), each_here xs h.1 after (omega arith),
+            (refl, refl))),
       ),
     )
 
@@ -132,7 +146,8 @@ served_in-all : (list : List Alias) → served_in (map Some list) ≡ list
 served_in-all [] = refl
 served_in-all (x ∷ xs) = ap (λ (t : List Alias). x ∷ t) (served_in-all xs)
 
-pub aliases_written : (list : List Alias) → AreAliases list → Writes aliases.alias_list list (alias_list list)
+pub aliases_written : (list : List Alias) → AreAliases list → Writes aliases.alias_list list
+    (alias_list list)
 unfolding aliases.alias_list
 aliases_written list h = record {
   here = λ place _.
@@ -145,7 +160,8 @@ aliases_written list h = record {
           rest,
           refl,
           length_encodes (length list) place (omega (arith, h.few)),
-          (map Some list, (rest, [], sym (append-nil rest), each_here list h.each after (omega arith), (sym (served_in-all list), refl))),
+          (map Some list, (rest, [], sym (append-nil rest), each_here list h.each after
+              (omega arith), (sym (served_in-all list), refl))),
         ),
       );
 }

@@ -1,11 +1,15 @@
 -- All messages of RAS (H.225.0, RasMessage).
-use Rattle.std.specs.Prelude.{ℕ, ◌≡◌, ◌≤◌, ◌⊎◌, List, [], ◌∷◌, ◌++◌, Bool, true, false, length, nat_eq, Option, Some, None, Result, Ok, Err}
+use Rattle.std.specs.Prelude.{ℕ, ◌≡◌, ◌≤◌, ◌⊎◌, List, [], ◌∷◌, ◌++◌, Bool, true, false, length}
+use Rattle.std.specs.Prelude.{nat_eq, Option, Some, None, Result, Ok, Err}
 use Rattle.std.specs.List.{list_any}
 use Rattle.per_bits.specs.Bits.{bits_of, number}
 use Rattle.ras_module.specs.declared.request.Request.{Request}
 use Rattle.ras_codec.specs.declared.fault.ReadFault.{ReadFault}
-use Rattle.ras_codec.specs.Grammar.{Grammar, ◌>>=◌, is, boolean, choice_index, either, if◌equals◌take◌else◌}
-use Rattle.ras_codec.specs.Requests.{gatekeeper_request, registration_request, unregistration_request, admission_request, bandwidth_request, disengage_request, info_request_response}
+use Rattle.ras_codec.specs.Grammar.{Grammar, ◌>>=◌, is, boolean, choice_index, either}
+use Rattle.ras_codec.specs.Grammar.{if◌equals◌take◌else◌}
+use Rattle.ras_codec.specs.Requests.{gatekeeper_request, registration_request}
+use Rattle.ras_codec.specs.Requests.{unregistration_request, admission_request, bandwidth_request}
+use Rattle.ras_codec.specs.Requests.{disengage_request, info_request_response}
 
 abbrev pub served : Grammar Request → Grammar (Option Request)
 served message = do
@@ -51,7 +55,8 @@ message_reading octets = value_of (ras_message.reading (bits_of octets))
 
 -- A prefix of the bits of the octets encodes the request.
 abbrev pub Reads : List ℕ → Request → Type 0
-Reads octets request = (front : List Bool) × (rest : List Bool) × (bits_of octets ≡ front ++ rest) × ras_message.encodes (Some request) 0 front
+Reads octets request = (front : List Bool) × (rest : List Bool) × (bits_of octets ≡ front ++ rest)
+    × ras_message.encodes (Some request) 0 front
 
 -- whether the message of a root index is served: GRQ, RRQ, URQ, ARQ, BRQ, DRQ, IRR
 abbrev pub is_served : ℕ → Bool

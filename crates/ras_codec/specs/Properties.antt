@@ -10,7 +10,8 @@ use Rattle.ras_module.specs.declared.reason.RegistrationRejectReason.{Registrati
 use Rattle.ras_module.specs.declared.reason.RegistrationRejectReason.TheVariants.{DuplicateAlias}
 use Rattle.ras_module.specs.DialledDigits.{AreDialled}
 use Rattle.ras_module.specs.declared.reply.Reply.{Reply}
-use Rattle.ras_module.specs.declared.reply.Reply.TheVariants.{Gcf, Grj, Rcf, Rrj, Ucf, Urj, Acf, Arj, Bcf, Brj, Dcf, Drj, Irq, Rip}
+use Rattle.ras_module.specs.declared.reply.Reply.TheVariants.{Gcf, Grj, Rcf, Rrj, Ucf, Urj, Acf}
+use Rattle.ras_module.specs.declared.reply.Reply.TheVariants.{Arj, Bcf, Brj, Dcf, Drj, Irq, Rip}
 use Rattle.ras_codec.specs.Replies.{encoding_of}
 use Rattle.ras_codec.specs.ReplyGrammar.{reply_message}
 
@@ -53,7 +54,8 @@ abbrev pub IsReason : RegistrationRejectReason → Type 0
 IsReason (DuplicateAlias held) = AreAliases held
 IsReason other = Unit {0}
 
-pub record IsRegistrationConfirm (seq : ℕ) (call_signal : Address) (aliases : List Alias) (gatekeeper endpoint : List ℕ) (granted : ℕ) : Type 0 where
+pub record IsRegistrationConfirm (seq : ℕ) (call_signal : Address) (aliases : List Alias)
+    (gatekeeper endpoint : List ℕ) (granted : ℕ) : Type 0 where
   pub numbered : IsSeq seq
   pub located : IsAddress call_signal
   pub named : AreAliases aliases
@@ -65,7 +67,8 @@ pub record IsRegistrationConfirm (seq : ℕ) (call_signal : Address) (aliases : 
 abbrev pub IsReply : Reply → Type 0
 IsReply (Gcf seq gatekeeper ras) = IsSeq seq × IsName gatekeeper × IsAddress ras
 IsReply (Grj seq reason) = IsSeq seq
-IsReply (Rcf seq call_signal aliases gatekeeper endpoint granted) = IsRegistrationConfirm seq call_signal aliases gatekeeper endpoint granted
+IsReply (Rcf seq call_signal aliases gatekeeper endpoint granted) = IsRegistrationConfirm seq
+    call_signal aliases gatekeeper endpoint granted
 IsReply (Rrj seq reason) = IsSeq seq × IsReason reason
 IsReply (Ucf seq) = IsSeq seq
 IsReply (Urj seq reason) = IsSeq seq

@@ -1,4 +1,5 @@
--- Which bits encode the replies of the gatekeeper (H.225.0), component by component, as a decoder takes them.
+-- Which bits encode the replies of the gatekeeper (H.225.0), component by component, as a
+-- decoder takes them.
 use Rattle.std.specs.Prelude.{ℕ, Bool, true, Option, Some, None, ◌||◌}
 use Rattle.ras_module.specs.declared.address.Address.{Address}
 use Rattle.ras_module.specs.declared.reason.GatekeeperRejectReason.{GatekeeperRejectReason}
@@ -14,11 +15,15 @@ use Rattle.ras_module.specs.declared.reason.BandRejectReason.TheVariants as band
 use Rattle.ras_module.specs.declared.reason.DisengageRejectReason.{DisengageRejectReason}
 use Rattle.ras_module.specs.declared.reason.DisengageRejectReason.TheVariants as disengage
 use Rattle.ras_module.specs.declared.reply.Reply.{Reply}
-use Rattle.ras_module.specs.declared.reply.Reply.TheVariants.{Gcf, Grj, Rcf, Rrj, Ucf, Urj, Acf, Arj, Bcf, Brj, Dcf, Drj, Irq, Rip}
+use Rattle.ras_module.specs.declared.reply.Reply.TheVariants.{Gcf, Grj, Rcf, Rrj, Ucf, Urj, Acf}
+use Rattle.ras_module.specs.declared.reply.Reply.TheVariants.{Arj, Bcf, Brj, Dcf, Drj, Irq, Rip}
 use Rattle.ras_codec.specs.declared.fault.ReadFault.TheVariants.{BadChoice}
-use Rattle.ras_codec.specs.Grammar.{Grammar, is, nothing, failure, small, inside, open_type, boolean, whole, choice_index, either, if◌equals◌take◌else◌, skipped}
+use Rattle.ras_codec.specs.Grammar.{Grammar, is, nothing, failure, small, inside, open_type}
+use Rattle.ras_codec.specs.Grammar.{boolean, whole, choice_index, either, if◌equals◌take◌else◌}
+use Rattle.ras_codec.specs.Grammar.{skipped}
 use Rattle.ras_codec.specs.Chain.{◌>>=◌}
-use Rattle.ras_codec.specs.Sequences.{additions, is_present, skipped_addition, request_seq_num, protocol_identifier, identifier, non_standard_parameter}
+use Rattle.ras_codec.specs.Sequences.{additions, is_present, skipped_addition, request_seq_num}
+use Rattle.ras_codec.specs.Sequences.{protocol_identifier, identifier, non_standard_parameter}
 use Rattle.ras_codec.specs.Addresses.{transport_address, address_list}
 use Rattle.ras_codec.specs.Aliases.{alias_list, optional_aliases}
 use Rattle.ras_codec.specs.Requests.{band_width, call_reference, time_to_live}
@@ -251,7 +256,8 @@ disengage_reject = do
 abbrev pub call_model : ℕ → Grammar (Unit {0})
 call_model index = if index equals 0 take nothing else no_reply
 
--- AdmissionConfirm: requestSeqNum, bandWidth, callModel, destCallSignalAddress, irrFrequency?, nonStandardData?; additions up
+-- AdmissionConfirm: requestSeqNum, bandWidth, callModel, destCallSignalAddress, irrFrequency?,
+-- nonStandardData?; additions up
 -- to 10
 unfoldable pub admission_confirm : Grammar Reply
 admission_confirm = do
@@ -278,7 +284,8 @@ admission_confirm = do
   uuies_requested ← skipped_addition present 10
   is (Acf seq units dest)
 
--- InfoRequest: requestSeqNum, callReferenceValue, nonStandardData?, replyAddress?; addition 0 callIdentifier
+-- InfoRequest: requestSeqNum, callReferenceValue, nonStandardData?, replyAddress?; addition 0
+-- callIdentifier
 unfoldable pub info_request : Grammar Reply
 info_request = do
   extended ← boolean
@@ -292,7 +299,8 @@ info_request = do
   guid ← skipped_addition present 0
   is (Irq seq)
 
--- RequestInProgress: requestSeqNum, nonStandardData?, tokens?, cryptoTokens?, integrityCheckValue?, delay; with tokens or a
+-- RequestInProgress: requestSeqNum, nonStandardData?, tokens?, cryptoTokens?,
+-- integrityCheckValue?, delay; with tokens or a
 -- check value it is none of this gatekeeper
 unfoldable pub request_in_progress : Grammar Reply
 request_in_progress = do

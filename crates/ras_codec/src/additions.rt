@@ -4,7 +4,8 @@ ghost use Rattle.std.specs.Prelude.{◌≡◌, ◌≤◌};
 ghost use Rattle.per_bits.specs.Readings.{Gives};
 ghost use Rattle.ras_codec.specs.Faults.{front_of};
 ghost use Rattle.ras_codec.specs.Grammar.{boolean, each, skipped, open_type};
-ghost use Rattle.ras_codec.specs.Sequences.{additions, is_present, skipped_addition, skipped_additions, skipped_each};
+ghost use Rattle.ras_codec.specs.Sequences.{additions, is_present, skipped_addition};
+ghost use Rattle.ras_codec.specs.Sequences.{skipped_additions, skipped_each};
 
 use crate::decoder::Decoder;
 use crate::fault::ReadFault;

@@ -12,5 +12,6 @@ pub fn written_reads_back()
 
 /// Two replies with the same octets are one.
 pub fn one_reply()
-    ensures { (a : Reply) (b : Reply) → IsReply a → IsReply b → encoding_of a ≡ encoding_of b → a ≡ b }
+    ensures { (a : Reply) (b : Reply) → IsReply a → IsReply b → encoding_of a ≡ encoding_of b → a
+        ≡ b }
 {}

@@ -2,7 +2,8 @@
 
 ghost use Rattle.std.specs.Prelude.{◌≡◌, ◌⊎◌, IfErr};
 ghost use Rattle.ras_codec.specs.Faults.{GivesUnlessMemory, IsUnlessMemory};
-ghost use Rattle.ras_codec.specs.Messages.{ras_message, root_message, message_reading, Reads, NotServed, IsFaulty};
+ghost use Rattle.ras_codec.specs.Messages.{ras_message, root_message, message_reading, Reads};
+ghost use Rattle.ras_codec.specs.Messages.{NotServed, IsFaulty};
 ghost use Rattle.ras_module.specs.declared.request.Request.{Request};
 ghost use Rattle.ras_codec.specs.declared.fault.ReadFault.TheVariants.{Memory};
 
@@ -57,13 +58,15 @@ fn message(alloc: Global, octets: &[u8]) -> Result<Option<Request>, ReadFault>
     ras_message(alloc, &mut decoder)
 }
 
-/// The request that octets begin with, or None where they are a message that is not served. What follows
+/// The request that octets begin with, or None where they are a message that is not served. What
+/// follows
 /// is not read.
 pub fn read(alloc: Global, octets: &[u8]) -> Result<Option<Request>, ReadFault>
     ensures gives { IsUnlessMemory (message_reading octets.now) result }
 
     ensures request { (request : Request) → result ≡ Ok (Some request) → Reads octets.now request }
-    ensures each_request { (request : Request) → Reads octets.now request → IsUnlessMemory (Ok (Some request)) result }
+    ensures each_request { (request : Request) → Reads octets.now request → IsUnlessMemory (Ok
+        (Some request)) result }
 
     ensures not_served { result ≡ Ok None → NotServed octets.now }
     ensures each_other { NotServed octets.now → IsUnlessMemory (Ok None) result }

@@ -4,7 +4,11 @@ ghost use Rattle.ras_codec.specs.Faults.{GivesUnlessMemory};
 ghost use Rattle.ras_codec.specs.Grammar.{boolean};
 ghost use Rattle.ras_codec.specs.Sequences.{addition, identifier};
 ghost use Rattle.per_bits.specs.Readings.{Gives};
-ghost use Rattle.ras_codec.specs.Requests.{gatekeeper_request, registration_additions, registration_request, unregistration_request, admission_preamble, admission_request, time_to_live, bandwidth_request, disengage_request, info_request_response};
+ghost use Rattle.ras_codec.specs.Requests.{gatekeeper_request, registration_additions};
+ghost use Rattle.ras_codec.specs.Requests.{registration_request, unregistration_request};
+ghost use Rattle.ras_codec.specs.Requests.{admission_preamble, admission_request, time_to_live};
+ghost use Rattle.ras_codec.specs.Requests.{bandwidth_request, disengage_request};
+ghost use Rattle.ras_codec.specs.Requests.{info_request_response};
 
 use crate::additions::{PresentAdditions, additions, skip_addition};
 use crate::address::{address_list, optional_address, transport_address};
@@ -57,7 +61,8 @@ fn time_to_live_at(
     present: &PresentAdditions,
     index: usize,
 ) -> Result<Option<TimeToLive>, ReadFault>
-    ensures { Gives (addition present.now index time_to_live).reading decoder.old result decoder.new }
+    ensures { Gives (addition present.now index time_to_live).reading decoder.old result
+        decoder.new }
 {
     if !present.is_present(index) {
         return Ok(None);

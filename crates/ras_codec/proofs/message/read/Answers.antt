@@ -1,4 +1,5 @@
-use Rattle.ras_codec.proofs.Meaning.{reads_request, reads_each, reads_other, reads_each_other, reads_faulty}
+use Rattle.ras_codec.proofs.Meaning.{reads_request, reads_each, reads_other, reads_each_other}
+use Rattle.ras_codec.proofs.Meaning.{reads_faulty}
 use Rattle.ras_codec.proofs.message.read.Goals as goal
 
 pub returns-clause-request : goal.returns-clause-request
