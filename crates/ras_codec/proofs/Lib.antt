@@ -5,6 +5,7 @@ pub mod Firsts
 pub mod Kept
 pub mod Meaning
 pub mod Octets
+pub mod Rooms
 pub mod Widths
 pub mod AliasesWritten
 pub mod Written

@@ -1,6 +1,7 @@
 //! What holds of the octets of replies, whatever is written.
 
-ghost use Rattle.std.specs.Prelude.{◌≡◌};
+ghost use Rattle.std.specs.Prelude.{◌≡◌, ◌≤◌, length};
+ghost use Rattle.ras_module.specs.Rooms.{room_of};
 ghost use Rattle.ras_module.specs.declared.reply.Reply.{Reply};
 ghost use Rattle.ras_codec.specs.Replies.{encoding_of};
 ghost use Rattle.ras_codec.specs.Properties.{IsReply, ReadsBack};
@@ -14,4 +15,9 @@ pub fn written_reads_back()
 pub fn one_reply()
     ensures { (a : Reply) (b : Reply) → IsReply a → IsReply b → encoding_of a ≡ encoding_of b → a
         ≡ b }
+{}
+
+/// A reply has no more octets than its room.
+pub fn room_is_enough()
+    ensures { (reply : Reply) → IsReply reply → length (encoding_of reply) ≤ room_of reply }
 {}

@@ -16,7 +16,7 @@ mod request;
 mod sequence;
 
 pub use fault::ReadFault;
-pub use laws::{one_reply, written_reads_back};
+pub use laws::{one_reply, room_is_enough, written_reads_back};
 pub use message::read;
 pub use reply::write_into;
 
