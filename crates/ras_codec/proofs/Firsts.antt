@@ -6,7 +6,8 @@ use Rattle.ras_codec.specs.Addresses.{first_of}
 use Rattle.std.proofs.Common.{Option}
 use Rattle.ras_codec.proofs.Each.{fold_list}
 
-fold_list-option_or-some : (a : Address) (xs : List (Option Address)) → fold_list option_or (Some a) xs ≡ Some a
+fold_list-option_or-some : (a : Address) (xs : List (Option Address)) → fold_list option_or
+    (Some a) xs ≡ Some a
 fold_list-option_or-some a [] = refl
 fold_list-option_or-some a (x ∷ xs) = fold_list-option_or-some a xs
 

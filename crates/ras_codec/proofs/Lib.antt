@@ -3,5 +3,10 @@ pub mod Dialled
 pub mod Each
 pub mod Firsts
 pub mod Kept
+pub mod Meaning
 pub mod Octets
+pub mod Rooms
 pub mod Widths
+pub mod AliasesWritten
+pub mod Written
+pub mod RepliesRead

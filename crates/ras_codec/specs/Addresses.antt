@@ -1,8 +1,10 @@
 -- Transport addresses (H.225.0, TransportAddress).
 use Rattle.std.specs.Prelude.{ℕ, List, [], ◌∷◌, Bool, Option, Some, None}
 use Rattle.ras_module.specs.declared.address.Address.{Address}
-use Rattle.ras_codec.specs.Grammar.{Grammar, ◌>>=◌, is, nothing, boolean, bits, whole, length, octets, each, either, if◌equals◌take◌else◌}
-use Rattle.ras_codec.specs.Sequences.{list_skipped, choice, null_choice, skipped_additions, sized_octet_string, non_standard_parameter}
+use Rattle.ras_codec.specs.Grammar.{Grammar, ◌>>=◌, is, nothing, boolean, bits, whole, length}
+use Rattle.ras_codec.specs.Grammar.{octets, each, either, if◌equals◌take◌else◌}
+use Rattle.ras_codec.specs.Sequences.{list_skipped, choice, null_choice, skipped_additions}
+use Rattle.ras_codec.specs.Sequences.{sized_octet_string, non_standard_parameter}
 
 -- ipAddress: ip, port
 unfoldable pub ip_address : Grammar Address

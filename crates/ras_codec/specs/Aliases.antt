@@ -1,9 +1,11 @@
 -- Aliases (H.225.0, AliasAddress).
-use Rattle.std.specs.Prelude.{ℕ, ◌+◌, List, [], ◌∷◌, ◌++◌, Bool, Option, Some, None, nat_eq, nat_lt, if◌then◌else◌}
+use Rattle.std.specs.Prelude.{ℕ, ◌+◌, List, [], ◌∷◌, ◌++◌, Bool, Option, Some, None, nat_eq, nat_lt}
+use Rattle.std.specs.Prelude.{if◌then◌else◌}
 use Rattle.ras_module.specs.declared.alias.Alias.{Alias}
 use Rattle.ras_module.specs.declared.alias.Alias.TheVariants.{Digits, H323Id}
 use Rattle.ras_codec.specs.declared.fault.ReadFault.TheVariants.{BadCharacter}
-use Rattle.ras_codec.specs.Grammar.{Grammar, ◌>>=◌, is, failure, bits, whole, length, aligned, each, either, if◌equals◌take◌else◌}
+use Rattle.ras_codec.specs.Grammar.{Grammar, ◌>>=◌, is, failure, bits, whole, length, aligned, each}
+use Rattle.ras_codec.specs.Grammar.{either, if◌equals◌take◌else◌}
 use Rattle.ras_codec.specs.Sequences.{list_skipped, choice, bmp_string}
 
 -- the character of a code, in the order of the permitted alphabet: # * , 0 to 9

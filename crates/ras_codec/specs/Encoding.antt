@@ -49,4 +49,5 @@ behind (component ∷ others) bits = behind others (bits ++ component (length bi
 
 -- The components stand behind what was there, for which at most so many bits of room were used.
 abbrev pub Writes : ℕ → List Encoding → Written → Written → Type 0
-Writes most components old new = (new.bits ≡ behind components old.bits) × (old.room ≤ new.room + most)
+Writes most components old new = (new.bits ≡ behind components old.bits) ×
+    (old.room ≤ new.room + most)

@@ -1,6 +1,7 @@
 -- What an endpoint is (H.225.0, EndpointType). It is read and dropped.
 use Rattle.ras_codec.specs.Grammar.{Grammar, ◌>>=◌, boolean, if◌equals◌take◌else◌, skipped}
-use Rattle.ras_codec.specs.Sequences.{list_skipped, choice, skipped_additions, sized_octet_string, h221_non_standard, non_standard_parameter}
+use Rattle.ras_codec.specs.Sequences.{list_skipped, choice, skipped_additions, sized_octet_string}
+use Rattle.ras_codec.specs.Sequences.{h221_non_standard, non_standard_parameter}
 
 -- VendorIdentifier: vendor, productId?, versionId?
 unfoldable pub vendor_identifier : Grammar (Unit {0})
@@ -41,7 +42,8 @@ gateway_info = do
   non_standard_data ← skipped has_non_standard_data non_standard_parameter
   skipped_additions extended
 
--- EndpointType: nonStandardData?, vendor?, gatekeeper?, gateway?, mcu?, terminal?, mc, undefinedNode
+-- EndpointType: nonStandardData?, vendor?, gatekeeper?, gateway?, mcu?, terminal?, mc,
+-- undefinedNode
 unfoldable pub endpoint_type : Grammar (Unit {0})
 endpoint_type = do
   extended ← boolean

@@ -4,7 +4,8 @@ use Rattle.std.specs.Borrow.{Bor}
 use Rattle.per_bits.specs.declared.fault.ReadFault.{ReadFault as BitFault}
 use Rattle.per_bits.specs.declared.fault.ReadFault.TheVariants as bit
 use Rattle.ras_codec.specs.declared.fault.ReadFault.{ReadFault}
-use Rattle.ras_codec.specs.declared.fault.ReadFault.TheVariants.{Truncated, BadLength, Fragmented, TooMany, BadChoice, Memory}
+use Rattle.ras_codec.specs.declared.fault.ReadFault.TheVariants.{Truncated, BadLength, Fragmented}
+use Rattle.ras_codec.specs.declared.fault.ReadFault.TheVariants.{TooMany, BadChoice, Memory}
 
 abbrev pub fault_of : BitFault → ReadFault
 fault_of bit.Truncated = Truncated
@@ -38,12 +39,15 @@ abbrev pub front_of : {A : Type 0} → ℕ → Result (List A) ReadFault → Res
 front_of count (Ok characters) = Ok (take count characters)
 front_of count (Err fault) = Err fault
 
--- What reading returned is what the reading function gives, and the decoder is behind it; after a fault it is where it was.
+-- What reading returned is what the reading function gives, and the decoder is behind it; after
+-- a fault it is where it was.
 -- A fault may be that memory was wanting, of which the reading function knows nothing.
-abbrev pub GivesUnlessMemory : {A : Type 0} → (List Bool → Result (A × List Bool) ReadFault) → List Bool
+abbrev pub GivesUnlessMemory : {A : Type 0} → (List Bool → Result (A × List Bool) ReadFault)
+    → List Bool
     → Result A ReadFault → List Bool → Type 0
 GivesUnlessMemory reading old (Ok x) new = reading old ≡ Ok (x, new)
-GivesUnlessMemory reading old (Err fault) new = ((fault ≡ Memory) ⊎ (reading old ≡ Err fault)) × (new ≡ old)
+GivesUnlessMemory reading old (Err fault) new = ((fault ≡ Memory) ⊎ (reading old ≡ Err fault)) ×
+    (new ≡ old)
 
 -- The result is this one, unless memory was wanting.
 abbrev pub IsUnlessMemory : {A : Type 0} → Result A ReadFault → Result A ReadFault → Type 0

@@ -7,7 +7,8 @@ use Rattle.ras_codec.specs.declared.fault.ReadFault.{ReadFault}
 use Rattle.ras_codec.specs.Faults.{lifted}
 
 -- the bits of one value, and then those of another
-abbrev pub EncodesBoth : {A B : Type 0} → (A → ℕ → List Bool → Type 0) → (A → B → ℕ → List Bool → Type 0)
+abbrev pub EncodesBoth : {A B : Type 0} → (A → ℕ → List Bool → Type 0) → (A → B → ℕ → List Bool
+    → Type 0)
     → B → ℕ → List Bool → Type 0
 EncodesBoth {A} first next y place bits = (x : A) × Then (first x) (next x y) place bits
 
@@ -19,10 +20,12 @@ EncodesNothing x y place bits = (y ≡ x) × (bits ≡ [])
 abbrev pub EncodesInside : {A : Type 0} → (A → ℕ → List Bool → Type 0) → A → ℕ → List Bool → Type 0
 EncodesInside encodes x place bits =
     (octets : List ℕ) × EncodesOpenType octets place bits
-    × (front : List Bool) × (rest : List Bool) × (bits_of octets ≡ front ++ rest) × encodes x 0 front
+    × (front : List Bool) × (rest : List Bool) × (bits_of octets ≡ front ++ rest)
+        × encodes x 0 front
 
 abbrev pub both_reading : {A B : Type 0} → (List Bool → Result (A × List Bool) ReadFault)
-    → (A → List Bool → Result (B × List Bool) ReadFault) → List Bool → Result (B × List Bool) ReadFault
+    → (A → List Bool → Result (B × List Bool) ReadFault) → List Bool → Result (B
+        × List Bool) ReadFault
 both_reading first next bits = do
   x ← first bits
   next x.0 x.1

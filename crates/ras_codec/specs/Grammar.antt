@@ -1,14 +1,21 @@
 -- What a grammar is, and how grammars are put together.
-use Rattle.std.specs.Prelude.{ℕ, zero, suc, List, [], ◌∷◌, Bool, true, false, Option, Some, None, Result, Ok, Err, nat_eq}
-use Rattle.per_bits.specs.Encodes.{EncodesBit, EncodesNumber, EncodesWhole, EncodesLength, EncodesSmall, EncodesOctets, EncodesOpenType}
+use Rattle.std.specs.Prelude.{ℕ, zero, suc, List, [], ◌∷◌, Bool, true, false, Option, Some, None}
+use Rattle.std.specs.Prelude.{Result, Ok, Err, nat_eq}
+use Rattle.per_bits.specs.Encodes.{EncodesBit, EncodesNumber, EncodesWhole, EncodesLength}
+use Rattle.per_bits.specs.Encodes.{EncodesSmall, EncodesOctets, EncodesOpenType}
 use Rattle.per_bits.specs.Exact.{IsExact}
-use Rattle.per_bits.specs.Readings.{bit_reading, number_reading, whole_reading, length_reading, small_reading, octets_reading, open_type_reading}
+use Rattle.per_bits.specs.Readings.{bit_reading, number_reading, whole_reading, length_reading}
+use Rattle.per_bits.specs.Readings.{small_reading, octets_reading, open_type_reading}
 use Rattle.ras_codec.specs.declared.fault.ReadFault.{ReadFault}
 use Rattle.ras_codec.specs.Faults.{lifted, lifted_index}
-use Rattle.ras_codec.specs.Forms.{EncodesBoth, EncodesNothing, EncodesInside, EncodesAligned, both_reading, inside_reading, aligned_reading}
-use Rattle.ras_codec.specs.Exact.{both_exact, nothing_exact, failure_exact, inside_exact, aligned_exact, bit_lifts, index_lifts, number_lifts, whole_lifts, length_lifts, small_lifts, octets_lifts, open_type_lifts}
+use Rattle.ras_codec.specs.Forms.{EncodesBoth, EncodesNothing, EncodesInside, EncodesAligned}
+use Rattle.ras_codec.specs.Forms.{both_reading, inside_reading, aligned_reading}
+use Rattle.ras_codec.specs.Exact.{both_exact, nothing_exact, failure_exact, inside_exact}
+use Rattle.ras_codec.specs.Exact.{aligned_exact, bit_lifts, index_lifts, number_lifts, whole_lifts}
+use Rattle.ras_codec.specs.Exact.{length_lifts, small_lifts, octets_lifts, open_type_lifts}
 
--- The values of one type: which bits encode a value at a place of their octet, and how a value is read from the front of
+-- The values of one type: which bits encode a value at a place of their octet, and how a value
+-- is read from the front of
 -- bits that end with an octet. It is read exactly where bits at the front encode it.
 pub record Grammar (A : Type 0) : Type 1 where
   pub encodes : A → ℕ → List Bool → Type 0
@@ -21,57 +28,106 @@ abbrev pub ◌>>=◌ : {A B : Type 0} → Grammar A → (A → Grammar B) → Gr
 first >>= next = record {
   encodes = EncodesBoth first.encodes (λ x. (next x).encodes);
   reading = both_reading first.reading (λ x. (next x).reading);
-  exact = both_exact first.encodes first.reading (λ x. (next x).encodes) (λ x. (next x).reading) first.exact (λ x. (next x).exact);
+  exact = both_exact first.encodes first.reading (λ x. (next x).encodes) (λ x.
+      (next x).reading) first.exact (λ x. (next x).exact);
 }
 
 -- a value for which there are no bits
 abbrev pub is : {A : Type 0} → A → Grammar A
-is x = record { encodes = EncodesNothing x; reading = λ bits. Ok (x, bits); exact = nothing_exact x }
+is x = record {
+  encodes = EncodesNothing x;
+  reading = λ bits. Ok (x, bits);
+  exact = nothing_exact x;
+}
 
 -- no bits encode anything here
 abbrev pub failure : {A : Type 0} → ReadFault → Grammar A
-failure {A} fault = record { encodes = λ x place bits. ⊥; reading = λ bits. Err fault; exact = failure_exact {A = A} fault }
+failure {A} fault = record {
+  encodes = λ x place bits. ⊥;
+  reading = λ bits. Err fault;
+  exact = failure_exact {A = A} fault;
+}
 
 -- ---- the forms of X.691
 
 abbrev pub boolean : Grammar Bool
-boolean = record { encodes = EncodesBit; reading = λ bits. lifted (bit_reading bits); exact = bit_lifts }
+boolean = record {
+  encodes = EncodesBit;
+  reading = λ bits. lifted (bit_reading bits);
+  exact = bit_lifts;
+}
 
 -- a number in so many bits
 abbrev pub bits : ℕ → Grammar ℕ
-bits count = record { encodes = EncodesNumber count; reading = λ bits. lifted (number_reading count bits); exact = number_lifts count }
+bits count = record {
+  encodes = EncodesNumber count;
+  reading = λ bits. lifted (number_reading count bits);
+  exact = number_lifts count;
+}
 
 -- a constrained whole number
 abbrev pub whole : ℕ → ℕ → Grammar ℕ
-whole lo hi = record { encodes = EncodesWhole lo hi; reading = λ bits. lifted (whole_reading lo hi bits); exact = whole_lifts lo hi }
+whole lo hi = record {
+  encodes = EncodesWhole lo hi;
+  reading = λ bits. lifted (whole_reading lo hi bits);
+  exact = whole_lifts lo hi;
+}
 
 -- the index of a root alternative, of which the last has this index
 abbrev pub choice_index : ℕ → Grammar ℕ
-choice_index last = record { encodes = EncodesWhole 0 last; reading = λ bits. lifted_index (whole_reading 0 last bits); exact = index_lifts last }
+choice_index last = record {
+  encodes = EncodesWhole 0 last;
+  reading = λ bits. lifted_index (whole_reading 0 last bits);
+  exact = index_lifts last;
+}
 
 -- an unconstrained length
 abbrev pub length : Grammar ℕ
-length = record { encodes = EncodesLength; reading = λ bits. lifted (length_reading bits); exact = length_lifts }
+length = record {
+  encodes = EncodesLength;
+  reading = λ bits. lifted (length_reading bits);
+  exact = length_lifts;
+}
 
 -- a normally small number
 abbrev pub small : Grammar ℕ
-small = record { encodes = EncodesSmall; reading = λ bits. lifted (small_reading bits); exact = small_lifts }
+small = record {
+  encodes = EncodesSmall;
+  reading = λ bits. lifted (small_reading bits);
+  exact = small_lifts;
+}
 
 -- so many octets, from the next octet on
 abbrev pub octets : ℕ → Grammar (List ℕ)
-octets count = record { encodes = EncodesOctets count; reading = λ bits. lifted (octets_reading count bits); exact = octets_lifts count }
+octets count = record {
+  encodes = EncodesOctets count;
+  reading = λ bits. lifted (octets_reading count bits);
+  exact = octets_lifts count;
+}
 
 -- an open type, whatever its octets are
 abbrev pub open_type : Grammar (List ℕ)
-open_type = record { encodes = EncodesOpenType; reading = λ bits. lifted (open_type_reading bits); exact = open_type_lifts }
+open_type = record {
+  encodes = EncodesOpenType;
+  reading = λ bits. lifted (open_type_reading bits);
+  exact = open_type_lifts;
+}
 
 -- an open type, at the front of whose octets a value stands
 abbrev pub inside : {A : Type 0} → Grammar A → Grammar A
-inside g = record { encodes = EncodesInside g.encodes; reading = inside_reading g.reading; exact = inside_exact g.encodes g.reading g.exact }
+inside g = record {
+  encodes = EncodesInside g.encodes;
+  reading = inside_reading g.reading;
+  exact = inside_exact g.encodes g.reading g.exact;
+}
 
 -- a value from the next octet on
 abbrev pub aligned : {A : Type 0} → Grammar A → Grammar A
-aligned g = record { encodes = EncodesAligned g.encodes; reading = aligned_reading g.reading; exact = aligned_exact g.encodes g.reading g.exact }
+aligned g = record {
+  encodes = EncodesAligned g.encodes;
+  reading = aligned_reading g.reading;
+  exact = aligned_exact g.encodes g.reading g.exact;
+}
 
 -- ---- what is made of these
 

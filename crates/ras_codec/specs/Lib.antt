@@ -10,3 +10,6 @@ pub mod Requests
 pub mod Messages
 pub mod Encoding
 pub mod Replies
+pub mod Chain
+pub mod ReplyGrammar
+pub mod Properties

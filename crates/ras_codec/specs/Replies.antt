@@ -1,5 +1,6 @@
 -- The replies of the gatekeeper (H.225.0), component by component.
-use Rattle.std.specs.Prelude.{ℕ, ◌+◌, ◌-◌, List, [], ◌∷◌, ◌++◌, Bool, true, false, length, replicate, nat_eq, if◌then◌else◌}
+use Rattle.std.specs.Prelude.{ℕ, ◌+◌, ◌-◌, List, [], ◌∷◌, ◌++◌, Bool, true, false, length}
+use Rattle.std.specs.Prelude.{replicate, nat_eq, if◌then◌else◌}
 use Rattle.ras_module.specs.declared.address.Address.{Address}
 use Rattle.ras_module.specs.declared.reason.GatekeeperRejectReason.{GatekeeperRejectReason}
 use Rattle.ras_module.specs.declared.reason.GatekeeperRejectReason.TheVariants as gatekeeper
@@ -16,9 +17,11 @@ use Rattle.ras_module.specs.declared.reason.BandRejectReason.TheVariants as band
 use Rattle.ras_module.specs.declared.reason.DisengageRejectReason.{DisengageRejectReason}
 use Rattle.ras_module.specs.declared.reason.DisengageRejectReason.TheVariants as disengage
 use Rattle.ras_module.specs.declared.reply.Reply.{Reply}
-use Rattle.ras_module.specs.declared.reply.Reply.TheVariants.{Gcf, Grj, Rcf, Rrj, Ucf, Urj, Acf, Arj, Bcf, Brj, Dcf, Drj, Irq, Rip}
+use Rattle.ras_module.specs.declared.reply.Reply.TheVariants.{Gcf, Grj, Rcf, Rrj, Ucf, Urj, Acf}
+use Rattle.ras_module.specs.declared.reply.Reply.TheVariants.{Arj, Bcf, Brj, Dcf, Drj, Irq, Rip}
 use Rattle.per_bits.specs.Bits.{octets_for}
-use Rattle.ras_codec.specs.Encoding.{Encoding, in_order, padded_octets, boolean, align, bits, whole, size, small, octets}
+use Rattle.ras_codec.specs.Encoding.{Encoding, in_order, padded_octets, boolean, align, bits, whole}
+use Rattle.ras_codec.specs.Encoding.{size, small, octets}
 
 -- ---- what many messages share
 
@@ -47,7 +50,8 @@ identifier text = bmp_string 128 text
 
 -- TransportAddress: ipAddress
 unfoldable pub transport_address : Address → List Encoding
-transport_address address = boolean false ∷ whole 0 6 0 ∷ octets address.ip ∷ whole 0 65535 address.port ∷ []
+transport_address address = boolean false ∷ whole 0 6 0 ∷ octets address.ip ∷ whole 0 65535
+    address.port ∷ []
 
 -- the code of a character that may be dialled, in the order of the permitted alphabet: # * , 0 to 9
 abbrev pub digit_code : ℕ → ℕ
@@ -63,7 +67,8 @@ digits (character ∷ others) = bits 4 (digit_code character) ∷ digits others
 
 -- AliasAddress: dialledDigits, h323-ID
 unfoldable pub alias_address : Alias → List Encoding
-alias_address (Digits text) = boolean false ∷ whole 0 1 0 ∷ whole 1 128 (length text) ∷ align ∷ digits text
+alias_address (Digits text) = boolean false ∷ whole 0 1 0 ∷ whole 1 128
+    (length text) ∷ align ∷ digits text
 alias_address (H323Id text) = boolean false ∷ whole 0 1 1 ∷ bmp_string 256 text
 
 abbrev pub alias_addresses : List Alias → List Encoding
@@ -148,17 +153,18 @@ registration_confirm_additions granted =
     ∷ size (time_to_live_octets granted) ∷ whole 1 4294967295 granted
     ∷ zero_octet
 
--- GatekeeperConfirm: requestSeqNum, protocolIdentifier, nonStandardData?, gatekeeperIdentifier?, rasAddress
+-- GatekeeperConfirm: requestSeqNum, protocolIdentifier, nonStandardData?, gatekeeperIdentifier?,
+-- rasAddress
 unfoldable pub gatekeeper_confirm : ℕ → List ℕ → Address → List Encoding
 gatekeeper_confirm seq gatekeeper ras =
     root_message 1
     ++ boolean false ∷ boolean false ∷ boolean true
     ∷ request_seq_num seq
     ∷ protocol_identifier
-    ++ identifier gatekeeper
-    ++ transport_address ras
+    ++ (identifier gatekeeper ++ transport_address ras)
 
--- GatekeeperReject: requestSeqNum, protocolIdentifier, nonStandardData?, gatekeeperIdentifier?, rejectReason
+-- GatekeeperReject: requestSeqNum, protocolIdentifier, nonStandardData?, gatekeeperIdentifier?,
+-- rejectReason
 unfoldable pub gatekeeper_reject : ℕ → GatekeeperRejectReason → List Encoding
 gatekeeper_reject seq reason =
     root_message 2
@@ -175,17 +181,19 @@ registration_confirm_front seq call_signal has_aliases =
     ∷ protocol_identifier
     ++ size 1 ∷ transport_address call_signal
 
--- RegistrationConfirm: requestSeqNum, protocolIdentifier, nonStandardData?, callSignalAddress, terminalAlias?,
+-- RegistrationConfirm: requestSeqNum, protocolIdentifier, nonStandardData?, callSignalAddress,
+-- terminalAlias?,
 -- gatekeeperIdentifier?, endpointIdentifier; additions 1 timeToLive, 5 willRespondToIRR
 unfoldable pub registration_confirm : ℕ → Address → List Alias → List ℕ → List ℕ → ℕ → List Encoding
 registration_confirm seq call_signal aliases gatekeeper endpoint granted =
     registration_confirm_front seq call_signal (has_aliases aliases)
-    ++ terminal_alias aliases
-    ++ identifier gatekeeper
-    ++ identifier endpoint
-    ++ registration_confirm_additions granted
+    ++ (terminal_alias aliases
+    ++ (identifier gatekeeper
+    ++ (identifier endpoint
+    ++ registration_confirm_additions granted)))
 
--- RegistrationReject: requestSeqNum, protocolIdentifier, nonStandardData?, rejectReason, gatekeeperIdentifier?
+-- RegistrationReject: requestSeqNum, protocolIdentifier, nonStandardData?, rejectReason,
+-- gatekeeperIdentifier?
 unfoldable pub registration_reject : ℕ → RegistrationRejectReason → List Encoding
 registration_reject seq reason =
     root_message 5
@@ -209,7 +217,8 @@ unregistration_reject seq reason =
     ∷ request_seq_num seq
     ∷ null_choice 2 (unreg_reason reason)
 
--- AdmissionConfirm: requestSeqNum, bandWidth, callModel (direct), destCallSignalAddress, irrFrequency?,
+-- AdmissionConfirm: requestSeqNum, bandWidth, callModel (direct), destCallSignalAddress,
+-- irrFrequency?,
 -- nonStandardData?; additions 9 willRespondToIRR, 10 uuiesRequested (nine BOOLEANs)
 unfoldable pub admission_confirm_additions : List Encoding
 admission_confirm_additions = small 10 ∷ bits 11 3 ∷ zero_octet ++ size 2 ∷ octets (0 ∷ 0 ∷ []) ∷ []
@@ -264,7 +273,8 @@ disengage_reject seq reason =
     ∷ request_seq_num seq
     ∷ null_choice 1 (disengage_reason reason)
 
--- InfoRequest: requestSeqNum, callReferenceValue (0: all calls), nonStandardData?, replyAddress?; addition 0 callIdentifier,
+-- InfoRequest: requestSeqNum, callReferenceValue (0: all calls), nonStandardData?,
+-- replyAddress?; addition 0 callIdentifier,
 -- an open type of 17 octets: its extension bit, and the 16 octets of its guid
 unfoldable pub info_request : ℕ → List Encoding
 info_request seq =
@@ -275,12 +285,13 @@ info_request seq =
     ∷ small 0 ∷ boolean true
     ∷ size 17 ∷ boolean false ∷ octets (replicate 16 0) ∷ []
 
--- RequestInProgress: requestSeqNum, nonStandardData?, tokens?, cryptoTokens?, integrityCheckValue?, delay. It is the first
+-- RequestInProgress: requestSeqNum, nonStandardData?, tokens?, cryptoTokens?,
+-- integrityCheckValue?, delay. It is the first
 -- message behind the extension marker, and so an open type, of 5 octets.
 unfoldable pub request_in_progress : ℕ → ℕ → List Encoding
 request_in_progress seq delay =
     boolean true ∷ small 0 ∷ size 5
-    ∷ bits 5 0
+    ∷ boolean false ∷ boolean false ∷ boolean false ∷ boolean false ∷ boolean false
     ∷ request_seq_num seq
     ∷ whole 1 65535 delay ∷ []
 

@@ -1,13 +1,16 @@
 -- The requests of endpoints (H.225.0), component by component.
-use Rattle.std.specs.Prelude.{ℕ, List, [], ◌∷◌, Bool, true, false, Option, Some, None, nat_eq, unwrap_or, if◌then◌else◌}
+use Rattle.std.specs.Prelude.{ℕ, List, Bool, false, Option, Some, None, nat_eq, unwrap_or}
+use Rattle.std.specs.Prelude.{if◌then◌else◌}
 use Rattle.std.specs.List.{list_all}
 use Rattle.ras_module.specs.declared.call_key.CallKey.{CallKey}
 use Rattle.ras_module.specs.declared.request.Request.{Request}
 use Rattle.ras_module.specs.declared.request.Request.TheVariants.{Grq, Rrq, Urq, Arq, Brq, Drq, Irr}
 use Rattle.ras_codec.specs.declared.request.RegistrationAdditions.{RegistrationAdditions}
 use Rattle.ras_codec.specs.declared.request.AdmissionPreamble.{AdmissionPreamble}
-use Rattle.ras_codec.specs.Grammar.{Grammar, ◌>>=◌, is, nothing, boolean, whole, octets, optional, skipped}
-use Rattle.ras_codec.specs.Sequences.{null_choice, additions, addition, skipped_addition, skipped_additions, request_seq_num, protocol_identifier, identifier, non_standard_parameter}
+use Rattle.ras_codec.specs.Grammar.{Grammar, ◌>>=◌, is, boolean, whole, octets, optional, skipped}
+use Rattle.ras_codec.specs.Sequences.{null_choice, additions, addition, skipped_addition}
+use Rattle.ras_codec.specs.Sequences.{skipped_additions, request_seq_num, protocol_identifier}
+use Rattle.ras_codec.specs.Sequences.{identifier, non_standard_parameter}
 use Rattle.ras_codec.specs.Addresses.{transport_address, optional_address, address_list}
 use Rattle.ras_codec.specs.Aliases.{skipped_aliases, optional_aliases}
 use Rattle.ras_codec.specs.EndpointTypes.{vendor_identifier, endpoint_type}
@@ -43,7 +46,9 @@ disengage_reason = null_choice 2
 -- The key of a call: its callIdentifier where it is there and not all zero, else its conferenceID.
 abbrev pub call_key : List ℕ → Option (List ℕ) → CallKey
 call_key conference None = record { octets = conference }
-call_key conference (Some guid) = record { octets = if list_all (λ octet. nat_eq octet 0) guid then conference else guid }
+call_key conference (Some guid) = record {
+  octets = if list_all (λ octet. nat_eq octet 0) guid then conference else guid;
+}
 
 -- CallModel: direct, gatekeeperRouted
 unfoldable pub call_model : Grammar (Unit {0})
@@ -105,9 +110,11 @@ registration_additions extended = do
   addition_4 ← skipped_addition present 4
   keep_alive ← addition present 5 boolean
   endpoint ← addition present 6 identifier
-  is (record { time_to_live = time_to_live; keep_alive = unwrap_or keep_alive false; endpoint = endpoint })
+  is (record { time_to_live = time_to_live; keep_alive = unwrap_or keep_alive false;
+      endpoint = endpoint })
 
--- RegistrationRequest: requestSeqNum, protocolIdentifier, nonStandardData?, discoveryComplete, callSignalAddress,
+-- RegistrationRequest: requestSeqNum, protocolIdentifier, nonStandardData?, discoveryComplete,
+-- callSignalAddress,
 -- rasAddress, terminalType, terminalAlias?, gatekeeperIdentifier?, endpointVendor; additions
 unfoldable pub registration_request : Grammar Request
 registration_request = do
@@ -128,7 +135,8 @@ registration_request = do
   more ← registration_additions extended
   is (Rrq seq call_signal ras aliases gatekeeper more.time_to_live more.keep_alive more.endpoint)
 
--- UnregistrationRequest: requestSeqNum, callSignalAddress, endpointAlias?, nonStandardData?, endpointIdentifier?; the
+-- UnregistrationRequest: requestSeqNum, callSignalAddress, endpointAlias?, nonStandardData?,
+-- endpointIdentifier?; the
 -- additions are not read
 unfoldable pub unregistration_request : Grammar Request
 unregistration_request = do
@@ -165,8 +173,10 @@ admission_preamble = do
     has_call_services = has_call_services;
   })
 
--- AdmissionRequest: requestSeqNum, callType, callModel?, endpointIdentifier, destinationInfo?, destCallSignalAddress?,
--- destExtraCallInfo?, srcInfo, srcCallSignalAddress?, bandWidth, callReferenceValue, nonStandardData?, callServices?,
+-- AdmissionRequest: requestSeqNum, callType, callModel?, endpointIdentifier, destinationInfo?,
+-- destCallSignalAddress?,
+-- destExtraCallInfo?, srcInfo, srcCallSignalAddress?, bandWidth, callReferenceValue,
+-- nonStandardData?, callServices?,
 -- conferenceID, activeMC, answerCall; addition 1 callIdentifier
 unfoldable pub admission_request : Grammar Request
 admission_request = do
@@ -192,7 +202,8 @@ admission_request = do
   guid ← addition present 1 call_identifier
   is (Arq seq endpoint dest dest_address asked (call_key conference guid) answer)
 
--- BandwidthRequest: requestSeqNum, endpointIdentifier, conferenceID, callReferenceValue, callType?, bandWidth,
+-- BandwidthRequest: requestSeqNum, endpointIdentifier, conferenceID, callReferenceValue,
+-- callType?, bandWidth,
 -- nonStandardData?; addition 0 callIdentifier
 unfoldable pub bandwidth_request : Grammar Request
 bandwidth_request = do
@@ -210,7 +221,8 @@ bandwidth_request = do
   guid ← addition present 0 call_identifier
   is (Brq seq endpoint (call_key conference guid) asked)
 
--- DisengageRequest: requestSeqNum, endpointIdentifier, conferenceID, callReferenceValue, disengageReason,
+-- DisengageRequest: requestSeqNum, endpointIdentifier, conferenceID, callReferenceValue,
+-- disengageReason,
 -- nonStandardData?; addition 0 callIdentifier
 unfoldable pub disengage_request : Grammar Request
 disengage_request = do
@@ -226,7 +238,8 @@ disengage_request = do
   guid ← addition present 0 call_identifier
   is (Drq seq endpoint (call_key conference guid))
 
--- InfoRequestResponse: nonStandardData?, requestSeqNum, endpointType, endpointIdentifier; the rest is not read
+-- InfoRequestResponse: nonStandardData?, requestSeqNum, endpointType, endpointIdentifier; the
+-- rest is not read
 unfoldable pub info_request_response : Grammar Request
 info_request_response = do
   extended ← boolean

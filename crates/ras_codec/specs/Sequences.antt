@@ -1,6 +1,9 @@
--- Lists, additions and unknown alternatives (X.691), and the small types that many messages share (H.225.0).
+-- Lists, additions and unknown alternatives (X.691), and the small types that many messages
+-- share (H.225.0).
 use Rattle.std.specs.Prelude.{ℕ, ◌+◌, List, [], ◌∷◌, Bool, true, false, Option, slice_index_or}
-use Rattle.ras_codec.specs.Grammar.{Grammar, ◌>>=◌, is, nothing, boolean, bits, whole, choice_index, length, small, octets, open_type, inside, aligned, either, if◌equals◌take◌else◌, each, each_skipped, optional, skipped}
+use Rattle.ras_codec.specs.Grammar.{Grammar, ◌>>=◌, is, nothing, boolean, bits, whole, choice_index}
+use Rattle.ras_codec.specs.Grammar.{length, small, octets, open_type, inside, aligned, either}
+use Rattle.ras_codec.specs.Grammar.{if◌equals◌take◌else◌, each, each_skipped, optional, skipped}
 
 -- SEQUENCE OF without a size: how many there are, and each
 abbrev pub list_of : {A : Type 0} → Grammar A → Grammar (List A)
@@ -14,7 +17,8 @@ list_skipped g = do
   count ← length
   each_skipped count g
 
--- Which additions of a SEQUENCE are there, by their indexes: none where its extension bit is not set.
+-- Which additions of a SEQUENCE are there, by their indexes: none where its extension bit is not
+-- set.
 abbrev pub additions : Bool → Grammar (List Bool)
 additions true = do
   more ← small
@@ -51,7 +55,8 @@ unknown_alternative x = do
   value ← open_type
   is x
 
--- CHOICE with an extension marker: the root alternatives up to the last index, and one value for all others
+-- CHOICE with an extension marker: the root alternatives up to the last index, and one value for
+-- all others
 abbrev pub choice : {A : Type 0} → ℕ → A → (ℕ → Grammar A) → Grammar A
 choice last unknown root = do
   extended ← boolean

@@ -4,7 +4,8 @@ ghost use Rattle.std.specs.Prelude.{◌≡◌, ◌≤◌};
 ghost use Rattle.per_bits.specs.Readings.{Gives};
 ghost use Rattle.ras_codec.specs.Faults.{front_of};
 ghost use Rattle.ras_codec.specs.Grammar.{boolean, each, skipped, open_type};
-ghost use Rattle.ras_codec.specs.Sequences.{additions, is_present, skipped_addition, skipped_additions, skipped_each};
+ghost use Rattle.ras_codec.specs.Sequences.{additions, is_present, skipped_addition};
+ghost use Rattle.ras_codec.specs.Sequences.{skipped_additions, skipped_each};
 
 use crate::decoder::Decoder;
 use crate::fault::ReadFault;
@@ -83,7 +84,11 @@ fn skip_open_type(decoder: &mut Decoder<'_>, present: bool) -> Result<(), ReadFa
 }
 
 /// Passes over the addition of an index.
-pub fn skip_addition(decoder: &mut Decoder<'_>, additions: &PresentAdditions, index: usize) -> Result<(), ReadFault>
+pub fn skip_addition(
+    decoder: &mut Decoder<'_>,
+    additions: &PresentAdditions,
+    index: usize,
+) -> Result<(), ReadFault>
     ensures { Gives (skipped_addition additions.now index).reading decoder.old result decoder.new }
 {
     skip_open_type(decoder, additions.is_present(index))

@@ -2,7 +2,9 @@
 
 ghost use Rattle.per_bits.specs.Readings.{Gives};
 ghost use Rattle.ras_codec.specs.Grammar.{each_skipped, octets};
-ghost use Rattle.ras_codec.specs.Addresses.{ip_address, ip_source_route, ipx_address, ip6_address, net_bios, nsap, transport_address, root_address, first_each, address_list, optional_address};
+ghost use Rattle.ras_codec.specs.Addresses.{ip_address, ip_source_route, ipx_address, ip6_address};
+ghost use Rattle.ras_codec.specs.Addresses.{net_bios, nsap, transport_address, root_address};
+ghost use Rattle.ras_codec.specs.Addresses.{first_each, address_list, optional_address};
 
 use crate::additions::skip_additions;
 use crate::decoder::Decoder;
@@ -158,7 +160,10 @@ pub fn address_list(decoder: &mut Decoder<'_>) -> Result<Option<Address>, ReadFa
 }
 
 /// An address that is OPTIONAL.
-pub fn optional_address(decoder: &mut Decoder<'_>, present: bool) -> Result<Option<Address>, ReadFault>
+pub fn optional_address(
+    decoder: &mut Decoder<'_>,
+    present: bool,
+) -> Result<Option<Address>, ReadFault>
     ensures { Gives (optional_address present).reading decoder.old result decoder.new }
 {
     if present {

@@ -5,7 +5,9 @@ ghost use Rattle.per_bits.specs.Readings.{Gives};
 ghost use Rattle.ras_module.specs.DialledDigits.{is_dialled, AreDialled};
 ghost use Rattle.ras_codec.specs.Faults.{front_of, GivesUnlessMemory};
 ghost use Rattle.ras_codec.specs.Grammar.{each, each_skipped, skipped};
-ghost use Rattle.ras_codec.specs.Aliases.{digit_of, digit, dialled_digits, root_alias, alias_address, skipped_aliases, keeping, served_each, alias_list, optional_aliases};
+ghost use Rattle.ras_codec.specs.Aliases.{digit_of, digit, dialled_digits, root_alias};
+ghost use Rattle.ras_codec.specs.Aliases.{alias_address, skipped_aliases, keeping, served_each};
+ghost use Rattle.ras_codec.specs.Aliases.{alias_list, optional_aliases};
 
 use crate::decoder::Decoder;
 use crate::fault::ReadFault;
@@ -45,7 +47,8 @@ fn digit(decoder: &mut Decoder<'_>) -> Result<u16, ReadFault>
 /// So many characters that may be dialled.
 fn digits(decoder: &mut Decoder<'_>, count: usize) -> Result<[u16; 128], ReadFault>
     requires { count ≤ 128 }
-    ensures gives { Gives (each count digit).reading decoder.old (front_of count result) decoder.new }
+    ensures gives { Gives (each count digit).reading decoder.old
+        (front_of count result) decoder.new }
     ensures dialled { IfOk (front_of count result) AreDialled }
 {
     let mut ahead = decoder.ahead();
@@ -134,7 +137,11 @@ fn keep(aliases: &mut AliasList, alias: Option<Alias>) -> Result<(), AllocError>
 }
 
 /// The served aliases among so many. Memory is asked for alias by alias, once it has been read.
-fn served_aliases(alloc: Global, decoder: &mut Decoder<'_>, count: u32) -> Result<AliasList, ReadFault>
+fn served_aliases(
+    alloc: Global,
+    decoder: &mut Decoder<'_>,
+    count: u32,
+) -> Result<AliasList, ReadFault>
     ensures { GivesUnlessMemory (served_each count).reading decoder.old result decoder.new }
 {
     let mut ahead = decoder.ahead();
@@ -149,7 +156,11 @@ fn served_aliases(alloc: Global, decoder: &mut Decoder<'_>, count: u32) -> Resul
 
 /// The served aliases of a list; none where the list isn't there.
 #[tactic(auto, unfolding(crate::specs::Aliases::alias_list))]
-pub fn optional_aliases(alloc: Global, decoder: &mut Decoder<'_>, present: bool) -> Result<AliasList, ReadFault>
+pub fn optional_aliases(
+    alloc: Global,
+    decoder: &mut Decoder<'_>,
+    present: bool,
+) -> Result<AliasList, ReadFault>
     ensures { GivesUnlessMemory (optional_aliases present).reading decoder.old result decoder.new }
 {
     if !present {

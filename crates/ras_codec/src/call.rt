@@ -6,7 +6,8 @@ ghost use Rattle.per_bits.specs.Readings.{Gives};
 ghost use Rattle.per_bits.specs.Bits.{bits_of};
 ghost use Rattle.ras_codec.specs.Grammar.{skipped};
 ghost use Rattle.ras_codec.specs.Sequences.{addition};
-ghost use Rattle.ras_codec.specs.Requests.{call_identifier, call_type, call_model, q954_details, qseries_options, disengage_reason, call_key};
+ghost use Rattle.ras_codec.specs.Requests.{call_identifier, call_type, call_model, q954_details};
+ghost use Rattle.ras_codec.specs.Requests.{qseries_options, disengage_reason, call_key};
 
 use crate::additions::{PresentAdditions, skip_additions};
 use crate::decoder::Decoder;
@@ -27,8 +28,13 @@ fn call_identifier(decoder: &mut Decoder<'_>) -> Result<[u8; 16], ReadFault>
 }
 
 /// The callIdentifier among the additions of a message.
-pub fn call_identifier_at(decoder: &mut Decoder<'_>, present: &PresentAdditions, index: usize) -> Result<Option<[u8; 16]>, ReadFault>
-    ensures { Gives (addition present.now index call_identifier).reading decoder.old result decoder.new }
+pub fn call_identifier_at(
+    decoder: &mut Decoder<'_>,
+    present: &PresentAdditions,
+    index: usize,
+) -> Result<Option<[u8; 16]>, ReadFault>
+    ensures { Gives (addition present.now index call_identifier).reading decoder.old result
+        decoder.new }
 {
     if !present.is_present(index) {
         return Ok(None);

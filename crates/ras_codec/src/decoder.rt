@@ -33,7 +33,8 @@ impl<'a> Decoder<'a> {
         }
     }
 
-    /// A second decoder at the same place. What is made of several components is read on it, so that a
+    /// A second decoder at the same place. What is made of several components is read on it, so
+    /// that a
     /// fault leaves the first where it was.
     pub fn ahead(&self) -> Self
         ensures { result ≡ self.now }

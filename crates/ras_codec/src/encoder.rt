@@ -2,7 +2,11 @@
 
 ghost use Rattle.std.specs.Prelude.{false, ◌≡◌, ◌≤◌, ◌<◌, ◌+◌, ◌*◌, [], ◌∷◌, length, IsTrue};
 ghost use Rattle.ras_codec.specs.Encoding.{Writes, boolean, whole, octets, size};
-ghost use Rattle.ras_codec.specs.Replies.{root_message, request_seq_num, protocol_identifier, identifier, bmp_string, characters, transport_address, band_width, null_choice, null_extension, zero_octet, digit_code, digits, alias_address, alias_addresses, alias_list};
+ghost use Rattle.ras_codec.specs.Replies.{root_message, request_seq_num, protocol_identifier};
+ghost use Rattle.ras_codec.specs.Replies.{identifier, bmp_string, characters, transport_address};
+ghost use Rattle.ras_codec.specs.Replies.{band_width, null_choice, null_extension, zero_octet};
+ghost use Rattle.ras_codec.specs.Replies.{digit_code, digits, alias_address, alias_addresses};
+ghost use Rattle.ras_codec.specs.Replies.{alias_list};
 ghost use Rattle.ras_module.specs.DialledDigits.{is_dialled, AreDialled};
 ghost use Rattle.ras_module.specs.declared.alias.Alias.TheVariants as alias;
 
@@ -192,7 +196,8 @@ pub fn alias_address(writer: &mut BitWriter, alias: &Alias)
 #[tactic(auto, using(crate::proofs::Behind::behind_append))]
 fn alias_addresses(writer: &mut BitWriter, aliases: &[Alias])
     requires { 4128 * length aliases.now ≤ writer.old.room }
-    ensures { Writes (4128 * length aliases.now) (alias_addresses aliases.now) writer.old writer.new }
+    ensures { Writes (4128 * length aliases.now) (alias_addresses aliases.now) writer.old
+        writer.new }
 {
     for alias in aliases {
         alias_address(writer, alias);
@@ -203,7 +208,8 @@ fn alias_addresses(writer: &mut BitWriter, aliases: &[Alias])
 pub fn alias_list(writer: &mut BitWriter, aliases: &[Alias])
     requires few { length aliases.now ≤ 32 }
     requires room { 23 + 4128 * length aliases.now ≤ writer.old.room }
-    ensures { Writes (23 + 4128 * length aliases.now) (alias_list aliases.now) writer.old writer.new }
+    ensures { Writes (23 + 4128 * length aliases.now) (alias_list aliases.now) writer.old
+        writer.new }
 {
     writer.length(aliases.len() as u32);
     alias_addresses(writer, aliases);

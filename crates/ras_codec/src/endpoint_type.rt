@@ -3,7 +3,8 @@
 ghost use Rattle.per_bits.specs.Readings.{Gives};
 ghost use Rattle.ras_codec.specs.Grammar.{each_skipped, skipped};
 ghost use Rattle.ras_codec.specs.Sequences.{sized_octet_string};
-ghost use Rattle.ras_codec.specs.EndpointTypes.{vendor_identifier, node_info, supported_protocols, protocols, gateway_info, endpoint_type};
+ghost use Rattle.ras_codec.specs.EndpointTypes.{vendor_identifier, node_info, supported_protocols};
+ghost use Rattle.ras_codec.specs.EndpointTypes.{protocols, gateway_info, endpoint_type};
 
 use crate::additions::skip_additions;
 use crate::decoder::Decoder;
@@ -15,7 +16,8 @@ use crate::sequence::{
 
 /// productId or versionId.
 fn skip_product(decoder: &mut Decoder<'_>, present: bool) -> Result<(), ReadFault>
-    ensures { Gives (skipped present (sized_octet_string 1 256)).reading decoder.old result decoder.new }
+    ensures { Gives (skipped present (sized_octet_string 1 256)).reading decoder.old result
+        decoder.new }
 {
     if present {
         sized_octet_string(decoder, 1, 256)?;
@@ -91,7 +93,8 @@ fn supported_protocols(decoder: &mut Decoder<'_>) -> Result<(), ReadFault>
 
 /// So many supported protocols.
 fn skip_protocols(decoder: &mut Decoder<'_>, count: u32) -> Result<(), ReadFault>
-    ensures { Gives (each_skipped count supported_protocols).reading decoder.old result decoder.new }
+    ensures { Gives (each_skipped count supported_protocols).reading decoder.old result
+        decoder.new }
 {
     let mut ahead = decoder.ahead();
     for _ in 0..count {

@@ -9,12 +9,14 @@ mod decoder;
 mod encoder;
 mod endpoint_type;
 mod fault;
+mod laws;
 mod message;
 mod reply;
 mod request;
 mod sequence;
 
 pub use fault::ReadFault;
+pub use laws::{one_reply, room_is_enough, written_reads_back};
 pub use message::read;
 pub use reply::write_into;
 

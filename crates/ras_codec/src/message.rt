@@ -1,8 +1,11 @@
 //! All messages of RAS (H.225.0, RasMessage).
 
-ghost use Rattle.std.specs.Prelude.{◌≡◌};
+ghost use Rattle.std.specs.Prelude.{◌≡◌, ◌⊎◌, IfErr};
 ghost use Rattle.ras_codec.specs.Faults.{GivesUnlessMemory, IsUnlessMemory};
-ghost use Rattle.ras_codec.specs.Messages.{ras_message, root_message, message_reading};
+ghost use Rattle.ras_codec.specs.Messages.{ras_message, root_message, message_reading, Reads};
+ghost use Rattle.ras_codec.specs.Messages.{NotServed, IsFaulty};
+ghost use Rattle.ras_module.specs.declared.request.Request.{Request};
+ghost use Rattle.ras_codec.specs.declared.fault.ReadFault.TheVariants.{Memory};
 
 use crate::decoder::Decoder;
 use crate::fault::ReadFault;
@@ -46,11 +49,29 @@ fn ras_message(alloc: Global, decoder: &mut Decoder<'_>) -> Result<Option<Reques
     Ok(request)
 }
 
-/// The request that octets begin with, or None where they are another message.
+/// The message that octets begin with.
 #[tactic(auto, unfolding(crate::specs::Messages::message_reading))]
-pub fn read(alloc: Global, octets: &[u8]) -> Result<Option<Request>, ReadFault>
+fn message(alloc: Global, octets: &[u8]) -> Result<Option<Request>, ReadFault>
     ensures { IsUnlessMemory (message_reading octets.now) result }
 {
     let mut decoder = Decoder::new(octets);
     ras_message(alloc, &mut decoder)
+}
+
+/// The request that octets begin with, or None where they are a message that is not served. What
+/// follows
+/// is not read.
+pub fn read(alloc: Global, octets: &[u8]) -> Result<Option<Request>, ReadFault>
+    ensures gives { IsUnlessMemory (message_reading octets.now) result }
+
+    ensures request { (request : Request) → result ≡ Ok (Some request) → Reads octets.now request }
+    ensures each_request { (request : Request) → Reads octets.now request → IsUnlessMemory (Ok
+        (Some request)) result }
+
+    ensures not_served { result ≡ Ok None → NotServed octets.now }
+    ensures each_other { NotServed octets.now → IsUnlessMemory (Ok None) result }
+
+    ensures fault { IfErr result (λ fault. (fault ≡ Memory) ⊎ IsFaulty octets.now) }
+{
+    message(alloc, octets)
 }

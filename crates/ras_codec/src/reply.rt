@@ -1,20 +1,32 @@
 //! The replies of the gatekeeper (H.225.0).
 
-ghost use Rattle.std.specs.Prelude.{◌≡◌, ◌≤◌, ◌<◌, ◌+◌, ◌*◌, [], ◌∷◌, ◌++◌, length, vec_len, vec_capacity, OnOk, OnErr, IsOk};
+ghost use Rattle.std.specs.Prelude.{◌≡◌, ◌≤◌, ◌<◌, ◌+◌, ◌*◌, [], ◌∷◌, ◌++◌, length, vec_len};
+ghost use Rattle.std.specs.Prelude.{vec_capacity, OnOk, OnErr, IsOk};
 ghost use Rattle.per_bits.specs.Bits.{octets_for};
 ghost use Rattle.ras_module.specs.declared.reply.Reply.TheVariants as reply;
 ghost use Rattle.ras_codec.specs.Encoding.{Writes};
-ghost use Rattle.ras_codec.specs.Replies.{gatekeeper_reason, registration_reason, held_in, registration_confirm, registration_confirm_front, registration_confirm_additions, registration_reject, terminal_alias, unreg_reason, admission_reason, band_reason, disengage_reason, gatekeeper_confirm, gatekeeper_reject, unregistration_confirm, unregistration_reject, admission_confirm, admission_confirm_additions, admission_reject, bandwidth_confirm, bandwidth_reject, disengage_confirm, disengage_reject, info_request, request_in_progress, components, encoding_of};
+ghost use Rattle.ras_codec.specs.Replies.{gatekeeper_reason, registration_reason, held_in};
+ghost use Rattle.ras_codec.specs.Replies.{registration_confirm, registration_confirm_front};
+ghost use Rattle.ras_codec.specs.Replies.{registration_confirm_additions, registration_reject};
+ghost use Rattle.ras_codec.specs.Replies.{terminal_alias, unreg_reason, admission_reason};
+ghost use Rattle.ras_codec.specs.Replies.{band_reason, disengage_reason, gatekeeper_confirm};
+ghost use Rattle.ras_codec.specs.Replies.{gatekeeper_reject, unregistration_confirm};
+ghost use Rattle.ras_codec.specs.Replies.{unregistration_reject, admission_confirm};
+ghost use Rattle.ras_codec.specs.Replies.{admission_confirm_additions, admission_reject};
+ghost use Rattle.ras_codec.specs.Replies.{bandwidth_confirm, bandwidth_reject, disengage_confirm};
+ghost use Rattle.ras_codec.specs.Replies.{disengage_reject, info_request, request_in_progress};
+ghost use Rattle.ras_codec.specs.Replies.{components, encoding_of};
 ghost use Rattle.ras_module.specs.Rooms.{room_of};
 
 use crate::encoder::{
-    alias_list, band_width, identifier, null_choice, null_extension, protocol_identifier, request_seq_num, root_message,
-    transport_address, zero_octet,
+    alias_list, band_width, identifier, null_choice, null_extension, protocol_identifier,
+    request_seq_num, root_message, transport_address, zero_octet,
 };
 use per_bits::BitWriter;
 use ras_module::{
-    Address, Alias, AdmissionRejectReason, BandRejectReason, Delay, DisengageRejectReason,
-    GatekeeperRejectReason, Name, Reply, RegistrationRejectReason, RequestSeqNum, TimeToLive, UnregRejectReason,
+    Address, AdmissionRejectReason, Alias, BandRejectReason, Delay, DisengageRejectReason,
+    GatekeeperRejectReason, Name, RegistrationRejectReason, Reply, RequestSeqNum, TimeToLive,
+    UnregRejectReason,
 };
 use std::alloc::AllocError;
 use std::mem;
@@ -72,10 +84,15 @@ fn disengage_reason(reason: DisengageRejectReason) -> u32
 }
 
 /// RegistrationRejectReason.
-#[tactic(auto, using(crate::proofs::Behind::behind_append), unfolding(crate::specs::Replies::registration_reason))]
+#[tactic(
+    auto,
+    using(crate::proofs::Behind::behind_append),
+    unfolding(crate::specs::Replies::registration_reason)
+)]
 fn registration_reason(writer: &mut BitWriter, reason: &RegistrationRejectReason)
     requires { 65 + 4128 * held_in reason.now ≤ writer.old.room }
-    ensures { Writes (65 + 4128 * held_in reason.now) (registration_reason reason.now) writer.old writer.new }
+    ensures { Writes (65 + 4128 * held_in reason.now) (registration_reason reason.now) writer.old
+        writer.new }
 {
     match reason {
         RegistrationRejectReason::DiscoveryRequired => null_choice(writer, 7, 0),
@@ -91,7 +108,11 @@ fn registration_reason(writer: &mut BitWriter, reason: &RegistrationRejectReason
 }
 
 /// GatekeeperConfirm.
-#[tactic(auto, using(crate::proofs::Behind::behind_append), unfolding(crate::specs::Replies::gatekeeper_confirm))]
+#[tactic(
+    auto,
+    using(crate::proofs::Behind::behind_append),
+    unfolding(crate::specs::Replies::gatekeeper_confirm)
+)]
 pub fn gatekeeper_confirm(
     writer: &mut BitWriter,
     seq: RequestSeqNum,
@@ -112,7 +133,11 @@ pub fn gatekeeper_confirm(
 }
 
 /// GatekeeperReject.
-#[tactic(auto, using(crate::proofs::Behind::behind_append), unfolding(crate::specs::Replies::gatekeeper_reject))]
+#[tactic(
+    auto,
+    using(crate::proofs::Behind::behind_append),
+    unfolding(crate::specs::Replies::gatekeeper_reject)
+)]
 pub fn gatekeeper_reject(writer: &mut BitWriter, seq: RequestSeqNum, reason: GatekeeperRejectReason)
     requires { 400 ≤ writer.old.room }
     ensures { Writes 400 (gatekeeper_reject seq reason) writer.old writer.new }
@@ -153,7 +178,8 @@ fn registration_confirm_additions(writer: &mut BitWriter, granted: TimeToLive)
 fn terminal_alias(writer: &mut BitWriter, aliases: &[Alias])
     requires few { length aliases.now ≤ 32 }
     requires room { 23 + 4128 * length aliases.now ≤ writer.old.room }
-    ensures { Writes (23 + 4128 * length aliases.now) (terminal_alias aliases.now) writer.old writer.new }
+    ensures { Writes (23 + 4128 * length aliases.now) (terminal_alias aliases.now) writer.old
+        writer.new }
 {
     if !aliases.is_empty() {
         alias_list(writer, aliases);
@@ -161,10 +187,20 @@ fn terminal_alias(writer: &mut BitWriter, aliases: &[Alias])
 }
 
 /// The front of a RegistrationConfirm, up to its callSignalAddress.
-#[tactic(auto, using(crate::proofs::Behind::behind_append), unfolding(crate::specs::Replies::registration_confirm_front))]
-fn registration_confirm_front(writer: &mut BitWriter, seq: RequestSeqNum, call_signal: &Address, has_aliases: bool)
+#[tactic(
+    auto,
+    using(crate::proofs::Behind::behind_append),
+    unfolding(crate::specs::Replies::registration_confirm_front)
+)]
+fn registration_confirm_front(
+    writer: &mut BitWriter,
+    seq: RequestSeqNum,
+    call_signal: &Address,
+    has_aliases: bool,
+)
     requires { 400 ≤ writer.old.room }
-    ensures { Writes 400 (registration_confirm_front seq call_signal.now has_aliases) writer.old writer.new }
+    ensures { Writes 400 (registration_confirm_front seq call_signal.now has_aliases) writer.old
+        writer.new }
 {
     root_message(writer, 4);
     writer.bit(true);
@@ -178,10 +214,19 @@ fn registration_confirm_front(writer: &mut BitWriter, seq: RequestSeqNum, call_s
 }
 
 /// RegistrationReject.
-#[tactic(auto, using(crate::proofs::Behind::behind_append), unfolding(crate::specs::Replies::registration_reject))]
-pub fn registration_reject(writer: &mut BitWriter, seq: RequestSeqNum, reason: &RegistrationRejectReason)
+#[tactic(
+    auto,
+    using(crate::proofs::Behind::behind_append),
+    unfolding(crate::specs::Replies::registration_reject)
+)]
+pub fn registration_reject(
+    writer: &mut BitWriter,
+    seq: RequestSeqNum,
+    reason: &RegistrationRejectReason,
+)
     requires { 8 * room_of (reply.Rrj seq reason.now) ≤ writer.old.room }
-    ensures { Writes (8 * room_of (reply.Rrj seq reason.now)) (registration_reject seq reason.now) writer.old writer.new }
+    ensures { Writes (8 * room_of (reply.Rrj seq reason.now))
+        (registration_reject seq reason.now) writer.old writer.new }
 {
     root_message(writer, 5);
     writer.bit(false);
@@ -218,7 +263,11 @@ pub fn unregistration_reject(writer: &mut BitWriter, seq: RequestSeqNum, reason:
 }
 
 /// AdmissionConfirm: the endpoint may send itself, and reports nothing.
-#[tactic(auto, using(crate::proofs::Behind::behind_append), unfolding(crate::specs::Replies::admission_confirm))]
+#[tactic(
+    auto,
+    using(crate::proofs::Behind::behind_append),
+    unfolding(crate::specs::Replies::admission_confirm)
+)]
 pub fn admission_confirm(writer: &mut BitWriter, seq: RequestSeqNum, units: u32, dest: &Address)
     requires { 500 ≤ writer.old.room }
     ensures { Writes 500 (admission_confirm seq units dest.now) writer.old writer.new }
@@ -345,13 +394,21 @@ pub fn request_in_progress(writer: &mut BitWriter, seq: RequestSeqNum, delay: De
     writer.bit(true);
     writer.small(0);
     writer.length(5);
-    writer.bits(5, 0);
+    writer.bit(false);
+    writer.bit(false);
+    writer.bit(false);
+    writer.bit(false);
+    writer.bit(false);
     request_seq_num(writer, seq);
     writer.whole(1, 65535, u32::from(delay.get()));
 }
 
 /// The components of a reply.
-#[tactic(auto, using(crate::proofs::Behind::behind_append), unfolding(crate::specs::Replies::registration_confirm))]
+#[tactic(
+    auto,
+    using(crate::proofs::Behind::behind_append),
+    unfolding(crate::specs::Replies::registration_confirm)
+)]
 fn write_components(writer: &mut BitWriter, reply: &Reply)
     requires { 8 * room_of reply.now ≤ writer.old.room }
     ensures { Writes (8 * room_of reply.now) (components reply.now) writer.old writer.new }
@@ -396,13 +453,15 @@ fn write_components(writer: &mut BitWriter, reply: &Reply)
     }
 }
 
-/// Writes a reply behind what is there. It fails only for want of memory, and not where there is room for
+/// Writes a reply behind what is there. It fails only for want of memory, and not where there is
+/// room for
 /// `reply.room()` more octets.
 pub fn write_into(reply: &Reply, octets: &mut Vec<u8>) -> Result<(), AllocError>
     ensures ok { OnOk result (octets.new.items ≡ octets.old.items ++ encoding_of reply.now) }
     ensures err { OnErr result (octets.new.items ≡ octets.old.items) }
     ensures err_capacity { OnErr result (vec_capacity octets.new ≡ vec_capacity octets.old) }
-    ensures succeeds { vec_len octets.old + room_of reply.now ≤ vec_capacity octets.old → IsOk result }
+    ensures succeeds { vec_len octets.old + room_of reply.now ≤ vec_capacity octets.old
+        → IsOk result }
 {
     octets.reserve(reply.room())?;
     let empty = Vec::new(*octets.allocator());

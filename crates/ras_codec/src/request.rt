@@ -4,14 +4,18 @@ ghost use Rattle.ras_codec.specs.Faults.{GivesUnlessMemory};
 ghost use Rattle.ras_codec.specs.Grammar.{boolean};
 ghost use Rattle.ras_codec.specs.Sequences.{addition, identifier};
 ghost use Rattle.per_bits.specs.Readings.{Gives};
-ghost use Rattle.ras_codec.specs.Requests.{gatekeeper_request, registration_additions, registration_request, unregistration_request, admission_preamble, admission_request, time_to_live, bandwidth_request, disengage_request, info_request_response};
+ghost use Rattle.ras_codec.specs.Requests.{gatekeeper_request, registration_additions};
+ghost use Rattle.ras_codec.specs.Requests.{registration_request, unregistration_request};
+ghost use Rattle.ras_codec.specs.Requests.{admission_preamble, admission_request, time_to_live};
+ghost use Rattle.ras_codec.specs.Requests.{bandwidth_request, disengage_request};
+ghost use Rattle.ras_codec.specs.Requests.{info_request_response};
 
 use crate::additions::{PresentAdditions, additions, skip_addition};
 use crate::address::{address_list, optional_address, transport_address};
 use crate::alias::{optional_aliases, skip_aliases};
 use crate::call::{
-    call_identifier_at, call_key, call_type, disengage_reason, skip_call_model,
-    skip_call_services, skip_call_type,
+    call_identifier_at, call_key, call_type, disengage_reason, skip_call_model, skip_call_services,
+    skip_call_type,
 };
 use crate::decoder::Decoder;
 use crate::endpoint_type::{endpoint_type, vendor_identifier};
@@ -52,8 +56,13 @@ struct RegistrationAdditions {
     endpoint: Option<EndpointId>,
 }
 
-fn time_to_live_at(decoder: &mut Decoder<'_>, present: &PresentAdditions, index: usize) -> Result<Option<TimeToLive>, ReadFault>
-    ensures { Gives (addition present.now index time_to_live).reading decoder.old result decoder.new }
+fn time_to_live_at(
+    decoder: &mut Decoder<'_>,
+    present: &PresentAdditions,
+    index: usize,
+) -> Result<Option<TimeToLive>, ReadFault>
+    ensures { Gives (addition present.now index time_to_live).reading decoder.old result
+        decoder.new }
 {
     if !present.is_present(index) {
         return Ok(None);
@@ -65,7 +74,11 @@ fn time_to_live_at(decoder: &mut Decoder<'_>, present: &PresentAdditions, index:
     Ok(Some(TimeToLive::new(seconds).unwrap()))
 }
 
-fn boolean_at(decoder: &mut Decoder<'_>, present: &PresentAdditions, index: usize) -> Result<Option<bool>, ReadFault>
+fn boolean_at(
+    decoder: &mut Decoder<'_>,
+    present: &PresentAdditions,
+    index: usize,
+) -> Result<Option<bool>, ReadFault>
     ensures { Gives (addition present.now index boolean).reading decoder.old result decoder.new }
 {
     if !present.is_present(index) {
@@ -78,7 +91,11 @@ fn boolean_at(decoder: &mut Decoder<'_>, present: &PresentAdditions, index: usiz
     Ok(Some(bit))
 }
 
-fn endpoint_at(decoder: &mut Decoder<'_>, present: &PresentAdditions, index: usize) -> Result<Option<EndpointId>, ReadFault>
+fn endpoint_at(
+    decoder: &mut Decoder<'_>,
+    present: &PresentAdditions,
+    index: usize,
+) -> Result<Option<EndpointId>, ReadFault>
     ensures { Gives (addition present.now index identifier).reading decoder.old result decoder.new }
 {
     if !present.is_present(index) {
@@ -92,7 +109,10 @@ fn endpoint_at(decoder: &mut Decoder<'_>, present: &PresentAdditions, index: usi
 }
 
 #[tactic(auto, unfolding(crate::specs::Requests::registration_additions))]
-fn registration_additions(decoder: &mut Decoder<'_>, extended: bool) -> Result<RegistrationAdditions, ReadFault>
+fn registration_additions(
+    decoder: &mut Decoder<'_>,
+    extended: bool,
+) -> Result<RegistrationAdditions, ReadFault>
     ensures { Gives (registration_additions extended).reading decoder.old result decoder.new }
 {
     let mut ahead = decoder.ahead();

@@ -3,7 +3,10 @@
 ghost use Rattle.std.specs.Prelude.{◌≡◌, ◌≤◌, ◌<◌, length, take, IfOk};
 ghost use Rattle.per_bits.specs.Readings.{Gives};
 ghost use Rattle.ras_codec.specs.Grammar.{skipped, optional, each, bits, octets};
-ghost use Rattle.ras_codec.specs.Sequences.{non_standard_parameter, non_standard_identifier, h221_non_standard, octet_string, sized_octet_string, unknown_alternative, null_choice, identifier, bmp_string, request_seq_num};
+ghost use Rattle.ras_codec.specs.Sequences.{non_standard_parameter, non_standard_identifier};
+ghost use Rattle.ras_codec.specs.Sequences.{h221_non_standard, octet_string, sized_octet_string};
+ghost use Rattle.ras_codec.specs.Sequences.{unknown_alternative, null_choice, identifier};
+ghost use Rattle.ras_codec.specs.Sequences.{bmp_string, request_seq_num};
 ghost use Rattle.ras_codec.specs.Faults.{of_octets, front_of};
 
 use crate::additions::skip_additions;
@@ -172,7 +175,8 @@ pub fn non_standard_parameter(decoder: &mut Decoder<'_>) -> Result<(), ReadFault
 
 /// nonStandardData, where it is there.
 pub fn skip_non_standard_data(decoder: &mut Decoder<'_>, present: bool) -> Result<(), ReadFault>
-    ensures { Gives (skipped present non_standard_parameter).reading decoder.old result decoder.new }
+    ensures { Gives (skipped present non_standard_parameter).reading decoder.old result
+        decoder.new }
 {
     if present {
         non_standard_parameter(decoder)

@@ -5,4 +5,6 @@ use Rattle.ras_codec.proofs.Each.{folded}
 use Rattle.ras_codec.proofs.address.first_address.Given as goal
 
 abbrev pub invariant-loop : goal.invariant-loop
-invariant-loop l = folded option_or transport_address.reading (l.count - l.counter) l.first l.ahead ≡ folded option_or transport_address.reading l.count None l.decoder
+invariant-loop l = folded option_or transport_address.reading
+    (l.count - l.counter) l.first l.ahead ≡ folded option_or transport_address.reading l.count
+    None l.decoder

@@ -1,0 +1,23 @@
+//! What holds of the octets of replies, whatever is written.
+
+ghost use Rattle.std.specs.Prelude.{◌≡◌, ◌≤◌, length};
+ghost use Rattle.ras_module.specs.Rooms.{room_of};
+ghost use Rattle.ras_module.specs.declared.reply.Reply.{Reply};
+ghost use Rattle.ras_codec.specs.Replies.{encoding_of};
+ghost use Rattle.ras_codec.specs.Properties.{IsReply, ReadsBack};
+
+/// What is written for a reply is read as this reply, by the grammar of replies.
+pub fn written_reads_back()
+    ensures { (reply : Reply) → IsReply reply → ReadsBack reply }
+{}
+
+/// Two replies with the same octets are one.
+pub fn one_reply()
+    ensures { (a : Reply) (b : Reply) → IsReply a → IsReply b → encoding_of a ≡ encoding_of b → a
+        ≡ b }
+{}
+
+/// A reply has no more octets than its room.
+pub fn room_is_enough()
+    ensures { (reply : Reply) → IsReply reply → length (encoding_of reply) ≤ room_of reply }
+{}

@@ -1,0 +1,222 @@
+//! Replies: octets that were written by hand from the standards.
+
+use crate::write_into;
+use ras_module::{
+    Address, AdmissionRejectReason, Alias, AliasList, BandRejectReason, BmpString, Delay,
+    DialledDigits, DisengageRejectReason, EndpointId, GatekeeperRejectReason, Name,
+    RegistrationRejectReason, Reply, ReplyAliases, RequestSeqNum, TimeToLive, UnregRejectReason,
+};
+use std::alloc::{AllocError, Global};
+use std::test::Fail;
+
+const GCF: [u8; 23] = [
+    0x04, 0x80, 0x00, 0x00, 0x06, 0x00, 0x08, 0x91, 0x4A, 0x00, 0x02, 0x02, 0x00, 0x67, 0x00, 0x6B,
+    0x00, 0x0A, 0x00, 0x00, 0x01, 0x06, 0xB7,
+];
+
+const GRJ: [u8; 12] = [
+    0x08, 0x00, 0x00, 0x00, 0x06, 0x00, 0x08, 0x91, 0x4A, 0x00, 0x02, 0x20,
+];
+
+const RCF_0001: [u8; 45] = [
+    0x12, 0xC0, 0x00, 0x01, 0x06, 0x00, 0x08, 0x91, 0x4A, 0x00, 0x02, 0x01, 0x00, 0x0A, 0x00, 0x00,
+    0x05, 0x06, 0xB8, 0x01, 0x01, 0x00, 0x43, 0x40, 0x20, 0x00, 0x67, 0x00, 0x6B, 0x06, 0x00, 0x30,
+    0x00, 0x30, 0x00, 0x30, 0x00, 0x31, 0x0A, 0x88, 0x02, 0x00, 0x3B, 0x01, 0x00,
+];
+
+const RRJ_FULL: [u8; 14] = [
+    0x14, 0x00, 0x00, 0x01, 0x06, 0x00, 0x08, 0x91, 0x4A, 0x00, 0x02, 0x84, 0x01, 0x00,
+];
+
+const RCF_0002: [u8; 45] = [
+    0x12, 0xC0, 0x00, 0x01, 0x06, 0x00, 0x08, 0x91, 0x4A, 0x00, 0x02, 0x01, 0x00, 0x0A, 0x00, 0x00,
+    0x06, 0x06, 0xB8, 0x01, 0x01, 0x00, 0x43, 0x50, 0x20, 0x00, 0x67, 0x00, 0x6B, 0x06, 0x00, 0x30,
+    0x00, 0x30, 0x00, 0x30, 0x00, 0x32, 0x0A, 0x88, 0x02, 0x00, 0x3B, 0x01, 0x00,
+];
+
+const ACF_1280: [u8; 22] = [
+    0x2A, 0x00, 0x00, 0x02, 0x40, 0x05, 0x00, 0x00, 0x0A, 0x00, 0x00, 0x06, 0x06, 0xB8, 0x14, 0x00,
+    0xC0, 0x01, 0x00, 0x02, 0x00, 0x00,
+];
+
+const ACF_900: [u8; 22] = [
+    0x2A, 0x00, 0x00, 0x03, 0x40, 0x03, 0x84, 0x00, 0x0A, 0x00, 0x00, 0x06, 0x06, 0xB8, 0x14, 0x00,
+    0xC0, 0x01, 0x00, 0x02, 0x00, 0x00,
+];
+
+const ARJ: [u8; 4] = [0x2C, 0x00, 0x06, 0x20];
+
+const BCF: [u8; 6] = [0x34, 0x00, 0x06, 0x40, 0x07, 0xD0];
+
+const BRJ: [u8; 6] = [0x38, 0x00, 0x06, 0x34, 0x05, 0x00];
+
+const DCF: [u8; 3] = [0x40, 0x00, 0x08];
+
+const DRJ: [u8; 4] = [0x44, 0x00, 0x09, 0x40];
+
+const URJ: [u8; 4] = [0x20, 0x00, 0x04, 0x20];
+
+const UCF: [u8; 3] = [0x1C, 0x00, 0x05];
+
+const RRJ_DUPLICATE: [u8; 17] = [
+    0x14, 0x00, 0x00, 0x02, 0x06, 0x00, 0x08, 0x91, 0x4A, 0x00, 0x02, 0x40, 0x01, 0x01, 0x00, 0x43,
+    0x40,
+];
+
+const RIP: [u8; 7] = [0x80, 0x05, 0x00, 0x00, 0x06, 0x01, 0xF3];
+
+const ACF_1220: [u8; 22] = [
+    0x2A, 0x00, 0x00, 0x06, 0x40, 0x04, 0xC4, 0x00, 0x0A, 0x00, 0x00, 0x06, 0x06, 0xB8, 0x14, 0x00,
+    0xC0, 0x01, 0x00, 0x02, 0x00, 0x00,
+];
+
+const IRQ: [u8; 25] = [
+    0x56, 0x00, 0x00, 0x00, 0x00, 0x00, 0x01, 0x11, 0x00, 0x00, 0x00, 0x00, 0x00, 0x00, 0x00, 0x00,
+    0x00, 0x00, 0x00, 0x00, 0x00, 0x00, 0x00, 0x00, 0x00,
+];
+
+fn seq(number: u16) -> RequestSeqNum {
+    RequestSeqNum::new(number).unwrap_or(RequestSeqNum::new(1).unwrap())
+}
+
+fn endpoint_address(last: u8) -> Address {
+    Address {
+        ip: [10, 0, 0, last],
+        port: 1720,
+    }
+}
+
+fn alias_list(alloc: Global, last: u8) -> Result<ReplyAliases, Fail> {
+    let text = BmpString::new(&[49, 48, u16::from(last)]).unwrap();
+    let mut list = AliasList::new(alloc);
+    if let Some(digits) = DialledDigits::new(text) {
+        list.push(Alias::Digits(digits))?;
+    }
+    match ReplyAliases::new(list) {
+        Ok(few) => Ok(few),
+        Err(_many) => Err(Fail::from(AllocError)),
+    }
+}
+
+/// What is written behind one octet that was there.
+fn is_written(alloc: Global, reply: &Reply, expected: &[u8]) -> Result<bool, AllocError> {
+    let mut octets = Vec::new(alloc);
+    octets.push(0xAA)?;
+    write_into(reply, &mut octets)?;
+    Ok(octets[0] == 0xAA && &octets[1..] == expected)
+}
+
+#[test]
+fn replies_about_the_gatekeeper(rt: HostRuntime) -> Result<(), Fail> {
+    let confirm = Reply::Gcf {
+        seq: seq(1),
+        gatekeeper: Name::new(&[0x67, 0x6B]).unwrap(),
+        ras: Address {
+            ip: [10, 0, 0, 1],
+            port: 1719,
+        },
+    };
+    assert!(rt; is_written(rt.alloc(), &confirm, &GCF)?);
+    let reject = Reply::Grj {
+        seq: seq(1),
+        reason: GatekeeperRejectReason::TerminalExcluded,
+    };
+    assert!(rt; is_written(rt.alloc(), &reject, &GRJ)?);
+    Ok(())
+}
+
+fn registration_confirm(alloc: Global, host: u8, last: u8) -> Result<Reply, Fail> {
+    Ok(Reply::Rcf {
+        seq: seq(2),
+        call_signal: endpoint_address(host),
+        aliases: alias_list(alloc, last)?,
+        gatekeeper: Name::new(&[0x67, 0x6B]).unwrap(),
+        endpoint: EndpointId::new(BmpString::new(&[48, 48, 48, u16::from(last)]).unwrap()),
+        granted: TimeToLive::new(60).unwrap(),
+    })
+}
+
+#[test]
+fn replies_about_a_registration(rt: HostRuntime) -> Result<(), Fail> {
+    let alloc = rt.alloc();
+    assert!(rt; is_written(alloc, &registration_confirm(alloc, 5, b'1')?, &RCF_0001)?);
+    assert!(rt; is_written(alloc, &registration_confirm(alloc, 6, b'2')?, &RCF_0002)?);
+    let full = Reply::Rrj {
+        seq: seq(2),
+        reason: RegistrationRejectReason::FullRegistrationRequired,
+    };
+    assert!(rt; is_written(alloc, &full, &RRJ_FULL)?);
+    let duplicate = Reply::Rrj {
+        seq: seq(3),
+        reason: RegistrationRejectReason::DuplicateAlias(alias_list(alloc, b'1')?),
+    };
+    assert!(rt; is_written(alloc, &duplicate, &RRJ_DUPLICATE)?);
+    let confirm = Reply::Ucf { seq: seq(6) };
+    assert!(rt; is_written(alloc, &confirm, &UCF)?);
+    let reject = Reply::Urj {
+        seq: seq(5),
+        reason: UnregRejectReason::CallInProgress,
+    };
+    assert!(rt; is_written(alloc, &reject, &URJ)?);
+    Ok(())
+}
+
+#[test]
+fn replies_about_a_call(rt: HostRuntime) -> Result<(), Fail> {
+    let alloc = rt.alloc();
+    let dest = endpoint_address(6);
+    let confirm = Reply::Acf {
+        seq: seq(3),
+        units: 1280,
+        dest,
+    };
+    assert!(rt; is_written(alloc, &confirm, &ACF_1280)?);
+    let answered = Reply::Acf {
+        seq: seq(4),
+        units: 900,
+        dest,
+    };
+    assert!(rt; is_written(alloc, &answered, &ACF_900)?);
+    let part = Reply::Acf {
+        seq: seq(7),
+        units: 1220,
+        dest,
+    };
+    assert!(rt; is_written(alloc, &part, &ACF_1220)?);
+    let reject = Reply::Arj {
+        seq: seq(7),
+        reason: AdmissionRejectReason::RequestDenied,
+    };
+    assert!(rt; is_written(alloc, &reject, &ARJ)?);
+    let more = Reply::Bcf {
+        seq: seq(7),
+        units: 2000,
+    };
+    assert!(rt; is_written(alloc, &more, &BCF)?);
+    let no_more = Reply::Brj {
+        seq: seq(7),
+        reason: BandRejectReason::InsufficientResources,
+        allowed: 1280,
+    };
+    assert!(rt; is_written(alloc, &no_more, &BRJ)?);
+    let end = Reply::Dcf { seq: seq(9) };
+    assert!(rt; is_written(alloc, &end, &DCF)?);
+    let other = Reply::Drj {
+        seq: seq(10),
+        reason: DisengageRejectReason::RequestToDropOther,
+    };
+    assert!(rt; is_written(alloc, &other, &DRJ)?);
+    Ok(())
+}
+
+#[test]
+fn an_info_request_and_a_delay(rt: HostRuntime) -> Result<(), Fail> {
+    let ask = Reply::Irq { seq: seq(1) };
+    assert!(rt; is_written(rt.alloc(), &ask, &IRQ)?);
+    let wait = Reply::Rip {
+        seq: seq(7),
+        delay: Delay::new(500).unwrap(),
+    };
+    assert!(rt; is_written(rt.alloc(), &wait, &RIP)?);
+    Ok(())
+}
