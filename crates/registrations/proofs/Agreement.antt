@@ -71,12 +71,14 @@ Agree-insert live held r agree absent free = record { holds = holds; held_by = h
   held_by : (alias : Alias) (h : Holding) → fin.get (with_aliases held r.aliases r.identifier r.call_signal) alias ≡ Some h
       → (s : Registration) × IsHolder (fin.insert live r.identifier r) alias h s
   held_by alias h e = by_member same_alias alias_decides r.aliases alias _
-      (λ own. let same : holding_by r.identifier r.call_signal ≡ h = same_some _ h (sym (get-with_aliases held r.aliases r.identifier r.call_signal alias own) ∙ e) in
-      (r, record {
-        live_is = ap (fin.get (fin.insert live r.identifier r)) (sym (ap (λ (x : Holding). x.holder) same)) ∙ c.here;
-        has = own;
-        address_is = sym (ap (λ (x : Holding). x.address) same);
-      }))
+      (λ own. let same : holding_by r.identifier r.call_signal ≡ h = same_some _ h (sym (get-with_aliases held r.aliases r.identifier r.call_signal alias own) ∙ e) in (
+        r,
+        record {
+          live_is = ap (fin.get (fin.insert live r.identifier r)) (sym (ap (λ (x : Holding). x.holder) same)) ∙ c.here;
+          has = own;
+          address_is = sym (ap (λ (x : Holding). x.address) same);
+        },
+      ))
       (λ other. let was = sym (get-with_other_aliases held r.aliases r.identifier r.call_signal alias other) ∙ e in
       let by = agree.held_by alias h was in
       let apart : h.holder ≢ r.identifier = λ p. some_none (sym by.1.live_is ∙ (ap (fin.get live) p ∙ absent)) in
@@ -91,9 +93,9 @@ Agree-rewrite live held id old new f agree there is named free =
     let absent : fin.get (fin.remove live id) new.identifier ≡ None = ap (fin.get (fin.remove live id)) named ∙ (Changed-remove nat_list_cmp_total exact_bytes live id).here in
     let come = Agree-insert (fin.remove live id) (without_holder held id) new gone absent free in
     let map_is : fin.insert (fin.remove live id) new.identifier new ≡ update live id f =
-        ap (λ k. fin.insert (fin.remove live id) k new) named
-        ∙ (insert_over nat_list_cmp_total exact_bytes live id new
-        ∙ (ap (fin.insert live id) (sym is) ∙ sym (update_there nat_list_cmp_total exact_bytes live id old f there))) in
+    ap (λ k. fin.insert (fin.remove live id) k new) named
+    ∙ (insert_over nat_list_cmp_total exact_bytes live id new
+    ∙ (ap (fin.insert live id) (sym is) ∙ sym (update_there nat_list_cmp_total exact_bytes live id old f there))) in
     subst (λ (m : Live). Agree m (with_aliases (without_holder held id) new.aliases id new.call_signal)) map_is
     (subst (λ (k : List ℕ). Agree (fin.insert (fin.remove live id) new.identifier new) (with_aliases (without_holder held id) new.aliases k new.call_signal)) named come)
 
@@ -109,16 +111,22 @@ Agree-update live held id f agree same_signal same_aliases = record {
   held_by = λ alias h e.
       (let by = agree.held_by alias h e in
       by_key nat_list_cmp_total exact_bytes h.holder id ((r : Registration) × IsHolder (update live id f) alias h r)
-      (λ p. (f by.0, record {
-        live_is = ap (fin.get (update live id f)) p ∙ ((Changed-update nat_list_cmp_total exact_bytes live id f).here ∙ ap (option_map f) (ap (fin.get live) (sym p) ∙ by.1.live_is));
-        has = subst (λ (xs : List Alias). Contains xs alias) (sym (same_aliases by.0)) by.1.has;
-        address_is = by.1.address_is ∙ sym (same_signal by.0);
-      }))
-      (λ differ. (by.0, record {
-        live_is = (Changed-update nat_list_cmp_total exact_bytes live id f).others h.holder differ ∙ by.1.live_is;
-        has = by.1.has;
-        address_is = by.1.address_is;
-      })));
+      (λ p. (
+        f by.0,
+        record {
+          live_is = ap (fin.get (update live id f)) p ∙ ((Changed-update nat_list_cmp_total exact_bytes live id f).here ∙ ap (option_map f) (ap (fin.get live) (sym p) ∙ by.1.live_is));
+          has = subst (λ (xs : List Alias). Contains xs alias) (sym (same_aliases by.0)) by.1.has;
+          address_is = by.1.address_is ∙ sym (same_signal by.0);
+        },
+      ))
+      (λ differ. (
+        by.0,
+        record {
+          live_is = (Changed-update nat_list_cmp_total exact_bytes live id f).others h.holder differ ∙ by.1.live_is;
+          has = by.1.has;
+          address_is = by.1.address_is;
+        },
+      )));
 }
 
 -- ---- conflicts

@@ -64,7 +64,7 @@ pub IsConsistent-insert : (live : Live) (r : Registration) → IsConsistent live
 IsConsistent-insert live r sound absent free =
     let c = Changed-insert nat_list_cmp_total exact_bytes live r.identifier r in
     let here = λ (id : List ℕ) (s : Registration) (p : id ≡ r.identifier) (e : fin.get (fin.insert live r.identifier r) id ≡ Some s).
-        same_some r s (sym c.here ∙ (ap (fin.get (fin.insert live r.identifier r)) (sym p) ∙ e)) in
+    same_some r s (sym c.here ∙ (ap (fin.get (fin.insert live r.identifier r)) (sym p) ∙ e)) in
     record {
       own = λ id s e. by_key nat_list_cmp_total exact_bytes id r.identifier (s.identifier ≡ id)
           (λ p. sym (ap (λ (x : Registration). x.identifier) (here id s p e)) ∙ sym p)
