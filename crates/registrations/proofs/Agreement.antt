@@ -1,7 +1,6 @@
 -- How the registrations and the table of the aliases keep in agreement.
-use Rattle.std.proofs.Common.{◌≡◌, ◌≢◌, ◌&&◌, ◌||◌, ℕ, Bool, true, false, not, cond, List, [], ◌∷◌, refl, sym, ◌∙◌, ap, subst, arith, Some, None}
-use Rattle.std.specs.Prelude.{Option, Contains, filter}
-use Rattle.std.specs.List.{list_any}
+use Rattle.std.proofs.Common.{◌≡◌, ◌≢◌, ◌&&◌, ℕ, Bool, true, false, not, cond, List, [], ◌∷◌, refl, sym, ◌∙◌, ap, subst, arith, Some, None}
+use Rattle.std.specs.Prelude.{Option, Contains}
 use Rattle.std.specs.Option.{option_map}
 use Rattle.std.specs.Ordering.{nat_cmp}
 use Rattle.std.specs.Cmp.Lexicographic.{slice_cmp}
@@ -9,14 +8,14 @@ use Rattle.std.specs.FinMap as fin
 use Rattle.std.proofs.lemmas.Cmp.{nat_list_cmp_total}
 use Rattle.std.proofs.lemmas.Map.Lookups.{exact_bytes}
 use Rattle.keyed.specs.Maps.{update, Changed}
-use Rattle.keyed.proofs.Decide.{by_member, Contains-parts, any_decides, some_none, same_some, test_false}
+use Rattle.keyed.proofs.Decide.{by_member, Contains-parts, any_decides, some_none, same_some}
 use Rattle.keyed.proofs.Maps.{by_key, Changed-insert, Changed-remove, Changed-update, insert_over, update_there}
 use Rattle.keyed.proofs.Values.{any_row, no_row_passes}
 use Rattle.ras_module.specs.declared.address.Address.{Address}
 use Rattle.ras_module.specs.declared.alias.Alias.{Alias}
 use Rattle.ras_module.specs.Addresses.{same_address}
 use Rattle.ras_module.specs.Aliases.{same_alias, alias_cmp, has_alias}
-use Rattle.ras_module.specs.Same.{texts_decide, address_decides, alias_decides}
+use Rattle.ras_module.specs.Same.{address_decides, alias_decides}
 use Rattle.aliases.specs.Held.{Held, Holding, holding_by, is_elsewhere, conflicts, with_aliases, without_holder}
 use Rattle.aliases.proofs.Entering.{get-with_aliases, get-with_other_aliases, get-without_holder, get-without_own, get-without_another, was_held}
 use Rattle.registrations.specs.declared.registration.Registration.{Registration}
@@ -130,11 +129,6 @@ Agree-update live held id f agree same_signal same_aliases = record {
 }
 
 -- ---- conflicts
-refused : (a b : Bool) → (a && not b) ≡ true → (a ≡ true) × (b ≡ false)
-refused true true e = absurd (cc e)
-refused true false e = (refl, refl)
-refused false b e = absurd (cc e)
-
 -- the aliases that the table reports are those of registrations with another call signal address
 module _ (live : Live) (held : Held) (agree : Agree live held) (address : Address) where
   elsewhere_is : (alias : Alias) → is_elsewhere address (fin.get held alias) ≡ is_registered_elsewhere live address alias
