@@ -43,8 +43,9 @@ impl Model for AliasTable {
     ghost use Rattle.aliases.specs.Stored.{alias_of, held_in};
 
     ghost view = { λ t. record {
-        held = held_in t.rows.items;
-        room = vec_capacity t.rows - vec_len t.rows } };
+      held = held_in t.rows.items;
+      room = vec_capacity t.rows - vec_len t.rows;
+    } };
 
     ghost invariant = { λ t. AreApart alias_of (row_in t.rows.items) };
 }
