@@ -19,24 +19,28 @@ use Rattle.keyed.proofs.Values.{find_one, find_none}
 use Rattle.keyed.proofs.Places.{IsMapOf, StandsAt, one_map, IsMapOf-put, AreApart-set}
 
 -- what a push, a write and a removal do at each place
-pub Changed-push : {X : Type 0} (rows : List X) (v : X) → Changed (row_in rows) (row_in (rows ++ v ∷ [])) (length rows) (Some v)
+pub Changed-push : {X : Type 0} (rows : List X) (v : X)
+    → Changed (row_in rows) (row_in (rows ++ v ∷ [])) (length rows) (Some v)
 Changed-push {X} [] v = record { here = refl; others = elsewhere } where
   elsewhere : (j : ℕ) → j ≢ 0 → slice_get (v ∷ []) j ≡ slice_get (let e : List X = [] in e) j
   elsewhere zero differ = absurd (differ refl)
   elsewhere (suc j) differ = refl
 Changed-push (r ∷ rows) v = let c = Changed-push rows v in record { here = c.here; others = elsewhere c } where
-  elsewhere : Changed (row_in rows) (row_in (rows ++ v ∷ [])) (length rows) (Some v) → (j : ℕ) → j ≢ suc (length rows) → slice_get (r ∷ rows ++ v ∷ []) j ≡ slice_get (r ∷ rows) j
+  elsewhere : Changed (row_in rows) (row_in (rows ++ v ∷ [])) (length rows) (Some v) → (j : ℕ)
+      → j ≢ suc (length rows) → slice_get (r ∷ rows ++ v ∷ []) j ≡ slice_get (r ∷ rows) j
   elsewhere c zero differ = refl
   elsewhere c (suc j) differ = c.others j (λ e. differ (ap suc e))
 
-pub Changed-set : {X : Type 0} (rows : List X) (i : ℕ) (v : X) → i < length rows → Changed (row_in rows) (row_in (set rows i v)) i (Some v)
+pub Changed-set : {X : Type 0} (rows : List X) (i : ℕ) (v : X) → i < length rows
+    → Changed (row_in rows) (row_in (set rows i v)) i (Some v)
 Changed-set [] i v h = absurd (omega arith)
 Changed-set (r ∷ rows) zero v h = record { here = refl; others = elsewhere } where
   elsewhere : (j : ℕ) → j ≢ 0 → slice_get (v ∷ rows) j ≡ slice_get (r ∷ rows) j
   elsewhere zero differ = absurd (differ refl)
   elsewhere (suc j) differ = refl
 Changed-set (r ∷ rows) (suc i) v h = let c = Changed-set rows i v (omega arith) in record { here = c.here; others = elsewhere c } where
-  elsewhere : Changed (row_in rows) (row_in (set rows i v)) i (Some v) → (j : ℕ) → j ≢ suc i → slice_get (r ∷ set rows i v) j ≡ slice_get (r ∷ rows) j
+  elsewhere : Changed (row_in rows) (row_in (set rows i v)) i (Some v) → (j : ℕ) → j ≢ suc i
+      → slice_get (r ∷ set rows i v) j ≡ slice_get (r ∷ rows) j
   elsewhere c zero differ = refl
   elsewhere c (suc j) differ = c.others j (λ e. differ (ap suc e))
 
@@ -45,14 +49,16 @@ no_row_past [] = refl
 no_row_past (r ∷ rows) = no_row_past rows
 
 -- what is left after a removal stood elsewhere, and what stood elsewhere is left
-pub left_over : {X : Type 0} (rows : List X) (i j : ℕ) (r : X) → slice_get (remove rows i) j ≡ Some r → (m : ℕ) × (slice_get rows m ≡ Some r) × (m ≢ i)
+pub left_over : {X : Type 0} (rows : List X) (i j : ℕ) (r : X)
+    → slice_get (remove rows i) j ≡ Some r → (m : ℕ) × (slice_get rows m ≡ Some r) × (m ≢ i)
 left_over [] zero j r e = some_none (sym e)
 left_over [] (suc i) j r e = some_none (sym e)
 left_over (x ∷ rows) zero j r e = (suc j, e, λ p. absurd (omega arith))
 left_over (x ∷ rows) (suc i) zero r e = (zero, e, λ p. absurd (omega arith))
 left_over (x ∷ rows) (suc i) (suc j) r e = (let rest = left_over rows i j r e in (suc rest.0, rest.1, λ p. rest.2 (omega arith)))
 
-pub still_there : {X : Type 0} (rows : List X) (i j : ℕ) (r : X) → slice_get rows j ≡ Some r → j ≢ i → (m : ℕ) × (slice_get (remove rows i) m ≡ Some r)
+pub still_there : {X : Type 0} (rows : List X) (i j : ℕ) (r : X) → slice_get rows j ≡ Some r
+    → j ≢ i → (m : ℕ) × (slice_get (remove rows i) m ≡ Some r)
 still_there [] i j r e differ = some_none (sym e)
 still_there (x ∷ rows) zero zero r e differ = absurd (differ refl)
 still_there (x ∷ rows) zero (suc j) r e differ = (j, e)
@@ -61,17 +67,21 @@ still_there (x ∷ rows) (suc i) (suc j) r e differ = (let rest = still_there ro
 
 -- apartness after a push, a write that keeps the part, and a removal
 module _ {A X : Type 0} (part : X → A) where
-  pub apart_tail : (r : X) (rows : List X) → AreApart part (row_in (r ∷ rows)) → AreApart part (row_in rows)
+  pub apart_tail : (r : X) (rows : List X) → AreApart part (row_in (r ∷ rows))
+      → AreApart part (row_in rows)
   apart_tail r rows h = record { apart = λ i j x y p q e. omega (arith, h.apart (suc i) (suc j) x y p q e) }
 
-  pub AreApart-remove : (rows : List X) (i : ℕ) → AreApart part (row_in rows) → AreApart part (row_in (remove rows i))
+  pub AreApart-remove : (rows : List X) (i : ℕ) → AreApart part (row_in rows)
+      → AreApart part (row_in (remove rows i))
   AreApart-remove [] zero h = h
   AreApart-remove [] (suc i) h = h
   AreApart-remove (r ∷ rows) zero h = apart_tail r rows h
   AreApart-remove (r ∷ rows) (suc i) h =
       let rest = AreApart-remove rows i (apart_tail r rows h) in
       record { apart = cases rest } where
-        cases : AreApart part (row_in (remove rows i)) → (a b : ℕ) (x y : X) → slice_get (r ∷ remove rows i) a ≡ Some x → slice_get (r ∷ remove rows i) b ≡ Some y → part x ≡ part y → a ≡ b
+        cases : AreApart part (row_in (remove rows i)) → (a b : ℕ) (x y : X)
+            → slice_get (r ∷ remove rows i) a ≡ Some x → slice_get (r ∷ remove rows i) b ≡ Some y
+            → part x ≡ part y → a ≡ b
         cases rest zero zero x y p q e = refl
         cases rest zero (suc b) x y p q e = (let was = left_over rows i b y q in let at_zero : zero ≡ suc was.0 = h.apart zero (suc was.0) x y p was.1 e in absurd (omega arith))
         cases rest (suc a) zero x y p q e = (let was = left_over rows i a x p in let at_zero : suc was.0 ≡ zero = h.apart (suc was.0) zero x y was.1 q e in absurd (omega arith))
@@ -96,7 +106,8 @@ module _ {K V X : Type 0} {R : K → K → Ordering} (o : IsTotalOrder R) (same 
             (λ differ. let s = rest.stands k v (sym (c.others k differ) ∙ e) in
             (suc s.0, s.1, record { there = s.2.there; key_is = s.2.key_is; value_is = s.2.value_is }));
       } where
-        here_or_later : (m : FinMap R V) → IsMapOf key value (row_in rows) m → (i : ℕ) (r : X) → slice_get (x ∷ rows) i ≡ Some r
+        here_or_later : (m : FinMap R V) → IsMapOf key value (row_in rows) m → (i : ℕ) (r : X)
+            → slice_get (x ∷ rows) i ≡ Some r
             → fin.get (fin.insert m (key x) (value x)) (key r) ≡ Some (value r)
         here_or_later m rest zero r e =
             subst (λ (y : X). fin.get (fin.insert m (key x) (value x)) (key y) ≡ Some (value y)) (same_some x r e)
@@ -133,7 +144,8 @@ module _ {K V X : Type 0} {R : K → K → Ordering} (o : IsTotalOrder R) (same 
       let more = total-insert o same f (map_of {R = R} key value rows) (key x) (value x) (first_alone x rows h) in
       omega (arith, more, total_rows f rows (apart_tail key x rows h), sum_by-cons (λ r. f (value r)) x rows)
 
-  entries_push : (rows : List X) (r : X) → entries_of key value (rows ++ r ∷ []) ≡ entries_of key value rows ++ (key r, value r) ∷ []
+  entries_push : (rows : List X) (r : X)
+      → entries_of key value (rows ++ r ∷ []) ≡ entries_of key value rows ++ (key r, value r) ∷ []
   entries_push [] r = refl
   entries_push (x ∷ rows) r = ap (λ es. (key x, value x) ∷ es) (entries_push rows r)
 
@@ -151,7 +163,8 @@ module _ {K V X : Type 0} {R : K → K → Ordering} (o : IsTotalOrder R) (same 
       some_none (sym ((IsMapOf-rows rows h).has j s there) ∙ (ap (fin.get (map_of {R = R} key value rows)) is ∙ absent))
 
   -- a row is changed where it stands, and keeps its key
-  pub map_set : (rows : List X) (i : ℕ) (old r : X) → AreApart key (row_in rows) → i < length rows → slice_get rows i ≡ Some old → key r ≡ key old
+  pub map_set : (rows : List X) (i : ℕ) (old r : X) → AreApart key (row_in rows) → i < length rows
+      → slice_get rows i ≡ Some old → key r ≡ key old
       → map_of {R = R} key value (set rows i r) ≡ fin.insert (map_of key value rows) (key r) (value r)
   map_set rows i old r h within there keeps =
       let c = Changed-set rows i r within in
@@ -162,7 +175,8 @@ module _ {K V X : Type 0} {R : K → K → Ordering} (o : IsTotalOrder R) (same 
       (λ j s e is. h.apart j i s old e there (is ∙ keeps)))
 
   -- a row is taken out
-  pub map_remove : (rows : List X) (i : ℕ) (old : X) → AreApart key (row_in rows) → slice_get rows i ≡ Some old
+  pub map_remove : (rows : List X) (i : ℕ) (old : X) → AreApart key (row_in rows)
+      → slice_get rows i ≡ Some old
       → map_of {R = R} key value (remove rows i) ≡ fin.remove (map_of key value rows) (key old)
   map_remove rows i old h there =
       let m = map_of {R = R} key value rows in
@@ -179,11 +193,13 @@ module _ {K V X : Type 0} {R : K → K → Ordering} (o : IsTotalOrder R) (same 
       })
 
   -- the rows that pass a test of their values are left
-  entries_retained : (test : V → Bool) (rows : List X) → entries_of key value (filter (λ r. test (value r)) rows) ≡ filter (λ e. test e.1) (entries_of key value rows)
+  entries_retained : (test : V → Bool) (rows : List X)
+      → entries_of key value (filter (λ r. test (value r)) rows) ≡ filter (λ e. test e.1) (entries_of key value rows)
   entries_retained test [] = refl
   entries_retained test (x ∷ rows) = cases (entries_retained test rows) (test (value x)) where
     cases : entries_of key value (filter (λ r. test (value r)) rows) ≡ filter (λ e. test e.1) (entries_of key value rows)
-        → (b : Bool) → entries_of key value (cond b (x ∷ filter (λ r. test (value r)) rows) (filter (λ r. test (value r)) rows))
+        → (b : Bool)
+        → entries_of key value (cond b (x ∷ filter (λ r. test (value r)) rows) (filter (λ r. test (value r)) rows))
         ≡ cond b ((key x, value x) ∷ filter (λ e. test e.1) (entries_of key value rows)) (filter (λ e. test e.1) (entries_of key value rows))
     cases rest true = ap (λ es. (key x, value x) ∷ es) rest
     cases rest false = rest
@@ -203,7 +219,8 @@ module _ {X : Type 0} (p : X → Bool) where
   FindsIn rows None = (j : ℕ) (s : X) → slice_get rows j ≡ Some s → p s ≡ false
   FindsIn rows (Some r) = (i : ℕ) × (slice_get rows i ≡ Some r) × (p r ≡ true)
 
-  fails_first : (x : X) (rows : List X) (w : Option X) → p x ≡ false → FindsIn rows w → FindsIn (x ∷ rows) w
+  fails_first : (x : X) (rows : List X) (w : Option X) → p x ≡ false → FindsIn rows w
+      → FindsIn (x ∷ rows) w
   fails_first x rows None fails h = later where
     later : (j : ℕ) (s : X) → slice_get (x ∷ rows) j ≡ Some s → p s ≡ false
     later zero s e = sym (ap p (same_some x s e)) ∙ fails
@@ -213,7 +230,8 @@ module _ {X : Type 0} (p : X → Bool) where
   pub finds_in : (rows : List X) → FindsIn rows (find_first p rows)
   finds_in [] = λ j s e. some_none (sym e)
   finds_in (x ∷ rows) = cases (finds_in rows) (p x) refl where
-    cases : FindsIn rows (find_first p rows) → (b : Bool) → p x ≡ b → FindsIn (x ∷ rows) (cond b (Some x) (find_first p rows))
+    cases : FindsIn rows (find_first p rows) → (b : Bool) → p x ≡ b
+        → FindsIn (x ∷ rows) (cond b (Some x) (find_first p rows))
     cases rest true is = (zero, refl, is)
     cases rest false is = fails_first x rows (find_first p rows) is rest
 
@@ -236,21 +254,28 @@ module _ {K X : Type 0} {R : K → K → Ordering} (o : IsTotalOrder R) (same : 
 
 -- the rows that a test leaves stood elsewhere apart, and stay so
 module _ {A X : Type 0} (part : X → A) (test : X → Bool) where
-  was_there : (rows : List X) (i : ℕ) (r : X) → slice_get (filter test rows) i ≡ Some r → (j : ℕ) × (slice_get rows j ≡ Some r)
+  was_there : (rows : List X) (i : ℕ) (r : X) → slice_get (filter test rows) i ≡ Some r
+      → (j : ℕ) × (slice_get rows j ≡ Some r)
   was_there [] i r e = some_none (sym e)
   was_there (x ∷ rows) i r e = cases (was_there rows) (test x) i e where
     cases : ((i : ℕ) (r : X) → slice_get (filter test rows) i ≡ Some r → (j : ℕ) × (slice_get rows j ≡ Some r))
-        → (b : Bool) (i : ℕ) → slice_get (cond b (x ∷ filter test rows) (filter test rows)) i ≡ Some r → (j : ℕ) × (slice_get (x ∷ rows) j ≡ Some r)
+        → (b : Bool) (i : ℕ)
+        → slice_get (cond b (x ∷ filter test rows) (filter test rows)) i ≡ Some r
+        → (j : ℕ) × (slice_get (x ∷ rows) j ≡ Some r)
     cases rest true zero e = (zero, e)
     cases rest true (suc i) e = (let s = rest i r e in (suc s.0, s.1))
     cases rest false i e = (let s = rest i r e in (suc s.0, s.1))
 
-  pub AreApart-filter : (rows : List X) → AreApart part (row_in rows) → AreApart part (row_in (filter test rows))
+  pub AreApart-filter : (rows : List X) → AreApart part (row_in rows)
+      → AreApart part (row_in (filter test rows))
   AreApart-filter [] h = h
   AreApart-filter (x ∷ rows) h = cases (AreApart-filter rows (apart_tail part x rows h)) (test x) where
-    cases : AreApart part (row_in (filter test rows)) → (b : Bool) → AreApart part (row_in (cond b (x ∷ filter test rows) (filter test rows)))
+    cases : AreApart part (row_in (filter test rows)) → (b : Bool)
+        → AreApart part (row_in (cond b (x ∷ filter test rows) (filter test rows)))
     cases rest true = record { apart = places rest } where
-      places : AreApart part (row_in (filter test rows)) → (i j : ℕ) (r s : X) → slice_get (x ∷ filter test rows) i ≡ Some r → slice_get (x ∷ filter test rows) j ≡ Some s → part r ≡ part s → i ≡ j
+      places : AreApart part (row_in (filter test rows)) → (i j : ℕ) (r s : X)
+          → slice_get (x ∷ filter test rows) i ≡ Some r
+          → slice_get (x ∷ filter test rows) j ≡ Some s → part r ≡ part s → i ≡ j
       places rest zero zero r s p q e = refl
       places rest zero (suc j) r s p q e = (let was = was_there rows j s q in let at : zero ≡ suc was.0 = h.apart zero (suc was.0) r s p was.1 e in absurd (omega arith))
       places rest (suc i) zero r s p q e = (let was = was_there rows i r p in let at : suc was.0 ≡ zero = h.apart (suc was.0) zero r s was.1 q e in absurd (omega arith))

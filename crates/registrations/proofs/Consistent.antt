@@ -19,7 +19,8 @@ use Rattle.registrations.specs.Registry.{Live, at_address, IsConsistent}
 
 module _ (live : Live) (sound : IsConsistent live) where
   -- who is registered is found by the call signal address
-  pub at_address-live : (id : List ℕ) (r : Registration) → fin.get live id ≡ Some r → at_address live r.call_signal ≡ Some r
+  pub at_address-live : (id : List ℕ) (r : Registration) → fin.get live id ≡ Some r
+      → at_address live r.call_signal ≡ Some r
   at_address-live id r there =
       find_one nat_list_cmp_total exact_bytes (λ s. same_address s.call_signal r.call_signal) live id r there
       ((address_decides r.call_signal r.call_signal).1 refl)
@@ -28,7 +29,9 @@ module _ (live : Live) (sound : IsConsistent live) where
       same_some s r (sym other ∙ (ap (fin.get live) same ∙ there))))
 
   -- nobody is found where no registration has the address
-  pub at_address-none : (address : Address) → ((id : List ℕ) (r : Registration) → fin.get live id ≡ Some r → r.call_signal ≢ address) → at_address live address ≡ None
+  pub at_address-none : (address : Address)
+      → ((id : List ℕ) (r : Registration) → fin.get live id ≡ Some r → r.call_signal ≢ address)
+      → at_address live address ≡ None
   at_address-none address none =
       find_none nat_list_cmp_total exact_bytes (λ s. same_address s.call_signal address) live
       (λ id r there. test_false (same_address r.call_signal address) (address_decides r.call_signal address) (none id r there))
@@ -38,7 +41,8 @@ pub record IsAt (live : Live) (address : Address) (r : Registration) : Type 0 wh
   pub live_is : fin.get live r.identifier ≡ Some r
   pub address_is : r.call_signal ≡ address
 
-pub IsAt-found : (live : Live) → IsConsistent live → (address : Address) (r : Registration) → at_address live address ≡ Some r → IsAt live address r
+pub IsAt-found : (live : Live) → IsConsistent live → (address : Address) (r : Registration)
+    → at_address live address ≡ Some r → IsAt live address r
 IsAt-found live sound address r found =
     let row = find_some nat_list_cmp_total exact_bytes (λ s. same_address s.call_signal address) live r found in
     record {
@@ -46,7 +50,8 @@ IsAt-found live sound address r found =
       address_is = (address_decides r.call_signal address).0 row.2;
     }
 
-pub none_at : (live : Live) (address : Address) → at_address live address ≡ None → (id : List ℕ) (r : Registration) → fin.get live id ≡ Some r → r.call_signal ≢ address
+pub none_at : (live : Live) (address : Address) → at_address live address ≡ None
+    → (id : List ℕ) (r : Registration) → fin.get live id ≡ Some r → r.call_signal ≢ address
 none_at live address none id r there is =
     some_none (sym (ap (λ b. cond b (Some r) None) ((address_decides r.call_signal address).1 is))
     ∙ ap (λ b. cond b (Some r) None) (find_fails nat_list_cmp_total exact_bytes (λ s. same_address s.call_signal address) live none id r there))
@@ -59,7 +64,8 @@ IsConsistent-empty = record {
 }
 
 -- one more, under an identifier and with an address of its own
-pub IsConsistent-insert : (live : Live) (r : Registration) → IsConsistent live → fin.get live r.identifier ≡ None → at_address live r.call_signal ≡ None
+pub IsConsistent-insert : (live : Live) (r : Registration) → IsConsistent live
+    → fin.get live r.identifier ≡ None → at_address live r.call_signal ≡ None
     → IsConsistent (fin.insert live r.identifier r)
 IsConsistent-insert live r sound absent free =
     let c = Changed-insert nat_list_cmp_total exact_bytes live r.identifier r in
@@ -78,12 +84,14 @@ IsConsistent-insert live r sound absent free =
     }
 
 -- one less
-pub IsConsistent-remove : (live : Live) (id : List ℕ) → IsConsistent live → IsConsistent (fin.remove live id)
+pub IsConsistent-remove : (live : Live) (id : List ℕ) → IsConsistent live
+    → IsConsistent (fin.remove live id)
 IsConsistent-remove live id sound = record {
   own = λ i r e. sound.own i r (kept i r e);
   apart = λ i j r s p q e. sound.apart i j r s (kept i r p) (kept j s q) e;
 } where
-  kept : (i : List ℕ) (r : Registration) → fin.get (fin.remove live id) i ≡ Some r → fin.get live i ≡ Some r
+  kept : (i : List ℕ) (r : Registration) → fin.get (fin.remove live id) i ≡ Some r
+      → fin.get live i ≡ Some r
   kept i r e =
       let c = Changed-remove nat_list_cmp_total exact_bytes live id in
       by_key nat_list_cmp_total exact_bytes i id (fin.get live i ≡ Some r)
@@ -100,11 +108,13 @@ pub record WasThere (live : Live) (id : List ℕ) (f : Registration → Registra
   pub there : fin.get live i ≡ Some r
   pub is : (s ≡ r) ⊎ ((i ≡ id) × (s ≡ f r))
 
-mapped : {A : Type 0} (w : Option A) (f : A → A) (s : A) → option_map f w ≡ Some s → (r : A) × (w ≡ Some r) × (s ≡ f r)
+mapped : {A : Type 0} (w : Option A) (f : A → A) (s : A) → option_map f w ≡ Some s
+    → (r : A) × (w ≡ Some r) × (s ≡ f r)
 mapped None f s e = some_none (sym e)
 mapped (Some r) f s e = (r, refl, sym (same_some (f r) s e))
 
-pub was_there : (live : Live) (id : List ℕ) (f : Registration → Registration) (i : List ℕ) (s : Registration) → fin.get (update live id f) i ≡ Some s
+pub was_there : (live : Live) (id : List ℕ) (f : Registration → Registration) (i : List ℕ) (s : Registration)
+    → fin.get (update live id f) i ≡ Some s
     → (r : Registration) × WasThere live id f i s r
 was_there live id f i s e =
     let c = Changed-update nat_list_cmp_total exact_bytes live id f in
@@ -113,14 +123,16 @@ was_there live id f i s e =
     (was.0, record { there = ap (fin.get live) p ∙ was.1; is = inr (p, was.2) }))
     (λ differ. (s, record { there = sym (c.others i differ) ∙ e; is = inl refl }))
 
-pub same_part : {A : Type 0} (live : Live) (id : List ℕ) (f : Registration → Registration) (part : Registration → A) → ((r : Registration) → part (f r) ≡ part r)
+pub same_part : {A : Type 0} (live : Live) (id : List ℕ) (f : Registration → Registration) (part : Registration → A)
+    → ((r : Registration) → part (f r) ≡ part r)
     → (i : List ℕ) (s r : Registration) → WasThere live id f i s r → part s ≡ part r
 same_part live id f part keeps i s r was = elim was.is [
   | inl e ↦ ap part e
   | inr e ↦ ap part e.1 ∙ keeps r
 ]
 
-pub IsConsistent-update : (live : Live) (id : List ℕ) (f : Registration → Registration) → IsConsistent live → KeepsNames f → IsConsistent (update live id f)
+pub IsConsistent-update : (live : Live) (id : List ℕ) (f : Registration → Registration)
+    → IsConsistent live → KeepsNames f → IsConsistent (update live id f)
 IsConsistent-update live id f sound keeps = record {
   own = λ i s e. (let was = was_there live id f i s e in
       same_part live id f (λ r. r.identifier) keeps.identifier i s was.0 was.1 ∙ sound.own i was.0 was.1.there);
@@ -132,19 +144,23 @@ IsConsistent-update live id f sound keeps = record {
 
 -- who is found by an address after each change
 module _ (live : Live) (sound : IsConsistent live) where
-  pub at_address-insert : (r : Registration) → fin.get live r.identifier ≡ None → at_address live r.call_signal ≡ None
+  pub at_address-insert : (r : Registration) → fin.get live r.identifier ≡ None
+      → at_address live r.call_signal ≡ None
       → at_address (fin.insert live r.identifier r) r.call_signal ≡ Some r
   at_address-insert r absent free =
       at_address-live (fin.insert live r.identifier r) (IsConsistent-insert live r sound absent free) r.identifier r
       (Changed-insert nat_list_cmp_total exact_bytes live r.identifier r).here
 
-  pub at_address-insert_others : (r : Registration) (address : Address) → fin.get live r.identifier ≡ None → at_address live r.call_signal ≡ None → r.call_signal ≢ address
+  pub at_address-insert_others : (r : Registration) (address : Address)
+      → fin.get live r.identifier ≡ None → at_address live r.call_signal ≡ None
+      → r.call_signal ≢ address
       → at_address (fin.insert live r.identifier r) address ≡ at_address live address
   at_address-insert_others r address absent free differ = cases (at_address live address) refl where
     next : IsConsistent (fin.insert live r.identifier r)
     next = IsConsistent-insert live r sound absent free
 
-    cases : (w : Option Registration) → at_address live address ≡ w → at_address (fin.insert live r.identifier r) address ≡ w
+    cases : (w : Option Registration) → at_address live address ≡ w
+        → at_address (fin.insert live r.identifier r) address ≡ w
     cases (Some s) found =
         let at = IsAt-found live sound address s found in
         let other : s.identifier ≢ r.identifier = λ e. some_none (sym at.live_is ∙ (ap (fin.get live) e ∙ absent)) in
@@ -155,7 +171,8 @@ module _ (live : Live) (sound : IsConsistent live) where
         (λ p is. differ (ap (λ (x : Registration). x.call_signal) (same_some r s (sym (Changed-insert nat_list_cmp_total exact_bytes live r.identifier r).here ∙ (ap (fin.get (fin.insert live r.identifier r)) (sym p) ∙ there))) ∙ is))
         (λ other. none_at live address none i s (sym ((Changed-insert nat_list_cmp_total exact_bytes live r.identifier r).others i other) ∙ there)))
 
-  pub at_address-remove : (id : List ℕ) (address : Address) (r : Registration) → at_address live address ≡ Some r → r.identifier ≡ id
+  pub at_address-remove : (id : List ℕ) (address : Address) (r : Registration)
+      → at_address live address ≡ Some r → r.identifier ≡ id
       → at_address (fin.remove live id) address ≡ None
   at_address-remove id address r found same =
       let at = IsAt-found live sound address r found in
@@ -165,13 +182,15 @@ module _ (live : Live) (sound : IsConsistent live) where
       (λ p. some_none (sym there ∙ (ap (fin.get (fin.remove live id)) p ∙ c.here)))
       (λ differ. differ (sound.apart i r.identifier s r (sym (c.others i differ) ∙ there) at.live_is (is ∙ sym at.address_is) ∙ same)))
 
-  pub at_address-remove_others : (id : List ℕ) (address : Address) → ((r : Registration) → at_address live address ≡ Some r → r.identifier ≢ id)
+  pub at_address-remove_others : (id : List ℕ) (address : Address)
+      → ((r : Registration) → at_address live address ≡ Some r → r.identifier ≢ id)
       → at_address (fin.remove live id) address ≡ at_address live address
   at_address-remove_others id address other = cases (at_address live address) refl where
     next : IsConsistent (fin.remove live id)
     next = IsConsistent-remove live id sound
 
-    cases : (w : Option Registration) → at_address live address ≡ w → at_address (fin.remove live id) address ≡ w
+    cases : (w : Option Registration) → at_address live address ≡ w
+        → at_address (fin.remove live id) address ≡ w
     cases (Some r) found =
         let at = IsAt-found live sound address r found in
         ap (at_address (fin.remove live id)) (sym at.address_is)
@@ -182,7 +201,9 @@ module _ (live : Live) (sound : IsConsistent live) where
         (λ differ. none_at live address none i s (sym ((Changed-remove nat_list_cmp_total exact_bytes live id).others i differ) ∙ there)))
 
   module _ (id : List ℕ) (f : Registration → Registration) (keeps : KeepsNames f) where
-    pub at_address-update : (address : Address) (r : Registration) → at_address live address ≡ Some r → r.identifier ≡ id → at_address (update live id f) address ≡ Some (f r)
+    pub at_address-update : (address : Address) (r : Registration)
+        → at_address live address ≡ Some r → r.identifier ≡ id
+        → at_address (update live id f) address ≡ Some (f r)
     at_address-update address r found same =
         let at = IsAt-found live sound address r found in
         let c = Changed-update nat_list_cmp_total exact_bytes live id f in
@@ -190,13 +211,15 @@ module _ (live : Live) (sound : IsConsistent live) where
         ap (at_address (update live id f)) (sym (keeps.call_signal r ∙ at.address_is))
         ∙ at_address-live (update live id f) (IsConsistent-update live id f sound keeps) id (f r) there
 
-    pub at_address-update_others : (address : Address) → ((r : Registration) → at_address live address ≡ Some r → r.identifier ≢ id)
+    pub at_address-update_others : (address : Address)
+        → ((r : Registration) → at_address live address ≡ Some r → r.identifier ≢ id)
         → at_address (update live id f) address ≡ at_address live address
     at_address-update_others address other = cases (at_address live address) refl where
       next : IsConsistent (update live id f)
       next = IsConsistent-update live id f sound keeps
 
-      cases : (w : Option Registration) → at_address live address ≡ w → at_address (update live id f) address ≡ w
+      cases : (w : Option Registration) → at_address live address ≡ w
+          → at_address (update live id f) address ≡ w
       cases (Some r) found =
           let at = IsAt-found live sound address r found in
           ap (at_address (update live id f)) (sym at.address_is)

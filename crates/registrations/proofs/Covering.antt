@@ -21,23 +21,27 @@ length-without : (n : ℕ) (ns : List ℕ) → length (without n ns) ≤ length 
 length-without n [] = omega arith
 length-without n (m ∷ ns) = grind (arith, nat_tests, length-without n ns)
 
-length-without_one : (n : ℕ) (ns : List ℕ) → has_number ns n ≡ true → length (without n ns) < length ns
+length-without_one : (n : ℕ) (ns : List ℕ) → has_number ns n ≡ true
+    → length (without n ns) < length ns
 length-without_one n [] has = absurd (cc has)
 length-without_one n (m ∷ ns) has = grind (arith, nat_tests, length-without_one n ns, length-without n ns)
 
-has-without : (n k : ℕ) (ns : List ℕ) → k ≢ n → has_number ns k ≡ true → has_number (without n ns) k ≡ true
+has-without : (n k : ℕ) (ns : List ℕ) → k ≢ n → has_number ns k ≡ true
+    → has_number (without n ns) k ≡ true
 has-without n k [] differ has = has
 has-without n k (m ∷ ns) differ has = grind (arith, nat_tests, has-without n k ns)
 
 -- a list that has n numbers in a row has n members
-covers : (start n : ℕ) (ns : List ℕ) → ((k : ℕ) → k < n → has_number ns (start + k) ≡ true) → n ≤ length ns
+covers : (start n : ℕ) (ns : List ℕ) → ((k : ℕ) → k < n → has_number ns (start + k) ≡ true)
+    → n ≤ length ns
 covers start zero ns each = omega arith
 covers start (suc n) ns each =
     let here : has_number ns (start + n) ≡ true = each n (omega arith) in
     let fewer = length-without_one (start + n) ns here in
     omega (arith, fewer, covers start n (without (start + n) ns) (λ k below. has-without (start + n) (start + k) ns (λ e. omega arith) (each k (omega arith))))
 
-either : (a b c d : Bool) → (a ≡ true → c ≡ true) → (b ≡ true → d ≡ true) → (a || b) ≡ true → (c || d) ≡ true
+either : (a b c d : Bool) → (a ≡ true → c ≡ true) → (b ≡ true → d ≡ true) → (a || b) ≡ true
+    → (c || d) ≡ true
 either true b c d first rest h = ap (λ x. x || d) (first refl)
 either false b true d first rest h = refl
 either false b false d first rest h = rest h
@@ -45,7 +49,8 @@ either false b false d first rest h = rest h
 abbrev pub has_id : List (List ℕ) → List ℕ → Bool
 has_id ids id = list_any (λ i. pointwise nat_eq i id) ids
 
-has_its_number : (ids : List (List ℕ)) (id : List ℕ) → has_id ids id ≡ true → has_number (map number_of ids) (number_of id) ≡ true
+has_its_number : (ids : List (List ℕ)) (id : List ℕ) → has_id ids id ≡ true
+    → has_number (map number_of ids) (number_of id) ≡ true
 has_its_number [] id has = has
 has_its_number (i ∷ ids) id has =
     either (pointwise nat_eq i id) (has_id ids id) (number_of i == number_of id) _
@@ -68,14 +73,17 @@ used_any (r ∷ rows) taken id =
     ∙ or_assoc (pointwise nat_eq r.identifier id) (list_any (λ (i : Registration). pointwise nat_eq i.identifier id) rows) (has_id taken id)
 
 -- a number whose text is used is among their numbers
-pub number_used : (rows : List Registration) (taken : List (List ℕ)) (id : List ℕ) (n : ℕ) → number_of id ≡ n
-    → (list_any (λ r. pointwise nat_eq r.identifier id) rows || has_id taken id) ≡ true → has_number (map number_of (used rows taken)) n ≡ true
+pub number_used : (rows : List Registration) (taken : List (List ℕ)) (id : List ℕ) (n : ℕ)
+    → number_of id ≡ n
+    → (list_any (λ r. pointwise nat_eq r.identifier id) rows || has_id taken id) ≡ true
+    → has_number (map number_of (used rows taken)) n ≡ true
 number_used rows taken id n is has =
     subst (λ (m : ℕ). has_number (map number_of (used rows taken)) m ≡ true) is (has_its_number (used rows taken) id (used_any rows taken id ∙ has))
 
 -- of one number more than there are texts, not all can be used
 pub not_all : (rows : List Registration) (taken : List (List ℕ)) (start : ℕ)
-    → ((k : ℕ) → k < length rows + length taken + 1 → has_number (map number_of (used rows taken)) (start + k) ≡ true) → ⊥
+    → ((k : ℕ) → k < length rows + length taken + 1 → has_number (map number_of (used rows taken)) (start + k) ≡ true)
+    → ⊥
 not_all rows taken start each =
     let most = covers start (length rows + length taken + 1) (map number_of (used rows taken)) each in
     omega (arith, most, length-map (used rows taken) number_of, length-append (map identifier_of rows) taken, length-map rows identifier_of)

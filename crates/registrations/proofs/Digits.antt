@@ -17,7 +17,8 @@ one_digit r k =
     omega (arith, ap (λ x. x * 10 ^ k) parts, ap (λ x. (r / 10) * x) power)
 
 -- one more digit on the left
-pub digit_more : (ds : List ℕ) (k r n : ℕ) → length ds ≡ 20 → k < 20 → number_of (drop (20 - k) ds) + r * 10 ^ k ≡ n
+pub digit_more : (ds : List ℕ) (k r n : ℕ) → length ds ≡ 20 → k < 20
+    → number_of (drop (20 - k) ds) + r * 10 ^ k ≡ n
     → number_of (drop (20 - (k + 1)) (set ds (19 - k) (48 + r % 10))) + (r / 10) * 10 ^ (k + 1) ≡ n
 digit_more ds k r n len below is =
     let rest = drop (20 - k) ds in
@@ -30,13 +31,15 @@ digit_more ds k r n len below is =
     let product : (digit - 48) * 10 ^ length rest ≡ (r % 10) * 10 ^ k = λ i. head i * 10 ^ rest_len i in
     omega (arith, ap number_of tail, product, one_digit r k, is)
 
-pub skip_zero : (ds : List ℕ) (i : ℕ) → i < length ds → get_or ds i 0 ≡ 48 → number_of (drop (i + 1) ds) ≡ number_of (drop i ds)
+pub skip_zero : (ds : List ℕ) (i : ℕ) → i < length ds → get_or ds i 0 ≡ 48
+    → number_of (drop (i + 1) ds) ≡ number_of (drop i ds)
 skip_zero ds i below zero_here =
     let rest = drop (suc i) ds in
     let parts : drop i ds ≡ get_or ds i 0 ∷ rest = drop-cons ds i 0 below in
     let nothing : (get_or ds i 0 - 48) * 10 ^ length rest ≡ 0 = ap (λ d. (d - 48) * 10 ^ length rest) zero_here ∙ zero-mul (10 ^ length rest) in
     ap (λ j. number_of (drop j ds)) (add-one i) ∙ sym (ap number_of parts ∙ omega (arith, nothing))
 
-pub identifier_text : (text : List ℕ) (o : Option (List ℕ)) → SomeIff o (IsText 128 text) text → 1 ≤ length text → length text ≤ 128 → IsSome o
+pub identifier_text : (text : List ℕ) (o : Option (List ℕ)) → SomeIff o (IsText 128 text) text
+    → 1 ≤ length text → length text ≤ 128 → IsSome o
 identifier_text text None iff some few = absurd (iff (record { some = some; few = few }))
 identifier_text text (Some t) iff some few = refl
