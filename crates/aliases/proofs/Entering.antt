@@ -25,7 +25,8 @@ Changed-with_alias held alias id address = Changed-insert alias_cmp_total alias_
 pub with_aliases-push : (held : Held) (aliases : List Alias) (alias : Alias) (id : List ℕ) (address : Address)
     → with_aliases held (aliases ++ alias ∷ []) id address ≡ with_alias (with_aliases held aliases id address) alias id address
 with_aliases-push held [] alias id address = refl
-with_aliases-push held (a ∷ aliases) alias id address = with_aliases-push (with_alias held a id address) aliases alias id address
+with_aliases-push held (a ∷ aliases) alias id address = with_aliases-push
+    (with_alias held a id address) aliases alias id address
 
 -- the aliases of the list are held so
 pub get-with_aliases : (held : Held) (aliases : List Alias) (id : List ℕ) (address : Address) (alias : Alias)
@@ -39,7 +40,8 @@ get-with_aliases held (a ∷ aliases) id address alias h = Contains-parts a alia
           → fin.get held alias ≡ Some (holding_by id address)
           → fin.get (with_aliases held aliases id address) alias ≡ Some (holding_by id address)
       stays held [] is = is
-      stays held (b ∷ aliases) is = stays (with_alias held b id address) aliases (by_key alias_cmp_total alias_cmp-IsAntisymmetric alias b _
+      stays held (b ∷ aliases) is = stays (with_alias held b id address) aliases
+          (by_key alias_cmp_total alias_cmp-IsAntisymmetric alias b _
           (λ e. ap (fin.get (with_alias held b id address)) e ∙ (Changed-with_alias held b id address).here)
           (λ differ. (Changed-with_alias held b id address).others alias differ ∙ is))
 
@@ -49,7 +51,8 @@ pub get-with_other_aliases : (held : Held) (aliases : List Alias) (id : List ℕ
     → fin.get (with_aliases held aliases id address) alias ≡ fin.get held alias
 get-with_other_aliases held [] id address alias h = refl
 get-with_other_aliases held (a ∷ aliases) id address alias h =
-    get-with_other_aliases (with_alias held a id address) aliases id address alias (λ later. h (Contains-later a aliases alias later))
+    get-with_other_aliases (with_alias held a id address) aliases id address alias
+    (λ later. h (Contains-later a aliases alias later))
     ∙ (Changed-with_alias held a id address).others alias (λ e. h (zero, omega arith, sym e))
 
 -- what is left of an endpoint's aliases: nothing
@@ -59,7 +62,8 @@ is_another id h = not (pointwise nat_eq h.holder id)
 left_of : (held : Held) (id : List ℕ) (alias : Alias) (w : Option Holding)
     → fin.get held alias ≡ w
     → fin.get (without_holder held id) alias ≡ option_filter (is_another id) w
-left_of held id alias w is = get_retained alias_cmp_total alias_cmp-IsAntisymmetric (is_another id) held alias ∙ ap (option_filter (is_another id)) is
+left_of held id alias w is = get_retained alias_cmp_total alias_cmp-IsAntisymmetric
+    (is_another id) held alias ∙ ap (option_filter (is_another id)) is
 
 pub get-without_holder : (held : Held) (id : List ℕ) (alias : Alias) → fin.get held alias ≡ None
     → fin.get (without_holder held id) alias ≡ None
@@ -68,13 +72,15 @@ get-without_holder held id alias none = left_of held id alias None none
 pub get-without_own : (held : Held) (id : List ℕ) (alias : Alias) (h : Holding)
     → fin.get held alias ≡ Some h → h.holder ≡ id → fin.get (without_holder held id) alias ≡ None
 get-without_own held id alias h is same =
-    left_of held id alias (Some h) is ∙ ap (λ b. cond (not b) (Some h) None) ((texts_decide h.holder id).1 same)
+    left_of held id alias (Some h) is ∙ ap (λ b. cond (not b) (Some h) None)
+    ((texts_decide h.holder id).1 same)
 
 pub get-without_another : (held : Held) (id : List ℕ) (alias : Alias) (h : Holding)
     → fin.get held alias ≡ Some h → h.holder ≢ id
     → fin.get (without_holder held id) alias ≡ Some h
 get-without_another held id alias h is differ =
-    left_of held id alias (Some h) is ∙ ap (λ b. cond (not b) (Some h) None) (test_false (pointwise nat_eq h.holder id) (texts_decide h.holder id) differ)
+    left_of held id alias (Some h) is ∙ ap (λ b. cond (not b) (Some h) None)
+    (test_false (pointwise nat_eq h.holder id) (texts_decide h.holder id) differ)
 
 -- what is held there was held by another before
 pub was_held : (held : Held) (id : List ℕ) (alias : Alias) (h : Holding)
@@ -84,7 +90,8 @@ was_held held id alias h is = cases (fin.get held alias) refl where
   another : (x : Holding) → fin.get held alias ≡ Some x → x.holder ≢ id
       → (fin.get held alias ≡ Some h) × (h.holder ≢ id)
   another x there differ =
-      let same : x ≡ h = same_some x h (sym (get-without_another held id alias x there differ) ∙ is) in
+      let same : x ≡ h = same_some x h
+      (sym (get-without_another held id alias x there differ) ∙ is) in
       (there ∙ ap Some same, λ e. differ (ap (λ (y : Holding). y.holder) same ∙ e))
 
   cases : (w : Option Holding) → fin.get held alias ≡ w
@@ -105,7 +112,8 @@ pub free_with_aliases : (held : Held) (aliases : List Alias) (a : Alias) (id : L
     → IsHeldByAnother (with_aliases held aliases id address) a id → ⊥
 free_with_aliases held [] a id address free other = free other
 free_with_aliases held (b ∷ aliases) a id address free other =
-    free_with_aliases (with_alias held b id address) aliases a id address (free_with_alias held a b id address free) other
+    free_with_aliases (with_alias held b id address) aliases a id address
+    (free_with_alias held a b id address free) other
 
 pub set_succeeds : (r : Result (Unit {0}) (Alias × SetFault)) (held : Held) (alias : Alias) (id : List ℕ)
     → (r ≡ Err (alias, Duplicate) → IsHeldByAnother held alias id)

@@ -48,7 +48,8 @@ pub looked_up : (rows : List Row) (held : Held) (alias : Alias) (w : Option Row)
     → held_in rows ≡ held → w ≡ find_first (λ r. same_alias r.alias alias) rows
     → fin.get held alias ≡ option_map holding_of w
 looked_up rows held alias w is found =
-    ap (λ m. fin.get m alias) (sym is) ∙ (sym (get_row rows alias) ∙ ap (option_map holding_of) (sym found))
+    ap (λ m. fin.get m alias) (sym is) ∙
+    (sym (get_row rows alias) ∙ ap (option_map holding_of) (sym found))
 
 -- the rows that a test leaves stay apart
 pub AreApart-filter : (test : Row → Bool) (rows : List Row) → AreApart alias_of (row_in rows)
@@ -83,17 +84,20 @@ pub AreApart-write : (rows : List Row) (i : ℕ) (old new : Row) → AreApart al
     → slice_get rows i ≡ Some old → new.alias ≡ old.alias
     → AreApart alias_of (row_in (set rows i new))
 AreApart-write rows i old new h there keeps =
-    AreApart-set alias_of (row_in rows) (row_in (set rows i new)) i old new h there keeps (Changed-set rows i new (slice_get_within rows i old there))
+    AreApart-set alias_of (row_in rows) (row_in (set rows i new)) i old new h there keeps
+    (Changed-set rows i new (slice_get_within rows i old there))
 
 pub held_write : (rows : List Row) (i : ℕ) (old new : Row) → AreApart alias_of (row_in rows)
     → slice_get rows i ≡ Some old → new.alias ≡ old.alias
     → held_in (set rows i new) ≡ fin.insert (held_in rows) new.alias (holding_of new)
 held_write rows i old new h there keeps =
-    map_set alias_cmp_total alias_cmp-IsAntisymmetric alias_of holding_of rows i old new h (slice_get_within rows i old there) there keeps
+    map_set alias_cmp_total alias_cmp-IsAntisymmetric alias_of holding_of rows i old new h
+    (slice_get_within rows i old there) there keeps
 
 pub IsHeldByAnother-found : (held : Held) (alias : Alias) (id : List ℕ) (h : Holding)
     → fin.get held alias ≡ Some h → h.holder ≢ id → IsHeldByAnother held alias id
-IsHeldByAnother-found held alias id h is differ = subst (λ w. IsSomeAnd w (λ h. h.holder ≢ id)) (sym is) differ
+IsHeldByAnother-found held alias id h is differ = subst (λ w. IsSomeAnd w (λ h. h.holder ≢ id))
+    (sym is) differ
 
 pub not_by_another : (held : Held) (alias : Alias) (id : List ℕ) (h : Holding)
     → fin.get held alias ≡ Some h → h.holder ≡ id → IsHeldByAnother held alias id → ⊥
@@ -117,5 +121,7 @@ same_holder a b h = (texts_decide a b).0 (closed (pointwise nat_eq a b) h)
 pub AreApart-pushed : (rows new : List Row) (r : Row) (b : Bool)
     → new ≡ (if b then rows ++ r ∷ [] else rows) → AreApart alias_of (row_in rows)
     → fin.get (held_in rows) r.alias ≡ None → AreApart alias_of (row_in new)
-AreApart-pushed rows new r true is h absent = subst (λ (l : List Row). AreApart alias_of (row_in l)) (sym is) (AreApart-push rows r h absent)
-AreApart-pushed rows new r false is h absent = subst (λ (l : List Row). AreApart alias_of (row_in l)) (sym is) h
+AreApart-pushed rows new r true is h absent = subst
+    (λ (l : List Row). AreApart alias_of (row_in l)) (sym is) (AreApart-push rows r h absent)
+AreApart-pushed rows new r false is h absent = subst
+    (λ (l : List Row). AreApart alias_of (row_in l)) (sym is) h

@@ -133,13 +133,15 @@ module _ {K : Type 0} {R : K → K → Ordering} (o : IsTotalOrder R) (same : Is
     Changed-update m k f = cases (fin.get m k) refl where
       cases : (x : Option V) → fin.get m k ≡ x
           → Changed (fin.get m) (fin.get (put_if m k (option_map f x))) k (option_map f x)
-      cases None is = subst (λ (w : Option V). Changed (fin.get m) (fin.get m) k w) is (Changed-same (fin.get m) k)
+      cases None is = subst (λ (w : Option V). Changed (fin.get m) (fin.get m) k w) is
+          (Changed-same (fin.get m) k)
       cases (Some v) is = Changed-insert m k (f v)
 
     -- how many
     pub len_more : (m : FinMap R V) (k : K) (v : V) → fin.get m k ≡ None
         → fin.len (fin.insert m k v) ≡ fin.len m + 1
-    len_more m k v absent = fin.len-insert o m k v ∙ ap (λ x. cond (is_some x) (fin.len m) (fin.len m + 1)) absent
+    len_more m k v absent = fin.len-insert o m k v ∙ ap
+        (λ x. cond (is_some x) (fin.len m) (fin.len m + 1)) absent
 
     pub len_less : (m : FinMap R V) (k : K) (old : V) → fin.get m k ≡ Some old
         → fin.len m ≡ fin.len (fin.remove m k) + 1
@@ -157,20 +159,21 @@ module _ {K : Type 0} {R : K → K → Ordering} (o : IsTotalOrder R) (same : Is
     pub find_retained : (test : V → Bool) (q : K) (es : List (K × V)) → IsOnce R es
         → fin.find R q (filter (λ e. test e.1) es) ≡ option_filter test (fin.find R q es)
     find_retained test q [] once = refl
-    find_retained test q (e ∷ es) once = cases (find_retained test q es once.1) (test e.1) refl (eq_by_cmp R q e.0) refl where
-      cases : fin.find R q (filter (λ e. test e.1) es) ≡ option_filter test (fin.find R q es)
-          → (b : Bool) → test e.1 ≡ b → (t : Bool) → eq_by_cmp R q e.0 ≡ t
-          → fin.find R q (cond b (e ∷ filter (λ x. test x.1) es) (filter (λ x. test x.1) es)) ≡ option_filter test (cond t (Some e.1) (fin.find R q es))
-      cases rest true passes true here =
-          ap (λ t. cond t (Some e.1) (fin.find R q (filter (λ x. test x.1) es))) here
-          ∙ sym (ap (λ b. cond b (Some e.1) None) passes)
-      cases rest true passes false differ =
-          ap (λ t. cond t (Some e.1) (fin.find R q (filter (λ x. test x.1) es))) differ ∙ rest
-      cases rest false fails true here =
-          rest
-          ∙ (ap (λ x. option_filter test (fin.find R x es)) ((key_decides q e.0).0 here)
-          ∙ (ap (option_filter test) once.0 ∙ sym (ap (λ b. cond b (Some e.1) None) fails)))
-      cases rest false fails false differ = rest
+    find_retained test q (e ∷ es) once = cases (find_retained test q es once.1) (test e.1) refl
+        (eq_by_cmp R q e.0) refl where
+          cases : fin.find R q (filter (λ e. test e.1) es) ≡ option_filter test (fin.find R q es)
+              → (b : Bool) → test e.1 ≡ b → (t : Bool) → eq_by_cmp R q e.0 ≡ t
+              → fin.find R q (cond b (e ∷ filter (λ x. test x.1) es) (filter (λ x. test x.1) es)) ≡ option_filter test (cond t (Some e.1) (fin.find R q es))
+          cases rest true passes true here =
+              ap (λ t. cond t (Some e.1) (fin.find R q (filter (λ x. test x.1) es))) here
+              ∙ sym (ap (λ b. cond b (Some e.1) None) passes)
+          cases rest true passes false differ =
+              ap (λ t. cond t (Some e.1) (fin.find R q (filter (λ x. test x.1) es))) differ ∙ rest
+          cases rest false fails true here =
+              rest
+              ∙ (ap (λ x. option_filter test (fin.find R x es)) ((key_decides q e.0).0 here)
+              ∙ (ap (option_filter test) once.0 ∙ sym (ap (λ b. cond b (Some e.1) None) fails)))
+          cases rest false fails false differ = rest
 
     pub get_retained : (test : V → Bool) (m : FinMap R V) (q : K)
         → fin.get (retain_values m test) q ≡ option_filter test (fin.get m q)

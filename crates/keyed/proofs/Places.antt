@@ -11,18 +11,21 @@ use Rattle.keyed.proofs.Decide.{by_place, some_none, same_some}
 use Rattle.keyed.proofs.Maps.{by_key, Changed-insert}
 
 -- a row with this key and this value stands at this place
-pub record StandsAt {K V X : Type 0} (key : X → K) (value : X → V) (at : ℕ → Option X) (i : ℕ) (r : X) (k : K) (v : V) : Type 0 where
+pub record StandsAt {K V X : Type 0} (key : X → K) (value : X → V) (at : ℕ → Option X) (i : ℕ)
+    (r : X) (k : K) (v : V) : Type 0 where
   pub there : at i ≡ Some r
   pub key_is : key r ≡ k
   pub value_is : value r ≡ v
 
 -- the map has the value of each row that stands at a place, under its key, and nothing else
-pub record IsMapOf {K V X : Type 0} {R : K → K → Ordering} (key : X → K) (value : X → V) (at : ℕ → Option X) (m : FinMap R V) : Type 0 where
+pub record IsMapOf {K V X : Type 0} {R : K → K → Ordering} (key : X → K) (value : X → V)
+    (at : ℕ → Option X) (m : FinMap R V) : Type 0 where
   pub has : (i : ℕ) (r : X) → at i ≡ Some r → fin.get m (key r) ≡ Some (value r)
   pub stands : (k : K) (v : V) → fin.get m k ≡ Some v
       → (i : ℕ) × (r : X) × StandsAt key value at i r k v
 
-module _ {K V X : Type 0} {R : K → K → Ordering} (o : IsTotalOrder R) (same : IsAntisymmetric R) (key : X → K) (value : X → V) where
+module _ {K V X : Type 0} {R : K → K → Ordering} (o : IsTotalOrder R) (same : IsAntisymmetric R)
+    (key : X → K) (value : X → V) where
   carried : (at : ℕ → Option X) (m n : FinMap R V) → IsMapOf key value at m → IsMapOf key value at n
       → (q : K) (v : V) → fin.get m q ≡ Some v → fin.get n q ≡ Some v
   carried at m n a b q v e =
@@ -32,11 +35,12 @@ module _ {K V X : Type 0} {R : K → K → Ordering} (o : IsTotalOrder R) (same 
   -- the places determine the map
   pub one_map : (at : ℕ → Option X) (m n : FinMap R V) → IsMapOf key value at m
       → IsMapOf key value at n → m ≡ n
-  one_map at m n a b = fin.same_map o same m n (λ q. cases q (fin.get m q) (fin.get n q) refl refl) where
-    cases : (q : K) (x y : Option V) → fin.get m q ≡ x → fin.get n q ≡ y → fin.get m q ≡ fin.get n q
-    cases q (Some v) y p e = p ∙ sym (carried at m n a b q v p)
-    cases q None (Some v) p e = some_none (sym (carried at n m b a q v e) ∙ p)
-    cases q None None p e = p ∙ sym e
+  one_map at m n a b = fin.same_map o same m n
+      (λ q. cases q (fin.get m q) (fin.get n q) refl refl) where
+        cases : (q : K) (x y : Option V) → fin.get m q ≡ x → fin.get n q ≡ y → fin.get m q ≡ fin.get n q
+        cases q (Some v) y p e = p ∙ sym (carried at m n a b q v p)
+        cases q None (Some v) p e = some_none (sym (carried at n m b a q v e) ∙ p)
+        cases q None None p e = p ∙ sym e
 
   -- a row is put at a place, where no other place has its key
   pub IsMapOf-put : (at new : ℕ → Option X) (i : ℕ) (r : X) (m : FinMap R V)
@@ -52,7 +56,8 @@ module _ {K V X : Type 0} {R : K → K → Ordering} (o : IsTotalOrder R) (same 
             subst (λ (x : X). fin.get (fin.insert m (key r) (value r)) (key x) ≡ Some (value x)) is d.here)
             (λ differ. let was : at j ≡ Some s = sym (c.others j differ) ∙ e in
             d.others (key s) (λ k. differ (alone j s was k)) ∙ of.has j s was);
-        stands = λ k v e. by_key o same k (key r) ((j : ℕ) × (s : X) × StandsAt key value new j s k v)
+        stands = λ k v e. by_key o same k (key r)
+            ((j : ℕ) × (s : X) × StandsAt key value new j s k v)
             (λ p. let is : value r ≡ v = same_some (value r) v (sym d.here ∙ (ap (fin.get (fin.insert m (key r) (value r))) (sym p) ∙ e)) in
             (i, r, record { there = c.here; key_is = sym p; value_is = is }))
             (λ differ. let s = of.stands k v (sym (d.others k differ) ∙ e) in

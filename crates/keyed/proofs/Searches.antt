@@ -29,7 +29,8 @@ pub place_below : {K X : Type 0} (key : X → K) (k : K) (rows : List X) (i : �
     → IsPlaceOf key k rows i → i < length rows
 place_below key k rows i h = let row = placed_row key k rows i h in slice_get_within rows i row.0 row.1
 
-module _ {K V X : Type 0} {R : K → K → Ordering} (o : IsTotalOrder R) (same : IsAntisymmetric R) (key : X → K) (value : X → V)
+module _ {K V X : Type 0} {R : K → K → Ordering} (o : IsTotalOrder R) (same : IsAntisymmetric R)
+    (key : X → K) (value : X → V)
     (test : K → K → Bool) (decides : (x q : K) → Decides (test x q) (x ≡ q)) where
   one_test : (q x : K) → eq_by_cmp R q x ≡ test x q
   one_test q x =
@@ -47,7 +48,8 @@ module _ {K V X : Type 0} {R : K → K → Ordering} (o : IsTotalOrder R) (same 
         → (b : Bool) → eq_by_cmp R q (key r) ≡ b
         → option_map value (cond b (Some r) (find_first (has_key q) rows)) ≡ cond (eq_by_cmp R q (key r)) (Some (value r)) (fin.find R q (entries_of key value rows))
     cases rest true is = sym (ap (λ t. cond t (Some (value r)) (fin.find R q (entries_of key value rows))) is)
-    cases rest false is = rest ∙ sym (ap (λ t. cond t (Some (value r)) (fin.find R q (entries_of key value rows))) is)
+    cases rest false is = rest ∙ sym
+        (ap (λ t. cond t (Some (value r)) (fin.find R q (entries_of key value rows))) is)
 
   -- the first row with a key has what the map has under it
   pub find_key : (q : K) (rows : List X) → option_map value (find_first (has_key q) rows) ≡ fin.get (map_of {R = R} key value rows) q
@@ -59,7 +61,8 @@ module _ {K V X : Type 0} {R : K → K → Ordering} (o : IsTotalOrder R) (same 
 
   further : (q : K) (r : X) (rows : List X) (k : ℕ) (w : Option ℕ) → test (key r) q ≡ false
       → PlaceFrom q rows (k + 1) w → PlaceFrom q (r ∷ rows) k w
-  further q r rows k None fails h = ap (λ b. cond b (Some r) (find_first (has_key q) rows)) fails ∙ h
+  further q r rows k None fails h = ap (λ b. cond b (Some r) (find_first (has_key q) rows)) fails
+      ∙ h
   further q r rows k (Some i) fails h = (suc h.0, omega (arith, h.1), h.2)
 
   place_from : (q : K) (rows : List X) (k : ℕ)
@@ -74,8 +77,10 @@ module _ {K V X : Type 0} {R : K → K → Ordering} (o : IsTotalOrder R) (same 
 
   place_zero : (q : K) (rows : List X) (w : Option ℕ) → PlaceFrom q rows 0 w → MatchOption w (fin.get (map_of {R = R} key value rows) q ≡ None) (IsPlaceOf key q rows)
   place_zero q rows None h = sym (find_key q rows) ∙ ap (option_map value) h
-  place_zero q rows (Some i) h = let at : i ≡ h.0 = omega (arith, h.1) in subst (IsPlaceOf key q rows) (sym at) h.2
+  place_zero q rows (Some i) h = let at : i ≡ h.0 = omega (arith, h.1) in subst
+      (IsPlaceOf key q rows) (sym at) h.2
 
   -- where a search by a key stops
   pub key_place : (q : K) (rows : List X) → MatchOption (position (has_key q) rows) (fin.get (map_of {R = R} key value rows) q ≡ None) (IsPlaceOf key q rows)
-  key_place q rows = place_zero q rows _ (subst (PlaceFrom q rows 0) (sym (position_from-zero (has_key q) rows)) (place_from q rows 0))
+  key_place q rows = place_zero q rows _
+      (subst (PlaceFrom q rows 0) (sym (position_from-zero (has_key q) rows)) (place_from q rows 0))

@@ -44,7 +44,8 @@ pub Agree-remove : (live : Live) (held : Held) (id : List ℕ) → Agree live he
 Agree-remove live held id agree =
     let c = Changed-remove nat_list_cmp_total exact_bytes live id in
     record {
-      holds = λ i r alias e has. by_key nat_list_cmp_total exact_bytes i id (fin.get (without_holder held id) alias ≡ Some (holding_by i r.call_signal))
+      holds = λ i r alias e has. by_key nat_list_cmp_total exact_bytes i id
+          (fin.get (without_holder held id) alias ≡ Some (holding_by i r.call_signal))
           (λ p. some_none (sym e ∙ (ap (fin.get (fin.remove live id)) p ∙ c.here)))
           (λ differ. get-without_another held id alias (holding_by i r.call_signal) (agree.holds i r alias (sym (c.others i differ) ∙ e) has) differ);
       held_by = λ alias h e.
@@ -67,7 +68,8 @@ Agree-insert live held r agree absent free = record { holds = holds; held_by = h
       → fin.get (with_aliases held r.aliases r.identifier r.call_signal) alias ≡ Some (holding_by id s.call_signal)
   holds id s alias e has = by_key nat_list_cmp_total exact_bytes id r.identifier _
       (λ p. let same : r ≡ s = same_some r s (sym c.here ∙ (ap (fin.get (fin.insert live r.identifier r)) (sym p) ∙ e)) in
-      get-with_aliases held r.aliases r.identifier r.call_signal alias (subst (λ (x : Registration). Contains x.aliases alias) (sym same) has)
+      get-with_aliases held r.aliases r.identifier r.call_signal alias
+      (subst (λ (x : Registration). Contains x.aliases alias) (sym same) has)
       ∙ (λ i. Some (holding_by (sym p i) (same i).call_signal)))
       (λ differ. let was = agree.holds id s alias (sym (c.others id differ) ∙ e) has in
       get-with_other_aliases held r.aliases r.identifier r.call_signal alias (λ own. some_none (sym was ∙ free alias own)) ∙ was)
@@ -79,14 +81,16 @@ Agree-insert live held r agree absent free = record { holds = holds; held_by = h
       (λ own. let same : holding_by r.identifier r.call_signal ≡ h = same_some _ h (sym (get-with_aliases held r.aliases r.identifier r.call_signal alias own) ∙ e) in (
         r,
         record {
-          live_is = ap (fin.get (fin.insert live r.identifier r)) (sym (ap (λ (x : Holding). x.holder) same)) ∙ c.here;
+          live_is = ap (fin.get (fin.insert live r.identifier r))
+              (sym (ap (λ (x : Holding). x.holder) same)) ∙ c.here;
           has = own;
           address_is = sym (ap (λ (x : Holding). x.address) same);
         },
       ))
       (λ other. let was = sym (get-with_other_aliases held r.aliases r.identifier r.call_signal alias other) ∙ e in
       let by = agree.held_by alias h was in
-      let apart : h.holder ≢ r.identifier = λ p. some_none (sym by.1.live_is ∙ (ap (fin.get live) p ∙ absent)) in
+      let apart : h.holder ≢ r.identifier = λ p. some_none
+      (sym by.1.live_is ∙ (ap (fin.get live) p ∙ absent)) in
       (by.0, record { live_is = c.others h.holder apart ∙ by.1.live_is; has = by.1.has; address_is = by.1.address_is }))
 
 -- a registration is rewritten: its aliases go, and the new ones come, which no other endpoint holds
@@ -97,7 +101,9 @@ pub Agree-rewrite : (live : Live) (held : Held) (id : List ℕ) (old new : Regis
     → Agree (update live id f) (with_aliases (without_holder held id) new.aliases id new.call_signal)
 Agree-rewrite live held id old new f agree there is named free =
     let gone = Agree-remove live held id agree in
-    let absent : fin.get (fin.remove live id) new.identifier ≡ None = ap (fin.get (fin.remove live id)) named ∙ (Changed-remove nat_list_cmp_total exact_bytes live id).here in
+    let absent : fin.get (fin.remove live id) new.identifier ≡ None = ap
+    (fin.get (fin.remove live id)) named ∙
+    (Changed-remove nat_list_cmp_total exact_bytes live id).here in
     let come = Agree-insert (fin.remove live id) (without_holder held id) new gone absent free in
     let map_is : fin.insert (fin.remove live id) new.identifier new ≡ update live id f =
     ap (λ k. fin.insert (fin.remove live id) k new) named
@@ -119,7 +125,8 @@ Agree-update live held id f agree same_signal same_aliases = record {
       agree.holds i was.0 alias was.1.there (subst (λ (xs : List Alias). Contains xs alias) aliases has) ∙ ap (λ a. Some (holding_by i a)) (sym signal));
   held_by = λ alias h e.
       (let by = agree.held_by alias h e in
-      by_key nat_list_cmp_total exact_bytes h.holder id ((r : Registration) × IsHolder (update live id f) alias h r)
+      by_key nat_list_cmp_total exact_bytes h.holder id
+      ((r : Registration) × IsHolder (update live id f) alias h r)
       (λ p. (
         f by.0,
         record {
@@ -152,27 +159,30 @@ module _ (live : Live) (held : Held) (agree : Agree live held) (address : Addres
           fails : (a b : Bool) → (a ≡ true → ⊥) → (a && b) ≡ false
           fails true b h = absurd (h refl)
           fails false b h = refl
-    cases (Some h) there = at (agree.held_by alias h there) (same_address h.address address) refl where
-      at : (r : Registration) × IsHolder live alias h r → (b : Bool)
-          → same_address h.address address ≡ b
-          → not b ≡ is_registered_elsewhere live address alias
-      at by true is = sym (no_row_passes nat_list_cmp_total exact_bytes (λ r. has_alias r.aliases alias && not (same_address r.call_signal address)) live
-          (λ id r live_is. both_fail (has_alias r.aliases alias) (same_address r.call_signal address)
-          (λ has. (let mine = agree.holds id r alias live_is ((any_decides same_alias alias_decides r.aliases alias).0 has) in
-          let signal = ap (λ (x : Holding). x.address) (same_some h (holding_by id r.call_signal) (sym there ∙ mine)) in
-          ap (λ a. same_address a address) (sym signal) ∙ is)))) where
-            both_fail : (a b : Bool) → (a ≡ true → b ≡ true) → (a && not b) ≡ false
-            both_fail true b h = ap not (h refl)
-            both_fail false b h = refl
-      at by false is = sym (any_row nat_list_cmp_total exact_bytes (λ r. has_alias r.aliases alias && not (same_address r.call_signal address)) live h.holder by.0 by.1.live_is
-          (both_true ((any_decides same_alias alias_decides (by.0).aliases alias).1 by.1.has) (ap not (ap (λ a. same_address a address) (sym by.1.address_is) ∙ is)))) where
-            both_true : {a b : Bool} → a ≡ true → b ≡ true → (a && b) ≡ true
-            both_true {b = b} p q = ap (λ x. x && b) p ∙ q
+    cases (Some h) there = at (agree.held_by alias h there)
+        (same_address h.address address) refl where
+          at : (r : Registration) × IsHolder live alias h r → (b : Bool)
+              → same_address h.address address ≡ b
+              → not b ≡ is_registered_elsewhere live address alias
+          at by true is = sym (no_row_passes nat_list_cmp_total exact_bytes (λ r. has_alias r.aliases alias && not (same_address r.call_signal address)) live
+              (λ id r live_is. both_fail (has_alias r.aliases alias) (same_address r.call_signal address)
+              (λ has. (let mine = agree.holds id r alias live_is ((any_decides same_alias alias_decides r.aliases alias).0 has) in
+              let signal = ap (λ (x : Holding). x.address)
+              (same_some h (holding_by id r.call_signal) (sym there ∙ mine)) in
+              ap (λ a. same_address a address) (sym signal) ∙ is)))) where
+                both_fail : (a b : Bool) → (a ≡ true → b ≡ true) → (a && not b) ≡ false
+                both_fail true b h = ap not (h refl)
+                both_fail false b h = refl
+          at by false is = sym (any_row nat_list_cmp_total exact_bytes (λ r. has_alias r.aliases alias && not (same_address r.call_signal address)) live h.holder by.0 by.1.live_is
+              (both_true ((any_decides same_alias alias_decides (by.0).aliases alias).1 by.1.has) (ap not (ap (λ a. same_address a address) (sym by.1.address_is) ∙ is)))) where
+                both_true : {a b : Bool} → a ≡ true → b ≡ true → (a && b) ≡ true
+                both_true {b = b} p q = ap (λ x. x && b) p ∙ q
 
   pub conflicts_are : (aliases : List Alias)
       → conflicts held address aliases ≡ registered_elsewhere live address aliases
   conflicts_are [] = refl
-  conflicts_are (a ∷ aliases) = λ i. cond (elsewhere_is a i) (a ∷ conflicts_are aliases i) (conflicts_are aliases i)
+  conflicts_are (a ∷ aliases) = λ i. cond (elsewhere_is a i) (a ∷ conflicts_are aliases i)
+      (conflicts_are aliases i)
 
 -- an alias that isn't held elsewhere
 module _ (held : Held) (address : Address) where
@@ -196,17 +206,19 @@ module _ (held : Held) (address : Address) where
       → is_elsewhere address w ≡ false → (w ≡ None → P)
       → ((h : Holding) → w ≡ Some h → h.address ≡ address → P) → P
   here_or_nowhere alias None P e f g = f refl
-  here_or_nowhere alias (Some h) P e f g = g h refl ((address_decides h.address address).0 (opened (same_address h.address address) e)) where
-    opened : (b : Bool) → not b ≡ false → b ≡ true
-    opened true e = refl
-    opened false e = absurd (cc e)
+  here_or_nowhere alias (Some h) P e f g = g h refl
+      ((address_decides h.address address).0 (opened (same_address h.address address) e)) where
+        opened : (b : Bool) → not b ≡ false → b ≡ true
+        opened true e = refl
+        opened false e = absurd (cc e)
 
 -- where none of the aliases of a request is held elsewhere, nobody holds one, if nobody has its address
 pub free_for_new : (live : Live) (held : Held) (address : Address) (aliases : List Alias)
     → Agree live held → at_address live address ≡ None → conflicts held address aliases ≡ []
     → (alias : Alias) → Contains aliases alias → fin.get held alias ≡ None
 free_for_new live held address aliases agree nobody none alias has =
-    here_or_nowhere held address alias (fin.get held alias) _ (not_elsewhere held address aliases none alias has) (λ e. e)
+    here_or_nowhere held address alias (fin.get held alias) _
+    (not_elsewhere held address aliases none alias has) (λ e. e)
     (λ h there is. (let by = agree.held_by alias h there in absurd (none_at live address nobody h.holder by.0 by.1.live_is (sym by.1.address_is ∙ is))))
 
 -- and else nobody but who has the address
@@ -217,7 +229,8 @@ pub free_for_old : (live : Live) (held : Held) (address : Address) (aliases : Li
     → fin.get (without_holder held old.identifier) alias ≡ None
 free_for_old live held address aliases old agree sound found none alias has =
     let at = IsAt-found live sound address old found in
-    here_or_nowhere held address alias (fin.get held alias) _ (not_elsewhere held address aliases none alias has)
+    here_or_nowhere held address alias (fin.get held alias) _
+    (not_elsewhere held address aliases none alias has)
     (λ e. get-without_holder held old.identifier alias e)
     (λ h there is. (let by = agree.held_by alias h there in
     get-without_own held old.identifier alias h there

@@ -22,7 +22,8 @@ module _ (live : Live) (sound : IsConsistent live) where
   pub at_address-live : (id : List ℕ) (r : Registration) → fin.get live id ≡ Some r
       → at_address live r.call_signal ≡ Some r
   at_address-live id r there =
-      find_one nat_list_cmp_total exact_bytes (λ s. same_address s.call_signal r.call_signal) live id r there
+      find_one nat_list_cmp_total exact_bytes
+      (λ s. same_address s.call_signal r.call_signal) live id r there
       ((address_decides r.call_signal r.call_signal).1 refl)
       (λ q s other passes.
       (let same = sound.apart q id s r other there ((address_decides s.call_signal r.call_signal).0 passes) in
@@ -44,7 +45,8 @@ pub record IsAt (live : Live) (address : Address) (r : Registration) : Type 0 wh
 pub IsAt-found : (live : Live) → IsConsistent live → (address : Address) (r : Registration)
     → at_address live address ≡ Some r → IsAt live address r
 IsAt-found live sound address r found =
-    let row = find_some nat_list_cmp_total exact_bytes (λ s. same_address s.call_signal address) live r found in
+    let row = find_some nat_list_cmp_total exact_bytes
+    (λ s. same_address s.call_signal address) live r found in
     record {
       live_is = ap (fin.get live) (sound.own row.0 r row.1) ∙ row.1;
       address_is = (address_decides r.call_signal address).0 row.2;
@@ -69,7 +71,8 @@ pub IsConsistent-insert : (live : Live) (r : Registration) → IsConsistent live
     → IsConsistent (fin.insert live r.identifier r)
 IsConsistent-insert live r sound absent free =
     let c = Changed-insert nat_list_cmp_total exact_bytes live r.identifier r in
-    let here = λ (id : List ℕ) (s : Registration) (p : id ≡ r.identifier) (e : fin.get (fin.insert live r.identifier r) id ≡ Some s).
+    let here = λ (id : List ℕ) (s : Registration) (p : id ≡ r.identifier)
+    (e : fin.get (fin.insert live r.identifier r) id ≡ Some s).
     same_some r s (sym c.here ∙ (ap (fin.get (fin.insert live r.identifier r)) (sym p) ∙ e)) in
     record {
       own = λ id s e. by_key nat_list_cmp_total exact_bytes id r.identifier (s.identifier ≡ id)
@@ -104,7 +107,8 @@ pub record KeepsNames (f : Registration → Registration) : Type 0 where
   pub call_signal : (r : Registration) → (f r).call_signal ≡ r.call_signal
 
 -- whose it was before such a change
-pub record WasThere (live : Live) (id : List ℕ) (f : Registration → Registration) (i : List ℕ) (s r : Registration) : Type 0 where
+pub record WasThere (live : Live) (id : List ℕ) (f : Registration → Registration) (i : List ℕ)
+    (s r : Registration) : Type 0 where
   pub there : fin.get live i ≡ Some r
   pub is : (s ≡ r) ⊎ ((i ≡ id) × (s ≡ f r))
 
@@ -148,7 +152,8 @@ module _ (live : Live) (sound : IsConsistent live) where
       → at_address live r.call_signal ≡ None
       → at_address (fin.insert live r.identifier r) r.call_signal ≡ Some r
   at_address-insert r absent free =
-      at_address-live (fin.insert live r.identifier r) (IsConsistent-insert live r sound absent free) r.identifier r
+      at_address-live (fin.insert live r.identifier r)
+      (IsConsistent-insert live r sound absent free) r.identifier r
       (Changed-insert nat_list_cmp_total exact_bytes live r.identifier r).here
 
   pub at_address-insert_others : (r : Registration) (address : Address)
@@ -163,7 +168,8 @@ module _ (live : Live) (sound : IsConsistent live) where
         → at_address (fin.insert live r.identifier r) address ≡ w
     cases (Some s) found =
         let at = IsAt-found live sound address s found in
-        let other : s.identifier ≢ r.identifier = λ e. some_none (sym at.live_is ∙ (ap (fin.get live) e ∙ absent)) in
+        let other : s.identifier ≢ r.identifier = λ e. some_none
+        (sym at.live_is ∙ (ap (fin.get live) e ∙ absent)) in
         ap (at_address (fin.insert live r.identifier r)) (sym at.address_is)
         ∙ at_address-live (fin.insert live r.identifier r) next s.identifier s ((Changed-insert nat_list_cmp_total exact_bytes live r.identifier r).others s.identifier other ∙ at.live_is)
     cases None none = at_address-none (fin.insert live r.identifier r) next address (λ i s there.
@@ -177,7 +183,8 @@ module _ (live : Live) (sound : IsConsistent live) where
   at_address-remove id address r found same =
       let at = IsAt-found live sound address r found in
       let c = Changed-remove nat_list_cmp_total exact_bytes live id in
-      at_address-none (fin.remove live id) (IsConsistent-remove live id sound) address (λ i s there is.
+      at_address-none (fin.remove live id) (IsConsistent-remove live id sound) address
+      (λ i s there is.
       by_key nat_list_cmp_total exact_bytes i id ⊥
       (λ p. some_none (sym there ∙ (ap (fin.get (fin.remove live id)) p ∙ c.here)))
       (λ differ. differ (sound.apart i r.identifier s r (sym (c.others i differ) ∙ there) at.live_is (is ∙ sym at.address_is) ∙ same)))
@@ -207,9 +214,11 @@ module _ (live : Live) (sound : IsConsistent live) where
     at_address-update address r found same =
         let at = IsAt-found live sound address r found in
         let c = Changed-update nat_list_cmp_total exact_bytes live id f in
-        let there : fin.get (update live id f) id ≡ Some (f r) = c.here ∙ ap (option_map f) (ap (fin.get live) (sym same) ∙ at.live_is) in
+        let there : fin.get (update live id f) id ≡ Some (f r) = c.here ∙ ap (option_map f)
+        (ap (fin.get live) (sym same) ∙ at.live_is) in
         ap (at_address (update live id f)) (sym (keeps.call_signal r ∙ at.address_is))
-        ∙ at_address-live (update live id f) (IsConsistent-update live id f sound keeps) id (f r) there
+        ∙ at_address-live (update live id f) (IsConsistent-update live id f sound keeps) id
+        (f r) there
 
     pub at_address-update_others : (address : Address)
         → ((r : Registration) → at_address live address ≡ Some r → r.identifier ≢ id)

@@ -24,7 +24,8 @@ length-without n (m ∷ ns) = grind (arith, nat_tests, length-without n ns)
 length-without_one : (n : ℕ) (ns : List ℕ) → has_number ns n ≡ true
     → length (without n ns) < length ns
 length-without_one n [] has = absurd (cc has)
-length-without_one n (m ∷ ns) has = grind (arith, nat_tests, length-without_one n ns, length-without n ns)
+length-without_one n (m ∷ ns) has = grind
+    (arith, nat_tests, length-without_one n ns, length-without n ns)
 
 has-without : (n k : ℕ) (ns : List ℕ) → k ≢ n → has_number ns k ≡ true
     → has_number (without n ns) k ≡ true
@@ -70,7 +71,8 @@ used_any : (rows : List Registration) (taken : List (List ℕ)) (id : List ℕ)
 used_any [] taken id = refl
 used_any (r ∷ rows) taken id =
     ap (λ b. pointwise nat_eq r.identifier id || b) (used_any rows taken id)
-    ∙ or_assoc (pointwise nat_eq r.identifier id) (list_any (λ (i : Registration). pointwise nat_eq i.identifier id) rows) (has_id taken id)
+    ∙ or_assoc (pointwise nat_eq r.identifier id)
+    (list_any (λ (i : Registration). pointwise nat_eq i.identifier id) rows) (has_id taken id)
 
 -- a number whose text is used is among their numbers
 pub number_used : (rows : List Registration) (taken : List (List ℕ)) (id : List ℕ) (n : ℕ)
@@ -78,14 +80,16 @@ pub number_used : (rows : List Registration) (taken : List (List ℕ)) (id : Lis
     → (list_any (λ r. pointwise nat_eq r.identifier id) rows || has_id taken id) ≡ true
     → has_number (map number_of (used rows taken)) n ≡ true
 number_used rows taken id n is has =
-    subst (λ (m : ℕ). has_number (map number_of (used rows taken)) m ≡ true) is (has_its_number (used rows taken) id (used_any rows taken id ∙ has))
+    subst (λ (m : ℕ). has_number (map number_of (used rows taken)) m ≡ true) is
+    (has_its_number (used rows taken) id (used_any rows taken id ∙ has))
 
 -- of one number more than there are texts, not all can be used
 pub not_all : (rows : List Registration) (taken : List (List ℕ)) (start : ℕ)
     → ((k : ℕ) → k < length rows + length taken + 1 → has_number (map number_of (used rows taken)) (start + k) ≡ true)
     → ⊥
 not_all rows taken start each =
-    let most = covers start (length rows + length taken + 1) (map number_of (used rows taken)) each in
+    let most = covers start (length rows + length taken + 1)
+    (map number_of (used rows taken)) each in
     omega (arith, most, length-map (used rows taken) number_of, length-append (map identifier_of rows) taken, length-map rows identifier_of)
 
 -- what the test doesn't find is not in the list

@@ -25,10 +25,13 @@ digit_more ds k r n len below is =
     let digit = 48 + r % 10 in
     let at : 20 - (k + 1) ≡ 19 - k = omega arith in
     let back : (19 - k) + 1 ≡ 20 - k = omega arith in
-    let tail : drop (20 - (k + 1)) (set ds (19 - k) digit) ≡ digit ∷ rest = ap (λ j. drop j (set ds (19 - k) digit)) at ∙ (drop-set ds (19 - k) digit (omega arith) ∙ ap (λ j. digit ∷ drop j ds) back) in
+    let tail : drop (20 - (k + 1)) (set ds (19 - k) digit) ≡ digit ∷ rest = ap
+    (λ j. drop j (set ds (19 - k) digit)) at ∙
+    (drop-set ds (19 - k) digit (omega arith) ∙ ap (λ j. digit ∷ drop j ds) back) in
     let rest_len : length rest ≡ k = omega (arith, length-drop (20 - k) ds) in
     let head : digit - 48 ≡ r % 10 = omega arith in
-    let product : (digit - 48) * 10 ^ length rest ≡ (r % 10) * 10 ^ k = λ i. head i * 10 ^ rest_len i in
+    let product : (digit - 48) * 10 ^ length rest ≡
+    (r % 10) * 10 ^ k = λ i. head i * 10 ^ rest_len i in
     omega (arith, ap number_of tail, product, one_digit r k, is)
 
 pub skip_zero : (ds : List ℕ) (i : ℕ) → i < length ds → get_or ds i 0 ≡ 48
@@ -36,7 +39,8 @@ pub skip_zero : (ds : List ℕ) (i : ℕ) → i < length ds → get_or ds i 0 �
 skip_zero ds i below zero_here =
     let rest = drop (suc i) ds in
     let parts : drop i ds ≡ get_or ds i 0 ∷ rest = drop-cons ds i 0 below in
-    let nothing : (get_or ds i 0 - 48) * 10 ^ length rest ≡ 0 = ap (λ d. (d - 48) * 10 ^ length rest) zero_here ∙ zero-mul (10 ^ length rest) in
+    let nothing : (get_or ds i 0 - 48) * 10 ^ length rest ≡ 0 = ap
+    (λ d. (d - 48) * 10 ^ length rest) zero_here ∙ zero-mul (10 ^ length rest) in
     ap (λ j. number_of (drop j ds)) (add-one i) ∙ sym (ap number_of parts ∙ omega (arith, nothing))
 
 pub identifier_text : (text : List ℕ) (o : Option (List ℕ)) → SomeIff o (IsText 128 text) text

@@ -34,11 +34,13 @@ pub get_row : (rows : List Registration) (id : List ℕ)
     → find_first (λ r. pointwise nat_eq r.identifier id) rows ≡ fin.get (live_of rows) id
 get_row rows id =
     sym (same_option (find_first (λ r. pointwise nat_eq r.identifier id) rows))
-    ∙ find_key nat_list_cmp_total exact_bytes identifier_of (λ r. r) (pointwise nat_eq) texts_decide id rows
+    ∙ find_key nat_list_cmp_total exact_bytes identifier_of (λ r. r)
+    (pointwise nat_eq) texts_decide id rows
 
 pub row_place : (rows : List Registration) (id : List ℕ)
     → MatchOption (position (λ r. pointwise nat_eq r.identifier id) rows) (fin.get (live_of rows) id ≡ None) (IsPlaceOf identifier_of id rows)
-row_place rows id = key_place nat_list_cmp_total exact_bytes identifier_of (λ r. r) (pointwise nat_eq) texts_decide id rows
+row_place rows id = key_place nat_list_cmp_total exact_bytes identifier_of (λ r. r)
+    (pointwise nat_eq) texts_decide id rows
 
 -- the first row with an address is what the map has with it
 pub address_row : (rows : List Registration) (most lowest : ℕ) (address : Address)
@@ -49,7 +51,8 @@ address_row rows most lowest address table = sym (find_rows nat_list_cmp_total e
 
 pub len_live : (rows : List Registration) (most lowest : ℕ) → IsTable rows most lowest
     → fin.len (live_of rows) ≡ length rows
-len_live rows most lowest table = len_rows nat_list_cmp_total exact_bytes identifier_of (λ r. r) rows table.ids
+len_live rows most lowest table = len_rows nat_list_cmp_total exact_bytes identifier_of
+    (λ r. r) rows table.ids
 
 -- each row is what its identifier leads to
 pub row_live : (rows : List Registration) (most lowest i : ℕ) (r : Registration)
@@ -77,7 +80,8 @@ IsConsistent-rows rows most lowest table = record {
 }
 
 -- what stands at the place of an identifier
-pub record IsRowOf (rows : List Registration) (live : Live) (id : List ℕ) (i : ℕ) (r : Registration) : Type 0 where
+pub record IsRowOf (rows : List Registration) (live : Live) (id : List ℕ) (i : ℕ)
+    (r : Registration) : Type 0 where
   pub there : slice_get rows i ≡ Some r
   pub id_is : r.identifier ≡ id
   pub found : fin.get live id ≡ Some r
@@ -93,7 +97,8 @@ IsRowOf-place rows most lowest live id i r table is place read =
     record {
       there = there;
       id_is = id_is;
-      found = ap (λ m. fin.get m id) (sym is) ∙ (ap (fin.get (live_of rows)) (sym id_is) ∙ row_live rows most lowest i r table there);
+      found = ap (λ m. fin.get m id) (sym is) ∙
+          (ap (fin.get (live_of rows)) (sym id_is) ∙ row_live rows most lowest i r table there);
     }
 
 -- a row is written anew, and keeps its identifier and its call signal address
@@ -104,8 +109,10 @@ pub IsTable-write : (rows : List Registration) (most lowest i : ℕ) (old new : 
 IsTable-write rows most lowest i old new table there id call_signal =
     let c = Changed-set rows i new (slice_get_within rows i old there) in
     record {
-      ids = AreApart-set identifier_of (row_in rows) (row_in (set rows i new)) i old new table.ids there id c;
-      addresses = AreApart-set call_signal_of (row_in rows) (row_in (set rows i new)) i old new table.addresses there call_signal c;
+      ids = AreApart-set identifier_of (row_in rows)
+          (row_in (set rows i new)) i old new table.ids there id c;
+      addresses = AreApart-set call_signal_of (row_in rows)
+          (row_in (set rows i new)) i old new table.addresses there call_signal c;
       few = omega (arith, length-set rows i new, table.few);
       most_few = table.most_few;
       low = table.low;
@@ -116,7 +123,8 @@ pub live_write : (rows : List Registration) (most lowest : ℕ) (live : Live) (i
     → (f old).identifier ≡ old.identifier
     → live_of (set rows i (f old)) ≡ update live id f
 live_write rows most lowest live id i old f table is row keeps =
-    map_set nat_list_cmp_total exact_bytes identifier_of (λ r. r) rows i old (f old) table.ids (slice_get_within rows i old row.there) row.there keeps
+    map_set nat_list_cmp_total exact_bytes identifier_of (λ r. r) rows i old (f old) table.ids
+    (slice_get_within rows i old row.there) row.there keeps
     ∙ ((λ k. fin.insert (is k) ((keeps ∙ row.id_is) k) (f old)) ∙ sym (update_there nat_list_cmp_total exact_bytes live id old f row.found))
 
 -- no row has an address that a search doesn't find
@@ -124,17 +132,18 @@ no_address : (rows : List Registration) (address : Address)
     → find_first (λ r. same_address r.call_signal address) rows ≡ None
     → (j : ℕ) (s : Registration) → slice_get rows j ≡ Some s → s.call_signal ≢ address
 no_address [] address none j s there is = some_none (sym there)
-no_address (x ∷ rows) address none j s there is = cases (no_address rows address) (same_address x.call_signal address) refl none j s there is where
-  cases : (find_first (λ r. same_address r.call_signal address) rows ≡ None → (j : ℕ) (s : Registration) → slice_get rows j ≡ Some s → s.call_signal ≢ address)
-      → (b : Bool) → same_address x.call_signal address ≡ b
-      → cond b (Some x) (find_first (λ r. same_address r.call_signal address) rows) ≡ None
-      → (j : ℕ) (s : Registration) → slice_get (x ∷ rows) j ≡ Some s → s.call_signal ≢ address
-  cases rest true is e = some_none e
-  cases rest false is e = each (rest e) where
-    each : ((j : ℕ) (s : Registration) → slice_get rows j ≡ Some s → s.call_signal ≢ address)
-        → (j : ℕ) (s : Registration) → slice_get (x ∷ rows) j ≡ Some s → s.call_signal ≢ address
-    each rest zero s there same = cc (is, (address_decides x.call_signal address).1 (ap call_signal_of (same_some x s there) ∙ same))
-    each rest (suc j) s there same = rest j s there same
+no_address (x ∷ rows) address none j s there is = cases (no_address rows address)
+    (same_address x.call_signal address) refl none j s there is where
+      cases : (find_first (λ r. same_address r.call_signal address) rows ≡ None → (j : ℕ) (s : Registration) → slice_get rows j ≡ Some s → s.call_signal ≢ address)
+          → (b : Bool) → same_address x.call_signal address ≡ b
+          → cond b (Some x) (find_first (λ r. same_address r.call_signal address) rows) ≡ None
+          → (j : ℕ) (s : Registration) → slice_get (x ∷ rows) j ≡ Some s → s.call_signal ≢ address
+      cases rest true is e = some_none e
+      cases rest false is e = each (rest e) where
+        each : ((j : ℕ) (s : Registration) → slice_get rows j ≡ Some s → s.call_signal ≢ address)
+            → (j : ℕ) (s : Registration) → slice_get (x ∷ rows) j ≡ Some s → s.call_signal ≢ address
+        each rest zero s there same = cc (is, (address_decides x.call_signal address).1 (ap call_signal_of (same_some x s there) ∙ same))
+        each rest (suc j) s there same = rest j s there same
 
 -- a row is pushed
 pub IsTable-push : (rows : List Registration) (most lowest low : ℕ) (r : Registration)
@@ -144,9 +153,11 @@ pub IsTable-push : (rows : List Registration) (most lowest low : ℕ) (r : Regis
 IsTable-push rows most lowest low r table absent free room lowers =
     let c = Changed-push rows r in
     record {
-      ids = AreApart-put identifier_of (row_in rows) (row_in (rows ++ r ∷ [])) (length rows) r table.ids
+      ids = AreApart-put identifier_of (row_in rows) (row_in (rows ++ r ∷ []))
+          (length rows) r table.ids
           (none_there nat_list_cmp_total exact_bytes identifier_of (λ r. r) rows table.ids r.identifier absent) c;
-      addresses = AreApart-put call_signal_of (row_in rows) (row_in (rows ++ r ∷ [])) (length rows) r table.addresses
+      addresses = AreApart-put call_signal_of (row_in rows) (row_in (rows ++ r ∷ []))
+          (length rows) r table.addresses
           (no_address rows r.call_signal (address_row rows most lowest r.call_signal table ∙ free)) c;
       few = omega (arith, length-append rows (r ∷ []), table.few, room);
       most_few = table.most_few;
@@ -156,7 +167,8 @@ IsTable-push rows most lowest low r table absent free room lowers =
 pub live_push : (rows : List Registration) (r : Registration)
     → fin.get (live_of rows) r.identifier ≡ None
     → live_of (rows ++ r ∷ []) ≡ fin.insert (live_of rows) r.identifier r
-live_push rows r absent = map_push nat_list_cmp_total exact_bytes identifier_of (λ r. r) rows r absent
+live_push rows r absent = map_push nat_list_cmp_total exact_bytes identifier_of
+    (λ r. r) rows r absent
 
 -- a row is taken out
 pub IsTable-remove : (rows : List Registration) (most lowest low i : ℕ) → IsTable rows most lowest
@@ -180,7 +192,8 @@ pub live_remove : (rows : List Registration) (most lowest : ℕ) (live : Live) (
     → IsTable rows most lowest → live_of rows ≡ live
     → IsRowOf rows live id i old → live_of (remove rows i) ≡ fin.remove live id
 live_remove rows most lowest live id i old table is row =
-    map_remove nat_list_cmp_total exact_bytes identifier_of (λ r. r) rows i old table.ids row.there ∙ (λ k. fin.remove (is k) (row.id_is k))
+    map_remove nat_list_cmp_total exact_bytes identifier_of
+    (λ r. r) rows i old table.ids row.there ∙ (λ k. fin.remove (is k) (row.id_is k))
 
 -- no row passes the test of an identifier that the map doesn't have
 pub none_named : (rows : List Registration) (id : List ℕ)
@@ -200,13 +213,15 @@ none_named rows id none = sym (get_row rows id) ∙ no_row rows none where
     cases false rest h = rest h
 
 -- what a search of the rows says of the map
-module _ (rows : List Registration) (most lowest : ℕ) (table : IsTable rows most lowest) (live : Live) (is : live_of rows ≡ live) where
+module _ (rows : List Registration) (most lowest : ℕ) (table : IsTable rows most lowest)
+    (live : Live) (is : live_of rows ≡ live) where
   pub placed_live : (i : ℕ) → IfSome (slice_get rows i) (λ r. fin.get live r.identifier ≡ Some r)
   placed_live i = cases (slice_get rows i) refl where
     cases : (w : Option Registration) → slice_get rows i ≡ w
         → IfSome w (λ r. fin.get live r.identifier ≡ Some r)
     cases None e = tt
-    cases (Some r) e = ap (λ m. fin.get m r.identifier) (sym is) ∙ row_live rows most lowest i r table e
+    cases (Some r) e = ap (λ m. fin.get m r.identifier) (sym is)
+        ∙ row_live rows most lowest i r table e
 
   pub found_live : (p : Registration → Bool)
       → IfSome (find_first p rows) (λ r. fin.get live r.identifier ≡ Some r)
@@ -214,7 +229,8 @@ module _ (rows : List Registration) (most lowest : ℕ) (table : IsTable rows mo
     cases : (w : Option Registration) → FindsIn p rows w
         → IfSome w (λ r. fin.get live r.identifier ≡ Some r)
     cases None h = tt
-    cases (Some r) h = ap (λ m. fin.get m r.identifier) (sym is) ∙ row_live rows most lowest h.0 r table h.1
+    cases (Some r) h = ap (λ m. fin.get m r.identifier) (sym is)
+        ∙ row_live rows most lowest h.0 r table h.1
 
   pub found_none : (p : Registration → Bool) → find_first p rows ≡ None
       → (id : List ℕ) (r : Registration) → fin.get live id ≡ Some r → p r ≡ false

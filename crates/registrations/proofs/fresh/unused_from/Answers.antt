@@ -16,4 +16,5 @@ returns-then-not-is_used c =
     }
 
 pub unreachable-requires : goal.unreachable-requires
-unreachable-requires c = not_all c.args.items.now c.args.taken.now c.args.start (λ k below. c.loop-n.invariant k (omega arith))
+unreachable-requires c = not_all c.args.items.now c.args.taken.now c.args.start
+    (λ k below. c.loop-n.invariant k (omega arith))

@@ -21,7 +21,8 @@ loop-alias-preserved c =
     let i = c.loop-alias.alias-index in
     let alias = c.alias-item.result in
     let list = c.args.aliases.now in
-    let more : take (i + 1) list ≡ take i list ++ alias ∷ [] = take_more list i alias c.loop-alias-test.true ∙ ap (λ a. take i list ++ a ∷ []) (sym c.alias-item.is) in
+    let more : take (i + 1) list ≡ take i list ++ alias ∷ [] = take_more list i alias
+    c.loop-alias-test.true ∙ ap (λ a. take i list ++ a ∷ []) (sym c.alias-item.is) in
     let ok = rw c.unwrap.ensures at c.set.ensures.ok in
     let room = rw c.unwrap.ensures at c.set.ensures.room in
     let held =

@@ -12,8 +12,10 @@ overflow_add-row c =
     let live = ap (λ t. t.live) c.self.view_is in
     let place = rw c.deref.ensures.value at c.live_place-place.ensures in
     let old = c.index_mut-row.result.now in
-    let row = IsRowOf-place i.items.items i.most i.lowest c.args.self.now.live c.args.id.now c.live_place-place.result old c.self.invariant live place c.index_mut-row.ensures.value in
-    let few : old.tries < 16 = subst (λ (w : Option Registration). IsSomeAnd w (λ r. r.tries < 16)) row.found c.requires in
+    let row = IsRowOf-place i.items.items i.most i.lowest c.args.self.now.live c.args.id.now
+    c.live_place-place.result old c.self.invariant live place c.index_mut-row.ensures.value in
+    let few : old.tries < 16 = subst
+    (λ (w : Option Registration). IsSomeAnd w (λ r. r.tries < 16)) row.found c.requires in
     omega arith
 
 pub invariant_of-self : goal.invariant_of-self
@@ -22,8 +24,10 @@ invariant_of-self c =
     let live = ap (λ t. t.live) c.self.view_is in
     let place = rw c.deref.ensures.value at c.live_place-place.ensures in
     let old = c.index_mut-row.result.now in
-    let row = IsRowOf-place i.items.items i.most i.lowest c.args.self.now.live c.args.id.now c.live_place-place.result old c.self.invariant live place c.index_mut-row.ensures.value in
-    IsTable-write i.items.items i.most i.lowest c.live_place-place.result old ((after_ask c.args.now) old) c.self.invariant row.there refl refl
+    let row = IsRowOf-place i.items.items i.most i.lowest c.args.self.now.live c.args.id.now
+    c.live_place-place.result old c.self.invariant live place c.index_mut-row.ensures.value in
+    IsTable-write i.items.items i.most i.lowest c.live_place-place.result old
+    ((after_ask c.args.now) old) c.self.invariant row.there refl refl
 
 pub returns : goal.returns
 returns c =
@@ -31,9 +35,11 @@ returns c =
     let live = ap (λ t. t.live) c.self.view_is in
     let place = rw c.deref.ensures.value at c.live_place-place.ensures in
     let old = c.index_mut-row.result.now in
-    let row = IsRowOf-place i.items.items i.most i.lowest c.args.self.now.live c.args.id.now c.live_place-place.result old c.self.invariant live place c.index_mut-row.ensures.value in
+    let row = IsRowOf-place i.items.items i.most i.lowest c.args.self.now.live c.args.id.now
+    c.live_place-place.result old c.self.invariant live place c.index_mut-row.ensures.value in
     record {
-      rows = live_write i.items.items i.most i.lowest c.args.self.now.live c.args.id.now c.live_place-place.result old (after_ask c.args.now) c.self.invariant live row refl;
+      rows = live_write i.items.items i.most i.lowest c.args.self.now.live c.args.id.now
+          c.live_place-place.result old (after_ask c.args.now) c.self.invariant live row refl;
       most = ap (λ t. t.most) c.self.view_is;
       room = omega (arith, ap (λ t. t.room) c.self.view_is);
     }

@@ -10,7 +10,8 @@ use Rattle.registrations.proofs.table.Registrations.remove.Goals as goal
 
 pub returns-in_err-place-clause-removed : goal.returns-in_err-place-clause-removed
 returns-in_err-place-clause-removed c =
-    let none = sym (ap (λ t. map.get t.live c.args.id.now) c.self.view_is) ∙ rw c.deref.ensures.value at c.in_err-place.ensures in
+    let none = sym (ap (λ t. map.get t.live c.args.id.now) c.self.view_is)
+    ∙ rw c.deref.ensures.value at c.in_err-place.ensures in
     record { rows = remove_absent nat_list_cmp_total exact_bytes c.args.self.now.live c.args.id.now none; most = refl; room = omega arith }
 
 pub remove-requires : goal.remove-requires
@@ -34,9 +35,12 @@ returns-clause-removed c =
     let i = c.self.inside in
     let live = ap (λ t. t.live) c.self.view_is in
     let place = rw c.deref.ensures.value at c.in_ok-place.ensures in
-    let row = IsRowOf-place i.items.items i.most i.lowest c.args.self.now.live c.args.id.now c.in_ok-place.place c.remove.result c.self.invariant live place c.remove.ensures.value in
+    let row = IsRowOf-place i.items.items i.most i.lowest c.args.self.now.live c.args.id.now
+    c.in_ok-place.place c.remove.result c.self.invariant live place c.remove.ensures.value in
     record {
-      rows = ap live_of c.remove.ensures.items ∙ live_remove i.items.items i.most i.lowest c.args.self.now.live c.args.id.now c.in_ok-place.place c.remove.result c.self.invariant live row;
+      rows = ap live_of c.remove.ensures.items ∙ live_remove i.items.items i.most i.lowest
+          c.args.self.now.live c.args.id.now c.in_ok-place.place c.remove.result
+          c.self.invariant live row;
       most = ap (λ t. t.most) c.self.view_is;
       room = omega (arith, ap (λ t. t.room) c.self.view_is, c.remove.ensures.capacity, c.remove.ensures.len);
     }
