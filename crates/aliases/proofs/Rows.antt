@@ -20,32 +20,40 @@ use Rattle.aliases.specs.Held.{Held, Holding, IsHeldByAnother, without_holder}
 use Rattle.aliases.specs.Stored.{alias_of, holding_of, held_in}
 
 -- the first row of an alias says what the map has
-pub get_row : (rows : List Row) (alias : Alias) → option_map holding_of (find_first (λ r. same_alias r.alias alias) rows) ≡ fin.get (held_in rows) alias
+pub get_row : (rows : List Row) (alias : Alias)
+    → option_map holding_of (find_first (λ r. same_alias r.alias alias) rows) ≡ fin.get (held_in rows) alias
 get_row rows alias = find_key alias_cmp_total alias_cmp-IsAntisymmetric alias_of holding_of same_alias alias_decides alias rows
 
-pub row_place : (rows : List Row) (alias : Alias) → MatchOption (position (λ r. same_alias r.alias alias) rows) (fin.get (held_in rows) alias ≡ None) (IsPlaceOf alias_of alias rows)
+pub row_place : (rows : List Row) (alias : Alias)
+    → MatchOption (position (λ r. same_alias r.alias alias) rows) (fin.get (held_in rows) alias ≡ None) (IsPlaceOf alias_of alias rows)
 row_place rows alias = key_place alias_cmp_total alias_cmp-IsAntisymmetric alias_of holding_of same_alias alias_decides alias rows
 
-pub place_below : (rows : List Row) (alias : Alias) (i : ℕ) → IsPlaceOf alias_of alias rows i → i < length rows
+pub place_below : (rows : List Row) (alias : Alias) (i : ℕ) → IsPlaceOf alias_of alias rows i
+    → i < length rows
 place_below rows alias i h = below alias_of alias rows i h
 
 -- a row of an alias that nobody holds
-pub held_push : (rows : List Row) (r : Row) → fin.get (held_in rows) r.alias ≡ None → held_in (rows ++ r ∷ []) ≡ fin.insert (held_in rows) r.alias (holding_of r)
+pub held_push : (rows : List Row) (r : Row) → fin.get (held_in rows) r.alias ≡ None
+    → held_in (rows ++ r ∷ []) ≡ fin.insert (held_in rows) r.alias (holding_of r)
 held_push rows r absent = map_push alias_cmp_total alias_cmp-IsAntisymmetric alias_of holding_of rows r absent
 
-pub AreApart-push : (rows : List Row) (r : Row) → AreApart alias_of (row_in rows) → fin.get (held_in rows) r.alias ≡ None → AreApart alias_of (row_in (rows ++ r ∷ []))
+pub AreApart-push : (rows : List Row) (r : Row) → AreApart alias_of (row_in rows)
+    → fin.get (held_in rows) r.alias ≡ None → AreApart alias_of (row_in (rows ++ r ∷ []))
 AreApart-push rows r h absent =
     AreApart-put alias_of (row_in rows) (row_in (rows ++ r ∷ [])) (length rows) r h
     (none_there alias_cmp_total alias_cmp-IsAntisymmetric alias_of holding_of rows h r.alias absent) (Changed-push rows r)
 
 -- what a search of the rows found is what the map has
-pub looked_up : (rows : List Row) (held : Held) (alias : Alias) (w : Option Row) → held_in rows ≡ held → w ≡ find_first (λ r. same_alias r.alias alias) rows
+pub looked_up : (rows : List Row) (held : Held) (alias : Alias) (w : Option Row)
+    → held_in rows ≡ held → w ≡ find_first (λ r. same_alias r.alias alias) rows
     → fin.get held alias ≡ option_map holding_of w
 looked_up rows held alias w is found =
-    ap (λ m. fin.get m alias) (sym is) ∙ (sym (get_row rows alias) ∙ ap (option_map holding_of) (sym found))
+    ap (λ m. fin.get m alias) (sym is) ∙
+    (sym (get_row rows alias) ∙ ap (option_map holding_of) (sym found))
 
 -- the rows that a test leaves stay apart
-pub AreApart-filter : (test : Row → Bool) (rows : List Row) → AreApart alias_of (row_in rows) → AreApart alias_of (row_in (filter test rows))
+pub AreApart-filter : (test : Row → Bool) (rows : List Row) → AreApart alias_of (row_in rows)
+    → AreApart alias_of (row_in (filter test rows))
 AreApart-filter test rows h = still_apart alias_of test rows h
 
 pub held_retained : (rows : List Row) (id : List ℕ) → AreApart alias_of (row_in rows)
@@ -58,7 +66,8 @@ pub record IsRowOf (rows : List Row) (held : Held) (alias : Alias) (i : ℕ) (r 
   pub alias_is : r.alias ≡ alias
   pub found : fin.get held alias ≡ Some (holding_of r)
 
-pub IsRowOf-place : (rows : List Row) (held : Held) (alias : Alias) (i : ℕ) (r : Row) → AreApart alias_of (row_in rows) → held_in rows ≡ held
+pub IsRowOf-place : (rows : List Row) (held : Held) (alias : Alias) (i : ℕ) (r : Row)
+    → AreApart alias_of (row_in rows) → held_in rows ≡ held
     → IsPlaceOf alias_of alias rows i → r ≡ get_or rows i r → IsRowOf rows held alias i r
 IsRowOf-place rows held alias i r apart is place read =
     let row = placed_row alias_of alias rows i place in
@@ -71,20 +80,27 @@ IsRowOf-place rows held alias i r apart is place read =
     }
 
 -- the row of an alias is written anew
-pub AreApart-write : (rows : List Row) (i : ℕ) (old new : Row) → AreApart alias_of (row_in rows) → slice_get rows i ≡ Some old → new.alias ≡ old.alias
+pub AreApart-write : (rows : List Row) (i : ℕ) (old new : Row) → AreApart alias_of (row_in rows)
+    → slice_get rows i ≡ Some old → new.alias ≡ old.alias
     → AreApart alias_of (row_in (set rows i new))
 AreApart-write rows i old new h there keeps =
-    AreApart-set alias_of (row_in rows) (row_in (set rows i new)) i old new h there keeps (Changed-set rows i new (slice_get_within rows i old there))
+    AreApart-set alias_of (row_in rows) (row_in (set rows i new)) i old new h there keeps
+    (Changed-set rows i new (slice_get_within rows i old there))
 
-pub held_write : (rows : List Row) (i : ℕ) (old new : Row) → AreApart alias_of (row_in rows) → slice_get rows i ≡ Some old → new.alias ≡ old.alias
+pub held_write : (rows : List Row) (i : ℕ) (old new : Row) → AreApart alias_of (row_in rows)
+    → slice_get rows i ≡ Some old → new.alias ≡ old.alias
     → held_in (set rows i new) ≡ fin.insert (held_in rows) new.alias (holding_of new)
 held_write rows i old new h there keeps =
-    map_set alias_cmp_total alias_cmp-IsAntisymmetric alias_of holding_of rows i old new h (slice_get_within rows i old there) there keeps
+    map_set alias_cmp_total alias_cmp-IsAntisymmetric alias_of holding_of rows i old new h
+    (slice_get_within rows i old there) there keeps
 
-pub IsHeldByAnother-found : (held : Held) (alias : Alias) (id : List ℕ) (h : Holding) → fin.get held alias ≡ Some h → h.holder ≢ id → IsHeldByAnother held alias id
-IsHeldByAnother-found held alias id h is differ = subst (λ w. IsSomeAnd w (λ h. h.holder ≢ id)) (sym is) differ
+pub IsHeldByAnother-found : (held : Held) (alias : Alias) (id : List ℕ) (h : Holding)
+    → fin.get held alias ≡ Some h → h.holder ≢ id → IsHeldByAnother held alias id
+IsHeldByAnother-found held alias id h is differ = subst (λ w. IsSomeAnd w (λ h. h.holder ≢ id))
+    (sym is) differ
 
-pub not_by_another : (held : Held) (alias : Alias) (id : List ℕ) (h : Holding) → fin.get held alias ≡ Some h → h.holder ≡ id → IsHeldByAnother held alias id → ⊥
+pub not_by_another : (held : Held) (alias : Alias) (id : List ℕ) (h : Holding)
+    → fin.get held alias ≡ Some h → h.holder ≡ id → IsHeldByAnother held alias id → ⊥
 not_by_another held alias id h is same other = (let differ : h.holder ≢ id = subst (λ w. IsSomeAnd w (λ h. h.holder ≢ id)) is other in differ same)
 
 opened : (b : Bool) → not b ≡ true → b ≡ true → ⊥
@@ -102,7 +118,10 @@ pub same_holder : (a b : List ℕ) → not (pointwise nat_eq a b) ≡ false → 
 same_holder a b h = (texts_decide a b).0 (closed (pointwise nat_eq a b) h)
 
 -- a push that may fail
-pub AreApart-pushed : (rows new : List Row) (r : Row) (b : Bool) → new ≡ (if b then rows ++ r ∷ [] else rows) → AreApart alias_of (row_in rows)
+pub AreApart-pushed : (rows new : List Row) (r : Row) (b : Bool)
+    → new ≡ (if b then rows ++ r ∷ [] else rows) → AreApart alias_of (row_in rows)
     → fin.get (held_in rows) r.alias ≡ None → AreApart alias_of (row_in new)
-AreApart-pushed rows new r true is h absent = subst (λ (l : List Row). AreApart alias_of (row_in l)) (sym is) (AreApart-push rows r h absent)
-AreApart-pushed rows new r false is h absent = subst (λ (l : List Row). AreApart alias_of (row_in l)) (sym is) h
+AreApart-pushed rows new r true is h absent = subst
+    (λ (l : List Row). AreApart alias_of (row_in l)) (sym is) (AreApart-push rows r h absent)
+AreApart-pushed rows new r false is h absent = subst
+    (λ (l : List Row). AreApart alias_of (row_in l)) (sym is) h

@@ -11,17 +11,21 @@ use Rattle.keyed.proofs.Decide.{by_place, some_none, same_some}
 use Rattle.keyed.proofs.Maps.{by_key, Changed-insert}
 
 -- a row with this key and this value stands at this place
-pub record StandsAt {K V X : Type 0} (key : X → K) (value : X → V) (at : ℕ → Option X) (i : ℕ) (r : X) (k : K) (v : V) : Type 0 where
+pub record StandsAt {K V X : Type 0} (key : X → K) (value : X → V) (at : ℕ → Option X) (i : ℕ)
+    (r : X) (k : K) (v : V) : Type 0 where
   pub there : at i ≡ Some r
   pub key_is : key r ≡ k
   pub value_is : value r ≡ v
 
 -- the map has the value of each row that stands at a place, under its key, and nothing else
-pub record IsMapOf {K V X : Type 0} {R : K → K → Ordering} (key : X → K) (value : X → V) (at : ℕ → Option X) (m : FinMap R V) : Type 0 where
+pub record IsMapOf {K V X : Type 0} {R : K → K → Ordering} (key : X → K) (value : X → V)
+    (at : ℕ → Option X) (m : FinMap R V) : Type 0 where
   pub has : (i : ℕ) (r : X) → at i ≡ Some r → fin.get m (key r) ≡ Some (value r)
-  pub stands : (k : K) (v : V) → fin.get m k ≡ Some v → (i : ℕ) × (r : X) × StandsAt key value at i r k v
+  pub stands : (k : K) (v : V) → fin.get m k ≡ Some v
+      → (i : ℕ) × (r : X) × StandsAt key value at i r k v
 
-module _ {K V X : Type 0} {R : K → K → Ordering} (o : IsTotalOrder R) (same : IsAntisymmetric R) (key : X → K) (value : X → V) where
+module _ {K V X : Type 0} {R : K → K → Ordering} (o : IsTotalOrder R) (same : IsAntisymmetric R)
+    (key : X → K) (value : X → V) where
   carried : (at : ℕ → Option X) (m n : FinMap R V) → IsMapOf key value at m → IsMapOf key value at n
       → (q : K) (v : V) → fin.get m q ≡ Some v → fin.get n q ≡ Some v
   carried at m n a b q v e =
@@ -29,16 +33,20 @@ module _ {K V X : Type 0} {R : K → K → Ordering} (o : IsTotalOrder R) (same 
       ap (fin.get n) (sym s.2.key_is) ∙ (b.has s.0 s.1 s.2.there ∙ ap Some s.2.value_is)
 
   -- the places determine the map
-  pub one_map : (at : ℕ → Option X) (m n : FinMap R V) → IsMapOf key value at m → IsMapOf key value at n → m ≡ n
-  one_map at m n a b = fin.same_map o same m n (λ q. cases q (fin.get m q) (fin.get n q) refl refl) where
-    cases : (q : K) (x y : Option V) → fin.get m q ≡ x → fin.get n q ≡ y → fin.get m q ≡ fin.get n q
-    cases q (Some v) y p e = p ∙ sym (carried at m n a b q v p)
-    cases q None (Some v) p e = some_none (sym (carried at n m b a q v e) ∙ p)
-    cases q None None p e = p ∙ sym e
+  pub one_map : (at : ℕ → Option X) (m n : FinMap R V) → IsMapOf key value at m
+      → IsMapOf key value at n → m ≡ n
+  one_map at m n a b = fin.same_map o same m n
+      (λ q. cases q (fin.get m q) (fin.get n q) refl refl) where
+        cases : (q : K) (x y : Option V) → fin.get m q ≡ x → fin.get n q ≡ y → fin.get m q ≡ fin.get n q
+        cases q (Some v) y p e = p ∙ sym (carried at m n a b q v p)
+        cases q None (Some v) p e = some_none (sym (carried at n m b a q v e) ∙ p)
+        cases q None None p e = p ∙ sym e
 
   -- a row is put at a place, where no other place has its key
-  pub IsMapOf-put : (at new : ℕ → Option X) (i : ℕ) (r : X) (m : FinMap R V) → IsMapOf key value at m → Changed at new i (Some r)
-      → ((s : X) → at i ≡ Some s → key s ≡ key r) → ((j : ℕ) (s : X) → at j ≡ Some s → key s ≡ key r → j ≡ i)
+  pub IsMapOf-put : (at new : ℕ → Option X) (i : ℕ) (r : X) (m : FinMap R V)
+      → IsMapOf key value at m → Changed at new i (Some r)
+      → ((s : X) → at i ≡ Some s → key s ≡ key r)
+      → ((j : ℕ) (s : X) → at j ≡ Some s → key s ≡ key r → j ≡ i)
       → IsMapOf key value new (fin.insert m (key r) (value r))
   IsMapOf-put at new i r m of c stays alone =
       let d = Changed-insert o same m (key r) (value r) in
@@ -48,7 +56,8 @@ module _ {K V X : Type 0} {R : K → K → Ordering} (o : IsTotalOrder R) (same 
             subst (λ (x : X). fin.get (fin.insert m (key r) (value r)) (key x) ≡ Some (value x)) is d.here)
             (λ differ. let was : at j ≡ Some s = sym (c.others j differ) ∙ e in
             d.others (key s) (λ k. differ (alone j s was k)) ∙ of.has j s was);
-        stands = λ k v e. by_key o same k (key r) ((j : ℕ) × (s : X) × StandsAt key value new j s k v)
+        stands = λ k v e. by_key o same k (key r)
+            ((j : ℕ) × (s : X) × StandsAt key value new j s k v)
             (λ p. let is : value r ≡ v = same_some (value r) v (sym d.here ∙ (ap (fin.get (fin.insert m (key r) (value r))) (sym p) ∙ e)) in
             (i, r, record { there = c.here; key_is = sym p; value_is = is }))
             (λ differ. let s = of.stands k v (sym (d.others k differ) ∙ e) in
@@ -57,7 +66,8 @@ module _ {K V X : Type 0} {R : K → K → Ordering} (o : IsTotalOrder R) (same 
       }
 
 -- a row is changed where it stands, and keeps this part
-pub AreApart-set : {A X : Type 0} (part : X → A) (at new : ℕ → Option X) (i : ℕ) (old r : X) → AreApart part at → at i ≡ Some old
+pub AreApart-set : {A X : Type 0} (part : X → A) (at new : ℕ → Option X) (i : ℕ) (old r : X)
+    → AreApart part at → at i ≡ Some old
     → part r ≡ part old → Changed at new i (Some r) → AreApart part new
 AreApart-set part at new i old r h there keeps c = record {
   apart = λ a b s t p q e. by_place a i (a ≡ b)
@@ -69,8 +79,10 @@ AreApart-set part at new i old r h there keeps c = record {
 }
 
 -- a row is put at an empty place, and no other agrees with it in this part
-pub AreApart-put : {A X : Type 0} (part : X → A) (at new : ℕ → Option X) (i : ℕ) (r : X) → AreApart part at
-    → ((j : ℕ) (s : X) → at j ≡ Some s → part s ≢ part r) → Changed at new i (Some r) → AreApart part new
+pub AreApart-put : {A X : Type 0} (part : X → A) (at new : ℕ → Option X) (i : ℕ) (r : X)
+    → AreApart part at
+    → ((j : ℕ) (s : X) → at j ≡ Some s → part s ≢ part r) → Changed at new i (Some r)
+    → AreApart part new
 AreApart-put part at new i r h none c = record {
   apart = λ a b s t p q e. by_place a i (a ≡ b)
       (λ x. by_place b i (a ≡ b) (λ y. x ∙ sym y) (λ y. let is : r ≡ s = same_some r s (sym c.here ∙ (ap new (sym x) ∙ p)) in

@@ -10,7 +10,8 @@ use Rattle.aliases.proofs.Rows.{AreApart-filter, held_retained}
 use Rattle.aliases.proofs.table.AliasTable.drop_holder.Goals as goal
 
 left : (c : goal.After-retain) → c.retain.new.self.items ≡ filter (λ r. not (pointwise nat_eq r.holder c.args.holder.now)) c.self.inside.rows.items
-left c = filter_same _ (λ (r : Row). not (pointwise nat_eq r.holder c.args.holder.now)) _ (λ x b f' called. search rules) _ _ c.retain.ensures.filtered
+left c = filter_same _ (λ (r : Row). not (pointwise nat_eq r.holder c.args.holder.now)) _
+    (λ x b f' called. search rules) _ _ c.retain.ensures.filtered
 
 pub invariant_of-self : goal.invariant_of-self
 invariant_of-self c =
