@@ -21,7 +21,7 @@ use Rattle.ras_codec.specs.Replies.{digit_code, digits, bmp_string, alias_addres
 use Rattle.ras_codec.specs.Replies.{alias_list}
 use Rattle.ras_codec.specs.Properties.{IsAlias, IsDigits, AreAliases}
 use Rattle.ras_codec.proofs.Dialled.{both_true}
-use Rattle.ras_codec.proofs.Written.{Writes, bmp_written, in_order-append}
+use Rattle.ras_codec.proofs.Written.{AreEncodings, bmp_written, in_order-append}
 
 code_few : (c : ℕ) → IsTrue (is_dialled c) → digit_code c ≤ 12
 code_few c h = grind (arith, nat_tests)
@@ -146,7 +146,7 @@ served_in-all : (list : List Alias) → served_in (map Some list) ≡ list
 served_in-all [] = refl
 served_in-all (x ∷ xs) = ap (λ (t : List Alias). x ∷ t) (served_in-all xs)
 
-pub aliases_written : (list : List Alias) → AreAliases list → Writes aliases.alias_list list
+pub aliases_written : (list : List Alias) → AreAliases list → AreEncodings aliases.alias_list list
     (alias_list list)
 unfolding aliases.alias_list
 aliases_written list h = record {

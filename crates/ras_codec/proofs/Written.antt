@@ -24,13 +24,14 @@ use Rattle.per_bits.specs.Readings.{front_octets_reading, octets_reading}
 use Rattle.per_bits.proofs.Binary.{length-binary, octet-number}
 use Rattle.per_bits.proofs.OctetForms.{octets_exact}
 
-pub record Says {A : Type 0} (g : Grammar A) (x : A) (component : Encoding) : Type 0 where
+pub record IsEncoding {A : Type 0} (g : Grammar A) (x : A) (component : Encoding) : Type 0 where
   pub here : (place : ℕ) → place < 8 → g.encodes x place (component place)
 
-pub record Writes {A : Type 0} (g : Grammar A) (x : A) (components : List Encoding) : Type 0 where
+pub record AreEncodings {A : Type 0} (g : Grammar A) (x : A)
+    (components : List Encoding) : Type 0 where
   pub here : (place : ℕ) → place < 8 → g.encodes x place (in_order components place)
 
-pub done : {A : Type 0} {x : A} → Writes (grammar.is x) x []
+pub done : {A : Type 0} {x : A} → AreEncodings (grammar.is x) x []
 done = record { here = λ place small. (refl, refl) }
 
 below_eight : (n : ℕ) → n % 8 < 8
@@ -38,7 +39,7 @@ below_eight n = omega arith
 
 pub one : {A B : Type 0} {first : Grammar A} (next : A → Grammar B) {x : A} {y : B} {e : Encoding}
     {es : List Encoding}
-    → Says first x e → Writes (next x) y es → Writes (first >>= next) y (e ∷ es)
+    → IsEncoding first x e → AreEncodings (next x) y es → AreEncodings (first >>= next) y (e ∷ es)
 unfolding ◌>>=◌
 one {A} {B} {first} next {x} {y} {e} {es} p q = record {
   here = λ place small.
@@ -66,7 +67,8 @@ in_order-append (x ∷ xs) ys place small =
 
 pub part : {A B : Type 0} {first : Grammar A} (next : A
     → Grammar B) {x : A} {y : B} {xs ys : List Encoding}
-    → Writes first x xs → Writes (next x) y ys → Writes (first >>= next) y (xs ++ ys)
+    → AreEncodings first x xs → AreEncodings (next x) y ys → AreEncodings (first >>= next) y
+        (xs ++ ys)
 unfolding ◌>>=◌
 part {A} {B} {first} next {x} {y} {xs} {ys} p q = record {
   here = λ place small.
@@ -76,25 +78,27 @@ part {A} {B} {first} next {x} {y} {xs} {ys} p q = record {
           after (below_eight (place + length front))));
 }
 
-pub boolean_said : (bit : Bool) → Says grammar.boolean bit (encoding.boolean bit)
-boolean_said bit = record { here = λ place small. refl }
+pub boolean_encoded : (bit : Bool) → IsEncoding grammar.boolean bit (encoding.boolean bit)
+boolean_encoded bit = record { here = λ place small. refl }
 
-pub whole_said : (lo hi n : ℕ) → lo ≤ n → n ≤ hi → hi < 2 ^ 32 → Says (grammar.whole lo hi) n
+pub whole_encoded : (lo hi n : ℕ) → lo ≤ n → n ≤ hi → hi < 2 ^ 32 → IsEncoding
+    (grammar.whole lo hi) n
     (encoding.whole lo hi n)
-whole_said lo hi n low high fits = record {
+whole_encoded lo hi n low high fits = record {
   here = λ place small. whole_encodes lo hi n place low high fits;
 }
 
-pub index_said : (last n : ℕ) → n ≤ last → last < 2 ^ 32 → Says (grammar.choice_index last) n
+pub index_encoded : (last n : ℕ) → n ≤ last → last < 2 ^ 32 → IsEncoding
+    (grammar.choice_index last) n
     (encoding.whole 0 last n)
-index_said last n high fits = record {
+index_encoded last n high fits = record {
   here = λ place small. whole_encodes 0 last n place (omega arith) high fits;
 }
 
 -- no bits, for a component that isn't there
 pub none : {A B : Type 0} {first : Grammar A} (next : A
     → Grammar B) {x : A} {y : B} {es : List Encoding}
-    → Writes first x [] → Writes (next x) y es → Writes (first >>= next) y es
+    → AreEncodings first x [] → AreEncodings (next x) y es → AreEncodings (first >>= next) y es
 unfolding ◌>>=◌
 none {A} {B} {first} next {x} {y} {es} p q = record {
   here = λ place small.
@@ -104,7 +108,8 @@ none {A} {B} {first} next {x} {y} {es} p q = record {
 }
 
 -- one component alone
-pub alone : {A : Type 0} {g : Grammar A} {x : A} {e : Encoding} → Says g x e → Writes g x (e ∷ [])
+pub alone : {A : Type 0} {g : Grammar A} {x : A} {e : Encoding} → IsEncoding g x e
+    → AreEncodings g x (e ∷ [])
 alone {A} {g} {x} {e} p = record {
   here = λ place small. subst (λ (t : List Bool). g.encodes x place t) (sym (append-nil
       (e place))) (p.here place small);
@@ -113,19 +118,20 @@ alone {A} {g} {x} {e} p = record {
 -- a part behind which nothing is written
 pub last : {A B : Type 0} {first : Grammar A} (next : A
     → Grammar B) {x : A} {y : B} {xs : List Encoding}
-    → Writes first x xs → Writes (next x) y [] → Writes (first >>= next) y xs
-last {A} {B} {first} next {x} {y} {xs} p q = subst (λ (t : List Encoding). Writes
+    → AreEncodings first x xs → AreEncodings (next x) y [] → AreEncodings (first >>= next) y xs
+last {A} {B} {first} next {x} {y} {xs} p q = subst (λ (t : List Encoding). AreEncodings
     (first >>= next) y t) (append-nil xs) (part next p q)
 
-pub size_said : (n : ℕ) → n < 16384 → Says grammar.length n (encoding.size n)
-size_said n small = record { here = λ place _. length_encodes n place small }
+pub size_encoded : (n : ℕ) → n < 16384 → IsEncoding grammar.length n (encoding.size n)
+size_encoded n small = record { here = λ place _. length_encodes n place small }
 
-pub octets_said : (octets : List ℕ) → AllByRecursion (λ x. x < 256) octets → Says (grammar.octets
+pub octets_encoded : (octets : List ℕ) → AllByRecursion (λ x. x < 256) octets → IsEncoding
+    (grammar.octets
     (length octets)) octets (encoding.octets octets)
-octets_said octets fit = record { here = λ place _. octets_encode octets place fit }
+octets_encoded octets fit = record { here = λ place _. octets_encode octets place fit }
 
-pub small_said : (n : ℕ) → n < 64 → Says grammar.small n (encoding.small n)
-small_said n few = record { here = λ place _. small_encodes n place few }
+pub small_encoded : (n : ℕ) → n < 64 → IsEncoding grammar.small n (encoding.small n)
+small_encoded n few = record { here = λ place _. small_encodes n place few }
 
 -- ---- characters
 
@@ -142,7 +148,7 @@ characters_here (x ∷ xs) fit place =
 
 pub bmp_written : (most : ℕ) (text : List ℕ) → 1 ≤ length text → length text ≤ most
     → most < 2 ^ 32 → AllByRecursion (λ x. x < 65536) text
-    → Writes (sequences.bmp_string most) text (bmp_string most text)
+    → AreEncodings (sequences.bmp_string most) text (bmp_string most text)
 unfolding sequences.bmp_string
 bmp_written most text some few small fit = record {
   here = λ place _.
@@ -163,7 +169,7 @@ bmp_written most text some few small fit = record {
 }
 
 pub identifier_written : (text : List ℕ) → 1 ≤ length text → length text ≤ 128 → AllByRecursion
-    (λ x. x < 65536) text → Writes sequences.identifier text (identifier text)
+    (λ x. x < 65536) text → AreEncodings sequences.identifier text (identifier text)
 unfolding identifier
 identifier_written text some few fit = bmp_written 128 text some few (omega arith) fit
 
@@ -171,7 +177,7 @@ identifier_written text some few fit = bmp_written 128 text some few (omega arit
 
 pub address_written : (address : Address) → length address.ip ≡ 4 → AllByRecursion
     (λ x. x < 256) address.ip → address.port ≤ 65535
-    → Writes addresses.transport_address (Some address) (transport_address address)
+    → AreEncodings addresses.transport_address (Some address) (transport_address address)
 unfolding addresses.transport_address addresses.ip_address transport_address
 address_written address four fit port = record {
   here = λ place _.
@@ -276,7 +282,7 @@ open_here count es place few len =
 
 pub inside_written : {A : Type 0} (g : Grammar A) {x : A} (count : ℕ) (es : List Encoding)
     → count < 16384 → length (in_order es 0) ≡ 8 * count
-    → Writes g x es → Writes (grammar.inside g) x (encoding.size count ∷ es)
+    → AreEncodings g x es → AreEncodings (grammar.inside g) x (encoding.size count ∷ es)
 inside_written g {x} count es few len p = record {
   here = λ place _.
       let bits = in_order es 0 in
@@ -287,7 +293,7 @@ inside_written g {x} count es few len p = record {
 
 pub skipped_written : (count : ℕ) (es : List Encoding) → count < 16384 → length (in_order es 0)
     ≡ 8 * count
-    → Writes (grammar.skipped true grammar.open_type) tt (encoding.size count ∷ es)
+    → AreEncodings (grammar.skipped true grammar.open_type) tt (encoding.size count ∷ es)
 skipped_written count es few len = record {
   here = λ place _.
       let bits = in_order (encoding.size count ∷ es) place in
@@ -305,7 +311,7 @@ presence_here (b ∷ bs) place = (b, (b ∷ [], bs, refl, refl, (bs, (bs, [], sy
 
 pub additions_written : (present : List Bool) (more : ℕ) (e : Encoding) → length present
     ≡ more + 1 → more < 64 → ((place : ℕ) → e place ≡ present)
-    → Writes (sequences.additions true) present (encoding.small more ∷ e ∷ [])
+    → AreEncodings (sequences.additions true) present (encoding.small more ∷ e ∷ [])
 additions_written present more e len few is = record {
   here = λ place _.
       let front = canonical.small_encoding more in
@@ -321,7 +327,8 @@ additions_written present more e len few is = record {
 -- a list of one address
 pub one_address_written : (address : Address) → length address.ip ≡ 4 → AllByRecursion
     (λ x. x < 256) address.ip → address.port ≤ 65535
-    → Writes addresses.address_list (Some address) (encoding.size 1 ∷ transport_address address)
+    → AreEncodings addresses.address_list (Some address)
+        (encoding.size 1 ∷ transport_address address)
 unfolding addresses.address_list
 one_address_written address four fit port = record {
   here = λ place _.
@@ -354,7 +361,7 @@ one_address_written address four fit port = record {
 -- a part that stands with others in brackets
 pub part_of : {A B : Type 0} {first : Grammar A} (next : A
     → Grammar B) {x : A} {y : B} {xs : List Encoding} (ys zs : List Encoding)
-    → Writes first x xs → Writes (next x) y (ys ++ zs) → Writes (first >>= next) y
+    → AreEncodings first x xs → AreEncodings (next x) y (ys ++ zs) → AreEncodings (first >>= next) y
         ((xs ++ ys) ++ zs)
-part_of {A} {B} {first} next {x} {y} {xs} ys zs p q = subst (λ (t : List Encoding). Writes
+part_of {A} {B} {first} next {x} {y} {xs} ys zs p q = subst (λ (t : List Encoding). AreEncodings
     (first >>= next) y t) (sym (append_assoc xs ys zs)) (part next p q)

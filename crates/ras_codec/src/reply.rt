@@ -107,7 +107,7 @@ fn registration_reason(writer: &mut BitWriter, reason: &RegistrationRejectReason
     }
 }
 
-/// GatekeeperConfirm.
+/// GatekeeperConfirm: no additions, no nonStandardData, with its gatekeeperIdentifier.
 #[tactic(
     auto,
     using(crate::proofs::Behind::behind_append),
@@ -132,7 +132,7 @@ pub fn gatekeeper_confirm(
     transport_address(writer, ras);
 }
 
-/// GatekeeperReject.
+/// GatekeeperReject: no additions, no nonStandardData, no gatekeeperIdentifier.
 #[tactic(
     auto,
     using(crate::proofs::Behind::behind_append),
@@ -186,7 +186,8 @@ fn terminal_alias(writer: &mut BitWriter, aliases: &[Alias])
     }
 }
 
-/// The front of a RegistrationConfirm, up to its callSignalAddress.
+/// The front of a RegistrationConfirm, up to its callSignalAddress: with additions, no
+/// nonStandardData, terminalAlias where there are aliases, with its gatekeeperIdentifier.
 #[tactic(
     auto,
     using(crate::proofs::Behind::behind_append),
@@ -213,7 +214,7 @@ fn registration_confirm_front(
     transport_address(writer, call_signal);
 }
 
-/// RegistrationReject.
+/// RegistrationReject: no additions, no nonStandardData, no gatekeeperIdentifier.
 #[tactic(
     auto,
     using(crate::proofs::Behind::behind_append),
@@ -237,7 +238,7 @@ pub fn registration_reject(
     registration_reason(writer, reason);
 }
 
-/// UnregistrationConfirm.
+/// UnregistrationConfirm: no additions, no nonStandardData.
 #[tactic(auto, unfolding(crate::specs::Replies::unregistration_confirm))]
 pub fn unregistration_confirm(writer: &mut BitWriter, seq: RequestSeqNum)
     requires { 400 ≤ writer.old.room }
@@ -249,7 +250,7 @@ pub fn unregistration_confirm(writer: &mut BitWriter, seq: RequestSeqNum)
     request_seq_num(writer, seq);
 }
 
-/// UnregistrationReject.
+/// UnregistrationReject: no additions, no nonStandardData.
 #[tactic(auto, unfolding(crate::specs::Replies::unregistration_reject))]
 pub fn unregistration_reject(writer: &mut BitWriter, seq: RequestSeqNum, reason: UnregRejectReason)
     requires { 400 ≤ writer.old.room }
@@ -262,7 +263,7 @@ pub fn unregistration_reject(writer: &mut BitWriter, seq: RequestSeqNum, reason:
     null_choice(writer, 2, unreg_reason(reason));
 }
 
-/// AdmissionConfirm: the endpoint may send itself, and reports nothing.
+/// AdmissionConfirm: with additions, no irrFrequency, no nonStandardData; callModel is direct.
 #[tactic(
     auto,
     using(crate::proofs::Behind::behind_append),
@@ -296,7 +297,7 @@ fn admission_confirm_additions(writer: &mut BitWriter)
     writer.octets(&[0, 0]);
 }
 
-/// AdmissionReject.
+/// AdmissionReject: no additions, no nonStandardData.
 #[tactic(auto, unfolding(crate::specs::Replies::admission_reject))]
 pub fn admission_reject(writer: &mut BitWriter, seq: RequestSeqNum, reason: AdmissionRejectReason)
     requires { 400 ≤ writer.old.room }
@@ -309,7 +310,7 @@ pub fn admission_reject(writer: &mut BitWriter, seq: RequestSeqNum, reason: Admi
     null_choice(writer, 7, admission_reason(reason));
 }
 
-/// BandwidthConfirm.
+/// BandwidthConfirm: no additions, no nonStandardData.
 #[tactic(auto, unfolding(crate::specs::Replies::bandwidth_confirm))]
 pub fn bandwidth_confirm(writer: &mut BitWriter, seq: RequestSeqNum, units: u32)
     requires { 400 ≤ writer.old.room }
@@ -322,7 +323,7 @@ pub fn bandwidth_confirm(writer: &mut BitWriter, seq: RequestSeqNum, units: u32)
     band_width(writer, units);
 }
 
-/// BandwidthReject, with the bandwidth that is allowed.
+/// BandwidthReject, with the bandwidth that is allowed: no additions, no nonStandardData.
 #[tactic(auto, unfolding(crate::specs::Replies::bandwidth_reject))]
 pub fn bandwidth_reject(
     writer: &mut BitWriter,
@@ -341,7 +342,7 @@ pub fn bandwidth_reject(
     band_width(writer, allowed);
 }
 
-/// DisengageConfirm.
+/// DisengageConfirm: no additions, no nonStandardData.
 #[tactic(auto, unfolding(crate::specs::Replies::disengage_confirm))]
 pub fn disengage_confirm(writer: &mut BitWriter, seq: RequestSeqNum)
     requires { 400 ≤ writer.old.room }
@@ -353,7 +354,7 @@ pub fn disengage_confirm(writer: &mut BitWriter, seq: RequestSeqNum)
     request_seq_num(writer, seq);
 }
 
-/// DisengageReject.
+/// DisengageReject: no additions, no nonStandardData.
 #[tactic(auto, unfolding(crate::specs::Replies::disengage_reject))]
 pub fn disengage_reject(writer: &mut BitWriter, seq: RequestSeqNum, reason: DisengageRejectReason)
     requires { 400 ≤ writer.old.room }
@@ -366,7 +367,8 @@ pub fn disengage_reject(writer: &mut BitWriter, seq: RequestSeqNum, reason: Dise
     null_choice(writer, 1, disengage_reason(reason));
 }
 
-/// InfoRequest about all calls.
+/// InfoRequest about all calls: with additions, no nonStandardData, no replyAddress; its
+/// callIdentifier is zeros.
 #[tactic(auto, unfolding(crate::specs::Replies::info_request))]
 pub fn info_request(writer: &mut BitWriter, seq: RequestSeqNum)
     requires { 500 ≤ writer.old.room }
@@ -385,7 +387,8 @@ pub fn info_request(writer: &mut BitWriter, seq: RequestSeqNum)
     writer.octets(&[0; 16]);
 }
 
-/// RequestInProgress.
+/// RequestInProgress, in an open type of five octets: no additions, none of its four OPTIONAL
+/// components.
 #[tactic(auto, unfolding(crate::specs::Replies::request_in_progress))]
 pub fn request_in_progress(writer: &mut BitWriter, seq: RequestSeqNum, delay: Delay)
     requires { 400 ≤ writer.old.room }
