@@ -84,11 +84,7 @@ fn disengage_reason(reason: DisengageRejectReason) -> u32
 }
 
 /// RegistrationRejectReason.
-#[tactic(
-    auto,
-    using(crate::proofs::Behind::behind_append),
-    unfolding(crate::specs::Replies::registration_reason)
-)]
+#[tactic(auto, using(crate::proofs::Behind::behind_append), unfolding(crate::specs::Replies::registration_reason))]
 fn registration_reason(writer: &mut BitWriter, reason: &RegistrationRejectReason)
     requires { 65 + 4128 * held_in reason.now ≤ writer.old.room }
     ensures { Writes (65 + 4128 * held_in reason.now) (registration_reason reason.now) writer.old
@@ -108,11 +104,7 @@ fn registration_reason(writer: &mut BitWriter, reason: &RegistrationRejectReason
 }
 
 /// GatekeeperConfirm: no additions, no nonStandardData, with its gatekeeperIdentifier.
-#[tactic(
-    auto,
-    using(crate::proofs::Behind::behind_append),
-    unfolding(crate::specs::Replies::gatekeeper_confirm)
-)]
+#[tactic(auto, using(crate::proofs::Behind::behind_append), unfolding(crate::specs::Replies::gatekeeper_confirm))]
 pub fn gatekeeper_confirm(
     writer: &mut BitWriter,
     seq: RequestSeqNum,
@@ -133,11 +125,7 @@ pub fn gatekeeper_confirm(
 }
 
 /// GatekeeperReject: no additions, no nonStandardData, no gatekeeperIdentifier.
-#[tactic(
-    auto,
-    using(crate::proofs::Behind::behind_append),
-    unfolding(crate::specs::Replies::gatekeeper_reject)
-)]
+#[tactic(auto, using(crate::proofs::Behind::behind_append), unfolding(crate::specs::Replies::gatekeeper_reject))]
 pub fn gatekeeper_reject(writer: &mut BitWriter, seq: RequestSeqNum, reason: GatekeeperRejectReason)
     requires { 400 ≤ writer.old.room }
     ensures { Writes 400 (gatekeeper_reject seq reason) writer.old writer.new }
@@ -188,11 +176,7 @@ fn terminal_alias(writer: &mut BitWriter, aliases: &[Alias])
 
 /// The front of a RegistrationConfirm, up to its callSignalAddress: with additions, no
 /// nonStandardData, terminalAlias where there are aliases, with its gatekeeperIdentifier.
-#[tactic(
-    auto,
-    using(crate::proofs::Behind::behind_append),
-    unfolding(crate::specs::Replies::registration_confirm_front)
-)]
+#[tactic(auto, using(crate::proofs::Behind::behind_append), unfolding(crate::specs::Replies::registration_confirm_front))]
 fn registration_confirm_front(
     writer: &mut BitWriter,
     seq: RequestSeqNum,
@@ -215,11 +199,7 @@ fn registration_confirm_front(
 }
 
 /// RegistrationReject: no additions, no nonStandardData, no gatekeeperIdentifier.
-#[tactic(
-    auto,
-    using(crate::proofs::Behind::behind_append),
-    unfolding(crate::specs::Replies::registration_reject)
-)]
+#[tactic(auto, using(crate::proofs::Behind::behind_append), unfolding(crate::specs::Replies::registration_reject))]
 pub fn registration_reject(
     writer: &mut BitWriter,
     seq: RequestSeqNum,
@@ -264,11 +244,7 @@ pub fn unregistration_reject(writer: &mut BitWriter, seq: RequestSeqNum, reason:
 }
 
 /// AdmissionConfirm: with additions, no irrFrequency, no nonStandardData; callModel is direct.
-#[tactic(
-    auto,
-    using(crate::proofs::Behind::behind_append),
-    unfolding(crate::specs::Replies::admission_confirm)
-)]
+#[tactic(auto, using(crate::proofs::Behind::behind_append), unfolding(crate::specs::Replies::admission_confirm))]
 pub fn admission_confirm(writer: &mut BitWriter, seq: RequestSeqNum, units: u32, dest: &Address)
     requires { 500 ≤ writer.old.room }
     ensures { Writes 500 (admission_confirm seq units dest.now) writer.old writer.new }
@@ -407,11 +383,7 @@ pub fn request_in_progress(writer: &mut BitWriter, seq: RequestSeqNum, delay: De
 }
 
 /// The components of a reply.
-#[tactic(
-    auto,
-    using(crate::proofs::Behind::behind_append),
-    unfolding(crate::specs::Replies::registration_confirm)
-)]
+#[tactic(auto, using(crate::proofs::Behind::behind_append), unfolding(crate::specs::Replies::registration_confirm))]
 fn write_components(writer: &mut BitWriter, reply: &Reply)
     requires { 8 * room_of reply.now ≤ writer.old.room }
     ensures { Writes (8 * room_of reply.now) (components reply.now) writer.old writer.new }
