@@ -176,6 +176,12 @@ form_shortest n place bits (inr h) =
       | inr ge ↦ rw (le-ltb n 128 ge) (omega arith)
     ]
 
+form_below : (n place : ℕ) (bits : List Bool) → LengthForm n place bits → n < 16384
+form_below n place bits (inl h) =
+    omega (arith, number_below 7 n ((place + length h.0) % 8) h.1 h.4)
+form_below n place bits (inr h) =
+    number_below 14 n (((place + length h.0) % 8 + length h.4.0) % 8) h.4.1 h.4.4
+
 pub length_shortest : (n place : ℕ) (other : List Bool) → EncodesLength n place other
     → length (length_encoding n place) ≤ length other
 length_shortest n place other h =
@@ -186,6 +192,9 @@ length_shortest n place other h =
       form_shortest n ((place + length h.0) % 8) h.1 h.4,
       length-length_encoding n place,
     )
+
+pub length_below : (n place : ℕ) (bits : List Bool) → EncodesLength n place bits → n < 16384
+length_below n place bits h = form_below n ((place + length h.0) % 8) h.1 h.4
 
 pub small_shortest : (n place : ℕ) (other : List Bool) → EncodesSmall n place other
     → length (small_encoding n) ≤ length other

@@ -1,5 +1,6 @@
 pub mod Texts
 pub mod DialledDigits
 pub mod Aliases
+pub mod Addresses
 pub mod Rooms
 pub mod Same

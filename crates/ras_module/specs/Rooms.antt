@@ -1,11 +1,10 @@
 -- How many octets are enough for a reply.
 use Rattle.std.specs.Prelude.{ℕ, ◌+◌, ◌*◌, length}
-use Rattle.ras_module.specs.declared.reason.RegistrationRejectReason.{RegistrationRejectReason}
 use Rattle.ras_module.specs.declared.reason.RegistrationRejectReason.TheVariants.{DuplicateAlias}
 use Rattle.ras_module.specs.declared.reply.Reply.{Reply}
 use Rattle.ras_module.specs.declared.reply.Reply.TheVariants.{Gcf, Rcf, Rrj}
 
--- two identifiers of 128 characters at most, and 514 octets at most for an alias, with some to spare
+-- two identifiers of 128 characters at most, 514 octets at most for an alias, and some to spare
 abbrev pub room_of : Reply → ℕ
 room_of (Gcf seq gatekeeper ras) = 320
 room_of (Rcf seq call_signal aliases gatekeeper endpoint granted) = 640 + 516 * length aliases

@@ -1,21 +1,43 @@
 -- What the tests of equality decide.
-use Rattle.std.proofs.Common.{◌≡◌, ℕ, Bool, true, false, List, nat_eq, refl, sym, ap, subst}
+use Rattle.std.proofs.Common.{◌≡◌, ℕ, Bool, true, false, ◌&&◌, List, nat_eq, refl, sym, ◌∙◌, ap}
 use Rattle.std.specs.Bool.{Decides}
 use Rattle.std.specs.Cmp.{IsEquivalence, IsPartialEquivalence, partial_equiv_from_equiv}
 use Rattle.std.specs.Cmp.Lexicographic.{pointwise}
 use Rattle.std.proofs.lemmas.Cmp.{lists_equiv}
 use Rattle.std.proofs.lemmas.Slice.Eq.{slice_eq-Decides}
 use Rattle.std.proofs.lemmas.Bool.Decides.{Decides-eqb}
+use Rattle.ras_module.specs.declared.address.Address.{Address}
 use Rattle.ras_module.specs.declared.alias.Alias.{Alias}
 use Rattle.ras_module.specs.declared.alias.Alias.TheVariants.{Digits, H323Id}
+use Rattle.ras_module.specs.Addresses.{same_address}
 use Rattle.ras_module.specs.Aliases.{same_alias}
 
 pub texts_decide : (xs ys : List ℕ) → Decides (pointwise nat_eq xs ys) (xs ≡ ys)
 texts_decide xs ys = slice_eq-Decides Decides-eqb xs ys (pointwise nat_eq xs ys) refl
 
+both_true : (a b : Bool) → (a && b) ≡ true → (a ≡ true) × (b ≡ true)
+both_true true b h = (refl, h)
+both_true false b h = absurd (cc h)
+
+true_both : (a b : Bool) → a ≡ true → b ≡ true → (a && b) ≡ true
+true_both a b p q = ap (λ c. c && b) p ∙ q
+
+pub address_decides : (a b : Address) → Decides (same_address a b) (a ≡ b)
+address_decides a b = (
+  λ h.
+      (let both = both_true _ _ h in
+      let ips = (texts_decide a.ip b.ip).0 both.0 in
+      let ports = (Decides-eqb a.port b.port).0 both.1 in
+      λ i. record { ip = ips i; port = ports i }),
+  λ e. true_both _ _ ((texts_decide a.ip b.ip).1 (ap (λ c. c.ip) e))
+      ((Decides-eqb a.port b.port).1 (ap (λ c. c.port) e)),
+)
+
 pub alias_decides : (a b : Alias) → Decides (same_alias a b) (a ≡ b)
-alias_decides (Digits a) (Digits b) = (λ h. ap Digits ((texts_decide a b).0 h), λ e. (texts_decide a b).1 (cc e))
-alias_decides (H323Id a) (H323Id b) = (λ h. ap H323Id ((texts_decide a b).0 h), λ e. (texts_decide a b).1 (cc e))
+alias_decides (Digits a) (Digits b) =
+    (λ h. ap Digits ((texts_decide a b).0 h), λ e. (texts_decide a b).1 (cc e))
+alias_decides (H323Id a) (H323Id b) =
+    (λ h. ap H323Id ((texts_decide a b).0 h), λ e. (texts_decide a b).1 (cc e))
 alias_decides (Digits a) (H323Id b) = (λ h. absurd (cc h), λ e. absurd (cc e))
 alias_decides (H323Id a) (Digits b) = (λ h. absurd (cc h), λ e. absurd (cc e))
 
@@ -29,7 +51,8 @@ together false true to back = absurd (cc (back refl))
 together false false to back = refl
 
 -- a test that decides equality is an equivalence
-equivalence : {A : Type 0} (test : A → A → Bool) → ((a b : A) → Decides (test a b) (a ≡ b)) → IsEquivalence test
+equivalence : {A : Type 0} (test : A → A → Bool) → ((a b : A) → Decides (test a b) (a ≡ b))
+    → IsEquivalence test
 equivalence {A} test decides = record {
   refl = λ x. (decides x x).1 refl;
   symm = λ x y. together (test x y) (test y x)

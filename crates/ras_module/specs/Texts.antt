@@ -16,7 +16,9 @@ pub record IsPadded (most : ℕ) (characters : List ℕ) (count : ℕ) : Type 0 
 
 -- the text of a padded array gives the array back
 pub padded_again : (most : ℕ) (characters : List ℕ) (count : ℕ) → IsPadded most characters count
-    → (take count characters ++ replicate (most - length (take count characters)) 0 ≡ characters) × (length (take count characters) ≡ count)
+    → (take count characters ++ replicate (most - length (take count characters)) 0 ≡ characters)
+    × (length (take count characters) ≡ count)
 padded_again most characters count h =
-    let n : length (take count characters) ≡ count = length-take-le count characters (omega (arith, h.full, h.few)) in
+    let n : length (take count characters) ≡ count =
+    length-take-le count characters (omega (arith, h.full, h.few)) in
     (ap (λ k. take count characters ++ replicate (most - k) 0) n ∙ sym h.zeros, n)

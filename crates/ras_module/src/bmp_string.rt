@@ -1,6 +1,7 @@
 //! Texts of 16-bit characters.
 
-ghost use Rattle.std.specs.Prelude.{◌≡◌, ◌≤◌, ◌-◌, ◌++◌, ◌<◌, ◌^◌, ℕ, List, length, nat_eq, replicate, SomeIff};
+ghost use Rattle.std.specs.Prelude.{◌≡◌, ◌≤◌, ◌-◌, ◌++◌, ◌<◌, ◌^◌, ℕ, List, length, nat_eq};
+ghost use Rattle.std.specs.Prelude.{replicate, SomeIff};
 ghost use Rattle.std.proofs.Common.{rules};
 ghost use Rattle.std.specs.Cmp.Lexicographic.{slice_cmp, pointwise};
 ghost use Rattle.std.specs.Cmp.Rules.{comparing};
@@ -11,8 +12,8 @@ ghost use Rattle.ras_module.specs.Texts.{IsText};
 use std::cmp::Ordering;
 use std::marker::Model;
 
-/// A text of 1 to `MOST` characters of 16 bits each (X.680, BMPString). It is a copy of its own, and
-/// takes no memory. Contracts see the list of its characters.
+/// A text of 1 to `MOST` characters of 16 bits each (X.680, BMPString). It is a copy of its own,
+/// and takes no memory. Contracts see the list of its characters.
 #[derive(Clone, Copy)]
 pub struct BmpString<const MOST: usize> {
     // zeros stand behind the last character, so that two equal texts have equal fields
@@ -36,13 +37,18 @@ impl<const MOST: usize> Model for BmpString<MOST> {
 
     ghost invariant = { λ a. IsPadded MOST a.characters a.count };
 
-    ghost inverse = { λ t. record { characters = t ++ replicate (MOST - length t) 0; count = length t } };
+    ghost inverse = { λ t.
+        record { characters = t ++ replicate (MOST - length t) 0; count = length t } };
 
-    ghost inverse_ok = { λ a h i. record { characters = (padded_again MOST a.characters a.count h).0 i; count = (padded_again MOST a.characters a.count h).1 i } };
+    ghost inverse_ok = { λ a h i. record {
+      characters = (padded_again MOST a.characters a.count h).0 i;
+      count = (padded_again MOST a.characters a.count h).1 i;
+    } };
 }
 
 impl<const MOST: usize> BmpString<MOST> {
-    /// The text of these characters: None exactly where there is none of them, or more than `MOST`.
+    /// The text of these characters: None exactly where there is none of them, or more than
+    /// `MOST`.
     #[tactic(auto, using(crate::proofs::Pads::is_padded, crate::proofs::Pads::front_of_padded))]
     pub fn new(text: &[u16]) -> Option<Self>
         ensures { SomeIff result (IsText MOST text.now) text.now }
@@ -96,7 +102,8 @@ impl<const MOST: usize> Ord for BmpString<MOST> {
 impl<const MOST: usize> PartialOrd for BmpString<MOST> {
     ghost partial_cmp = { as_partial_cmp (slice_cmp nat_cmp) };
 
-    ghost laws = { partial_order_from_own_ties (Prim.search (comparing, rules)) (Prim.search (comparing, rules)) };
+    ghost laws = { partial_order_from_own_ties
+        (Prim.search (comparing, rules)) (Prim.search (comparing, rules)) };
 
     fn partial_cmp(&self, other: &Self) -> Option<Ordering> {
         Some(self.cmp(other))

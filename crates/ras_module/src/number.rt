@@ -4,7 +4,8 @@ ghost use Rattle.std.specs.Prelude.{◌≡◌, ◌<◌, SomeIff};
 
 use std::marker::Model;
 
-/// A RequestSeqNum (H.225.0): 1 to 65535. A reply carries that of its request. Contracts see the number.
+/// A RequestSeqNum (H.225.0): 1 to 65535. A reply carries that of its request. Contracts see the
+/// number.
 #[derive(Clone, Copy, PartialEq, Eq, PartialOrd, Ord)]
 pub struct RequestSeqNum {
     number: u16,

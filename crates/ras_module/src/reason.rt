@@ -1,4 +1,5 @@
-//! Why a request is rejected: the reasons of H.225.0 that this gatekeeper gives, under their names there.
+//! Why a request is rejected: the reasons of H.225.0 that this gatekeeper gives, under their names
+//! there.
 
 ghost use Rattle.std.specs.Prelude.{◌≡◌, IfOk};
 

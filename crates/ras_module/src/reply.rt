@@ -14,8 +14,9 @@ use crate::reason::{
 };
 use std::alloc::AllocError;
 
-/// A message of the gatekeeper, with what differs from one such message to the next. `seq` is that of the
-/// request, but for an IRQ, which has a number of the gatekeeper's own. Bandwidth is in units of 100 bit/s.
+/// A message of the gatekeeper, with what differs from one such message to the next. `seq` is that
+/// of the request, but for an IRQ, which has a number of the gatekeeper's own. Bandwidth is in
+/// units of 100 bit/s.
 #[derive(PartialEq, Eq, Drop)]
 pub enum Reply {
     /// GatekeeperConfirm.

@@ -10,9 +10,9 @@ use crate::endpoint_id::EndpointId;
 use crate::number::{RequestSeqNum, TimeToLive};
 use std::alloc::AllocError;
 
-/// A request of an endpoint, with what the gatekeeper looks at. An address is the first ipAddress of its
-/// list, where there is one; aliases are the dialled digits and h323-IDs of their list in order, doubles
-/// included; bandwidth is in units of 100 bit/s, for both directions of a call.
+/// A request of an endpoint, with what the gatekeeper looks at. An address is the first ipAddress
+/// of its list, where there is one; aliases are the dialled digits and h323-IDs of their list in
+/// order, doubles included; bandwidth is in units of 100 bit/s, for both directions of a call.
 #[derive(PartialEq, Eq, Drop)]
 pub enum Request {
     /// GatekeeperRequest: which gatekeeper is there?

@@ -1,0 +1,11 @@
+//! The aliases that the endpoints of a zone hold.
+#![tactic(auto)]
+
+mod fault;
+mod table;
+
+pub use fault::SetFault;
+pub use table::AliasTable;
+
+#[cfg(test)]
+mod tests;

@@ -1,0 +1,30 @@
+-- What a replay answers, and the exit status of each fault.
+use Rattle.std.specs.Prelude.{ℕ, ◌≡◌, List, Option, Result, Ok, Err}
+use Rattle.script.specs.declared.fault.ScriptFault.TheVariants as script
+use Rattle.script.specs.declared.fault.RunFault.TheVariants as run
+use Rattle.script.specs.declared.read.Script.{Script}
+use Rattle.script.specs.Reads.{ReadsScript}
+use Rattle.script.specs.Runs.{IsRunAnswer}
+use Rattle.gatekeeper.specs.declared.replay.ReplayFault.{ReplayFault}
+use Rattle.gatekeeper.specs.declared.replay.ReplayFault.TheVariants.{Script as OfScript, Run as OfRun}
+
+-- 1: the input is refused; 3: no memory; 4: a stream failed
+abbrev pub status_of : ReplayFault → ℕ
+status_of (OfScript script.TooLong) = 1
+status_of (OfScript (script.BadLine line)) = 1
+status_of (OfScript script.NoZone) = 1
+status_of (OfScript script.Stream) = 4
+status_of (OfScript script.Memory) = 3
+status_of (OfRun (run.Memory step)) = 3
+status_of (OfRun (run.Closed step)) = 1
+status_of (OfRun run.Stream) = 4
+
+-- A script was read and run; or it was read and not run to its end; or it was not read, and the
+-- writer is as it was.
+abbrev pub Replays : Option (List ℕ) → Option (List ℕ) → Option (List ℕ) → Option (List ℕ) → Result Unit ReplayFault → Type 0
+Replays left left_now old new (Ok done) =
+    (script : Script) × ReadsScript left left_now (Ok script) × IsRunAnswer script old new (Ok done)
+Replays left left_now old new (Err (OfRun fault)) =
+    (script : Script) × ReadsScript left left_now (Ok script) × IsRunAnswer script old new (Err fault)
+Replays left left_now old new (Err (OfScript fault)) =
+    ReadsScript left left_now (Err fault) × (new ≡ old)

@@ -1,0 +1,85 @@
+//! The command line.
+
+use clap::error::ErrorKind;
+use clap::{ArgMatches, Command, Error};
+use std::alloc::{AllocError, Global};
+
+/// What the words of the command line ask for.
+#[derive(Clone, Copy)]
+pub enum Choice {
+    /// A replay of the script on standard input.
+    Replay,
+    /// Nothing more: help or a fault in the words was printed, and this is the exit status.
+    Done(u8),
+}
+
+const ABOUT: &str = "\
+A gatekeeper for one H.323 zone. H.323 is the ITU's standard for calls over packet networks:
+before a phone, a gateway or a conference bridge may call, it asks the gatekeeper of its zone, in
+short datagrams (the RAS messages of H.225.0), who the gatekeeper is, whether it may register, and
+how much bandwidth a call may take. This program answers them.";
+
+const REPLAY_ABOUT: &str = "Answers the datagrams of a script, and prints the answers";
+
+const REPLAY_LONG_ABOUT: &str = "\
+Reads a script on standard input, gives its datagrams to a gatekeeper one after the other, and
+prints a line for each on standard output. Nothing goes over a network, and time is what the
+script says.";
+
+const REPLAY_HELP: &str = "\
+The script (at most 1,048,576 octets; words are parted by spaces, blank lines are passed over):
+  zone NAME ADDRESS            the zone's name, and the gatekeeper's address as A.B.C.D:PORT
+  set KEY NUMBER               a setting of the zone; KEY is limit, call_limit, time_to_live,
+                               endpoints, calls, kept, window, silence, delay, retries, asks,
+                               ask_wait or pool_turn
+  at MS from ADDRESS HEX       at millisecond MS a datagram comes from ADDRESS, with these octets
+
+Lines of zone and set stand before the first datagram; of repeated ones the last counts.
+For example, a terminal at 10.0.0.5 asks who its gatekeeper is (a GRQ, GatekeeperRequest):
+  zone gk 10.0.0.1:1719
+  at 0 from 10.0.0.5:1719 00000000060008914A0002000A00000506B70200
+
+The line that is printed says that datagram 1 was served, and what is sent to whom (a GCF,
+GatekeeperConfirm: the gatekeeper is \"gk\" at 10.0.0.1:1719):
+  1 served > 10.0.0.5:1719 04800000060008914A0002020067006B000A00000106B7
+
+A datagram without an answer is `ignored`, and the line says why: `too-long`, `unreadable` or
+`not-served`.
+
+Exit status: 0 done, 1 the script was refused, 2 wrong words on the command line, 3 out of
+memory, 4 a standard stream failed. Status 1, 3 and 4 come with one line on standard error.";
+
+fn matched<'a>(alloc: Global, words: &'a [String]) -> Result<ArgMatches<'a>, Error> {
+    let replay = Command::new(alloc, "replay")
+        .about(REPLAY_ABOUT)
+        .long_about(REPLAY_LONG_ABOUT)
+        .after_help(REPLAY_HELP);
+    let command = Command::new(alloc, "gatekeeper")
+        .version("0.1.0")
+        .about(ABOUT)
+        .after_help("`gatekeeper replay --help` shows what a script looks like.")
+        .subcommand_required(true)
+        .subcommand(replay)?;
+    command.try_get_matches_from(words)
+}
+
+/// Reads the words of the command line. Where they ask for help or can't be followed, `clap`'s text
+/// is printed.
+pub fn chosen<R: Print + Eprint>(
+    rt: &R,
+    alloc: Global,
+    words: &[String],
+) -> Result<Choice, AllocError> {
+    match matched(alloc, words) {
+        Ok(_) => Ok(Choice::Replay),
+        Err(error) => {
+            if matches!(error.kind(), ErrorKind::OutOfMemory) {
+                return Err(AllocError);
+            }
+            match error.print(rt) {
+                Ok(()) => Ok(Choice::Done(if error.use_stderr() { 2 } else { 0 })),
+                Err(_) => Ok(Choice::Done(4)),
+            }
+        }
+    }
+}

@@ -1,0 +1,71 @@
+//! The gatekeeper's program.
+#![tactic(auto)]
+
+ghost use Rattle.std.specs.Prelude.{◌≡◌};
+ghost use Rattle.gatekeeper.specs.Replays.{status_of};
+
+mod cli;
+mod replay;
+
+use cli::{Choice, chosen};
+use replay::{ReplayFault, replay};
+use std::alloc::{AllocError, Global};
+use std::io::BufWriter;
+use std::process::ExitCode;
+use std::rt::Env;
+use std::{env, io};
+
+/// The exit status where there is no memory.
+const NO_MEMORY: u8 = 3;
+
+fn main(rt: HostRuntime) -> ExitCode {
+    let alloc = rt.alloc();
+    let status = match words(&rt, alloc) {
+        Ok(words) => run(&rt, alloc, words.as_slice()),
+        Err(AllocError) => out_of_memory(&rt),
+    };
+    ExitCode::from(status)
+}
+
+/// The words of the command line.
+fn words<R: Env + AllocGlobal>(rt: &R, alloc: Global) -> Result<Vec<String>, AllocError> {
+    let Ok(words) = env::args(rt) else {
+        return Err(AllocError);
+    };
+    words.collect(alloc)
+}
+
+fn run<R: Input + Print + Eprint>(rt: &R, alloc: Global, words: &[String]) -> u8 {
+    match chosen(rt, alloc, words) {
+        Ok(Choice::Replay) => replay_input(rt, alloc),
+        Ok(Choice::Done(status)) => status,
+        Err(AllocError) => out_of_memory(rt),
+    }
+}
+
+fn out_of_memory(rt: &impl Eprint) -> u8
+    ensures { result ≡ 3 }
+{
+    let _ = rt.eprintln("out of memory");
+    NO_MEMORY
+}
+
+/// Replays the script on standard input to standard output.
+fn replay_input<R: Input + Print + Eprint>(rt: &R, alloc: Global) -> u8 {
+    let mut input = rt.reader();
+    let Ok(mut out) = BufWriter::new(alloc, io::writer(rt)) else {
+        return out_of_memory(rt);
+    };
+    match replay(alloc, &mut input, &mut out) {
+        Ok(()) => 0,
+        Err(fault) => refuse(rt, &fault),
+    }
+}
+
+/// Tells of a fault in one line on standard error.
+fn refuse(rt: &impl Eprint, fault: &ReplayFault) -> u8
+    ensures { result ≡ status_of fault.now }
+{
+    let _ = eprintln!(rt; "{fault}");
+    fault.status()
+}

@@ -1,0 +1,60 @@
+//! Replaying a script.
+
+ghost use Rattle.std.specs.Prelude.{◌≡◌};
+ghost use Rattle.gatekeeper.specs.Replays.{status_of, Replays};
+
+use script::{RunFault, ScriptFault, read_script, run_script};
+use std::alloc::Global;
+use std::io::{Read, Write};
+use thiserror::Error;
+
+/// Why a replay stopped.
+#[derive(Clone, Copy, Debug, PartialEq, Eq, Error)]
+pub enum ReplayFault {
+    /// The script isn't read; nothing was written.
+    #[error(transparent)]
+    Script(ScriptFault),
+    /// The script isn't run to its end.
+    #[error(transparent)]
+    Run(RunFault),
+}
+
+impl ReplayFault {
+    /// The exit status: 1 where the input is refused, 3 where there is no memory, and 4 where a
+    /// stream failed.
+    pub fn status(&self) -> u8
+        ensures { result ≡ status_of self.now }
+    {
+        match self {
+            ReplayFault::Script(fault) => match fault {
+                ScriptFault::TooLong | ScriptFault::BadLine(_) | ScriptFault::NoZone => 1,
+                ScriptFault::Stream => 4,
+                ScriptFault::Memory => 3,
+            },
+            ReplayFault::Run(fault) => match fault {
+                RunFault::Memory(_) => 3,
+                RunFault::Closed(_) => 1,
+                RunFault::Stream => 4,
+            },
+        }
+    }
+}
+
+/// Reads a script whole, and then runs it and writes its lines. Of a script that isn't read nothing
+/// is written.
+pub fn replay<R: Read, W: Write>(
+    alloc: Global,
+    input: &mut R,
+    out: &mut W,
+) -> Result<(), ReplayFault>
+    ensures { Replays (R.remaining input.old) (R.remaining input.new)
+        (W.contents out.old) (W.contents out.new) result }
+{
+    match read_script(alloc, input) {
+        Ok(script) => match run_script(alloc, script, out) {
+            Ok(()) => Ok(()),
+            Err(fault) => Err(ReplayFault::Run(fault)),
+        },
+        Err(fault) => Err(ReplayFault::Script(fault)),
+    }
+}

@@ -1,0 +1,31 @@
+-- The ranges of a zone's settings, and what is answered where one is left.
+use Rattle.std.specs.Prelude.{ℕ, ◌≡◌, Bool, ◌||◌, nat_lt, List, Option, Some, None, Result, Ok, Err, codes, if◌then◌else◌}
+use Rattle.ras_core.specs.declared.config.ConfigParts.{ConfigParts}
+use Rattle.ras_core.specs.declared.config.ConfigFault.{ConfigFault}
+use Rattle.ras_core.specs.declared.config.ConfigFault.TheVariants.{OutOfRange}
+
+abbrev pub is_outside : ℕ → ℕ → ℕ → Bool
+is_outside low high number = nat_lt number low || nat_lt high number
+
+-- the key of the first number that is outside its range
+unfoldable pub range_fault : ConfigParts → Option (List ℕ)
+range_fault parts =
+    if is_outside 1 1000000000000 parts.limit then Some (codes "zone.limit")
+    else if is_outside 1 4294967295 parts.call_limit then Some (codes "zone.call_limit")
+    else if is_outside 1 4294967295 parts.time_to_live then Some (codes "zone.time_to_live")
+    else if is_outside 1 20000 parts.endpoints then Some (codes "zone.endpoints")
+    else if is_outside 1 20000 parts.calls then Some (codes "zone.calls")
+    else if is_outside 1 65536 parts.kept then Some (codes "zone.kept")
+    else if is_outside 1 3600000 parts.window then Some (codes "zone.window")
+    else if is_outside 1 3600000 parts.silence then Some (codes "zone.silence")
+    else if is_outside 1 65535 parts.delay then Some (codes "zone.delay")
+    else if is_outside 1 16 parts.retries then Some (codes "zone.retries")
+    else if is_outside 1 16 parts.asks then Some (codes "zone.asks")
+    else if is_outside 1 3600000 parts.ask_wait then Some (codes "zone.ask_wait")
+    else if is_outside 1 86400000 parts.pool_turn then Some (codes "zone.pool_turn")
+    else None
+
+-- the settings are those of the configuration, or the fault names the first key out of range
+abbrev pub IsConfigAnswer : ConfigParts → Result ConfigParts ConfigFault → Type 0
+IsConfigAnswer parts (Ok config) = (config ≡ parts) × (range_fault parts ≡ None)
+IsConfigAnswer parts (Err (OutOfRange key)) = range_fault parts ≡ Some key.now

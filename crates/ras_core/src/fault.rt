@@ -1,0 +1,32 @@
+//! Why something isn't done.
+
+use std::alloc::AllocError;
+use thiserror::Error;
+
+/// Why a zone isn't made.
+#[derive(Clone, Copy, Debug, PartialEq, Eq, Error)]
+pub enum NewFault {
+    #[error("out of memory")]
+    Memory = 2,
+}
+
+/// Why a step isn't made. The zone is then as it was.
+#[derive(Clone, Copy, Debug, PartialEq, Eq, Error)]
+pub enum StepFault {
+    #[error("out of memory")]
+    Memory = 1,
+    /// So many steps were made that no more are.
+    #[error("closed")]
+    Closed = 2,
+}
+
+impl From<AllocError> for StepFault {
+    ghost use Rattle.std.specs.Prelude.{◌≡◌};
+    ghost use Rattle.ras_core.specs.declared.fault.StepFault.TheVariants.{Memory};
+
+    ghost from_gives = { λ _ fault. fault ≡ Memory };
+
+    fn from(_: AllocError) -> StepFault {
+        StepFault::Memory
+    }
+}

@@ -1,0 +1,21 @@
+//! The zone of a gatekeeper, as a machine that takes one event at a time (ITU-T H.323, the gatekeeper's
+//! duties; ITU-T H.225.0, RAS). Nothing here waits, prints or reads a clock: moments are handed in.
+#![tactic(auto)]
+
+mod config;
+mod event;
+mod fault;
+mod machine;
+mod moment;
+mod outcome;
+mod zone;
+
+pub use config::{Config, ConfigFault, ConfigParts};
+pub use event::Event;
+pub use fault::{NewFault, StepFault};
+pub use moment::Moment;
+pub use outcome::{Datagram, IgnoredCause, Note, Outcome};
+pub use zone::Zone;
+
+#[cfg(test)]
+mod tests;

@@ -1,0 +1,94 @@
+-- What is read of an input is what a script is read of.
+use Rattle.std.proofs.Common.{◌≡◌, ℕ, ◌≤◌, true, false, Option, Some, None, Result, Ok, Err, List}
+use Rattle.std.proofs.Common.{length, refl, subst, map, arith, nat_lt}
+use Rattle.std.proofs.lemmas.Bool.Decides.{nat_tests}
+use Rattle.std.specs.Io.KnownBytes.{Consumes, IsAtEnd}
+use Rattle.ras_module.specs.declared.address.Address.{Address}
+use Rattle.ras_core.specs.declared.event.Event.{Event}
+use Rattle.script.specs.declared.fault.ScriptFault.{ScriptFault}
+use Rattle.script.specs.declared.fault.ScriptFault.TheVariants.{TooLong, BadLine, NoZone, Stream}
+use Rattle.script.specs.declared.fault.ScriptFault.TheVariants.{Memory}
+use Rattle.script.specs.declared.key.Key.{Key}
+use Rattle.script.specs.declared.read.Script.{Script}
+use Rattle.script.specs.Said.{Said}
+use Rattle.script.specs.Words.{lines_of}
+use Rattle.script.specs.Lines.{line_of}
+use Rattle.script.specs.Scripts.{script_from, script_unless, in_place, said_by, bad_line, script_of}
+use Rattle.script.specs.Scripts.{GivesUnlessStopped}
+use Rattle.script.specs.Reads.{ConsumesAtMost, ConsumesExactly, IsInputFault, IsAtEndIfRead}
+use Rattle.script.specs.Reads.{ReadsScript}
+
+too_long : (text : List ℕ) → length text ≡ 1048577 → script_of text ≡ Err TooLong
+unfolding script_of
+too_long text e =
+    let large : nat_lt 1048576 (length text) ≡ true = grind (arith, nat_tests) in
+    rw large refl
+
+never_from : (place : Option (List ℕ × Address)) (settings : List (Key × ℕ)) (events : List Event)
+    → script_from place settings events ≡ Err TooLong → ⊥
+never_from None settings events e = absurd (cc e)
+never_from (Some zone) settings events e = absurd (cc e)
+
+never_long : (bad : Option ℕ) (said : Said) → script_unless bad said ≡ Err TooLong → ⊥
+never_long (Some bad) said e = absurd (cc e)
+never_long None said e = never_from said.zone said.settings said.events e
+
+not_long : (text : List ℕ) → length text ≤ 1048576 → script_of text ≡ Err TooLong → ⊥
+unfolding script_of
+not_long text few e =
+    let small : nat_lt 1048576 (length text) ≡ false = grind (arith, nat_tests) in
+    let lines = in_place (map line_of (lines_of text)) in
+    never_long (bad_line lines) (said_by lines) (rw small at e)
+
+ends : (answer : Result Script ScriptFault) (left : Option (List ℕ)) → IsAtEnd left
+    → IsAtEndIfRead answer left
+ends (Ok script) left e = e
+ends (Err TooLong) left e = tt
+ends (Err (BadLine line)) left e = e
+ends (Err NoZone) left e = e
+ends (Err Stream) left e = tt
+ends (Err Memory) left e = tt
+
+pub whole_answer : (old new : Option (List ℕ)) (text : List ℕ) (answer : Result Script ScriptFault)
+    → Consumes old new text → IsAtEnd new
+    → length text ≤ 1048576 → GivesUnlessStopped (script_of text) answer
+    → ReadsScript old new answer
+whole_answer old new text answer taken end few meaning = record {
+  text = text;
+  taken = taken;
+  few = omega (arith, few);
+  meaning = meaning;
+  long = λ e. absurd (not_long text few (subst (λ (a : Result Script ScriptFault). GivesUnlessStopped (script_of text) a) e meaning));
+  end = ends answer new end;
+}
+
+pub fault_answer : (old new : Option (List ℕ)) (fault : ScriptFault) → IsInputFault fault
+    → (fault ≡ TooLong → ConsumesExactly 1048577 old new)
+    → ConsumesAtMost 1048577 old new → ReadsScript old new (Err fault)
+fault_answer old new TooLong kind long most =
+    let exact = long refl in record {
+      text = exact.octets;
+      taken = exact.taken;
+      few = omega (arith, exact.exact);
+      meaning = too_long exact.octets exact.exact;
+      long = λ e. exact.exact;
+      end = tt;
+    }
+fault_answer old new (BadLine line) kind long most = absurd kind
+fault_answer old new NoZone kind long most = absurd kind
+fault_answer old new Stream kind long most = record {
+  text = most.octets;
+  taken = most.taken;
+  few = most.few;
+  meaning = tt;
+  long = λ e. absurd (cc e);
+  end = tt;
+}
+fault_answer old new Memory kind long most = record {
+  text = most.octets;
+  taken = most.taken;
+  few = most.few;
+  meaning = tt;
+  long = λ e. absurd (cc e);
+  end = tt;
+}

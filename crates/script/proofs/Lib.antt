@@ -1,0 +1,10 @@
+pub mod FourTests
+pub mod Parting
+pub mod Numbers
+pub mod Names
+pub mod InRange
+pub mod Reading
+pub mod KnownBytes
+pub mod Inputs
+pub mod Printing
+pub mod Running

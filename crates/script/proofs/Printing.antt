@@ -1,0 +1,59 @@
+-- Texts are written a part at a time.
+use Rattle.std.proofs.Common.{◌≡◌, ℕ, ◌+◌, ◌<◌, ◌/◌, ◌%◌, List, [], ◌∷◌, ◌++◌, length, take, get_or}
+use Rattle.std.proofs.Common.{slice_index, refl, sym, ap, ◌∙◌, append_assoc, append-nil, add-zero}
+use Rattle.std.proofs.Common.{length-take-le, arith}
+use Rattle.std.proofs.lemmas.List.{take_more}
+use Rattle.hex.specs.Hex.{encode_with}
+use Rattle.ras_core.specs.declared.outcome.Outcome.{Outcome}
+use Rattle.script.specs.Prints.{outcome_line, outcome_lines, outcome_lines_from}
+
+encode_with-append : (digits xs ys : List ℕ)
+    → encode_with digits (xs ++ ys) ≡ encode_with digits xs ++ encode_with digits ys
+unfolding encode_with
+encode_with-append digits [] ys = refl
+encode_with-append digits (x ∷ xs) ys =
+    ap (λ (rest : List ℕ). slice_index digits (x / 16) ∷ slice_index digits (x % 16) ∷ rest) (encode_with-append digits xs ys)
+
+encode_with-one : (digits : List ℕ) (x : ℕ)
+    → encode_with digits (x ∷ []) ≡ slice_index digits (x / 16) ∷ slice_index digits (x % 16) ∷ []
+unfolding encode_with
+encode_with-one digits x = refl
+
+pub encode_with_more : (digits xs : List ℕ) (i : ℕ) → i < length xs
+    → encode_with digits (take (i + 1) xs) ≡ encode_with digits (take i xs) ++ (slice_index digits (get_or xs i 0 / 16) ∷ slice_index digits (get_or xs i 0 % 16) ∷ [])
+encode_with_more digits xs i below =
+    ap (encode_with digits) (take_more xs i 0 below) ∙ encode_with-append digits (take i xs) (get_or xs i 0 ∷ [])
+    ∙ ap (λ (last : List ℕ). encode_with digits (take i xs) ++ last) (encode_with-one digits (get_or xs i 0))
+
+lines-append : (n : ℕ) (xs ys : List Outcome)
+    → outcome_lines_from n (xs ++ ys) ≡ outcome_lines_from n xs ++ outcome_lines_from (n + length xs) ys
+lines-append n [] ys = ap (λ (m : ℕ). outcome_lines_from m ys) (sym (add-zero n))
+lines-append n (x ∷ xs) ys =
+    ap (λ (t : List ℕ). outcome_line n x ++ t)
+    (lines-append (n + 1) xs ys ∙ ap (λ (m : ℕ). outcome_lines_from (n + 1) xs ++ outcome_lines_from m ys) (omega arith))
+    ∙ sym (append_assoc (outcome_line n x) (outcome_lines_from (n + 1) xs) (outcome_lines_from (n + length (x ∷ xs)) ys))
+
+pub lines_more : (xs : List Outcome) (i : ℕ) (outcome : Outcome) → i < length xs
+    → outcome ≡ get_or xs i outcome
+    → outcome_lines (take (i + 1) xs) ≡ outcome_lines (take i xs) ++ outcome_line (i + 1) outcome
+lines_more xs i outcome below is =
+    let number : 1 + length (take i xs) ≡ i + 1 = omega (arith, length-take-le i xs (omega (arith, below))) in
+    ap outcome_lines (take_more xs i outcome below ∙ ap (λ (o : Outcome). take i xs ++ o ∷ []) (sym is))
+    ∙ lines-append 1 (take i xs) (outcome ∷ [])
+    ∙ ap (λ (m : ℕ). outcome_lines (take i xs) ++ (outcome_line m outcome ++ [])) number
+    ∙ ap (λ (t : List ℕ). outcome_lines (take i xs) ++ t) (append-nil (outcome_line (i + 1) outcome))
+
+pub address_flat : (a b c d port dot colon : List ℕ)
+    → a ++ (dot ++ (b ++ (dot ++ (c ++ (dot ++ (d ++ (colon ++ port))))))) ≡ a ++ dot ++ b ++ dot ++ c ++ dot ++ d ++ colon ++ port
+address_flat a b c d port dot colon = sym (simp append_assoc)
+
+pub output_flat : (mark address space octets : List ℕ)
+    → mark ++ (address ++ (space ++ octets)) ≡ mark ++ address ++ space ++ octets
+output_flat mark address space octets = sym (simp append_assoc)
+
+pub line_flat : (number space note output end : List ℕ)
+    → (number ++ (space ++ note)) ++ (output ++ end) ≡ number ++ space ++ note ++ output ++ end
+line_flat number space note output end =
+    let left : (number ++ (space ++ note)) ++ (output ++ end) ≡ number ++ (space ++ (note ++ (output ++ end))) = simp append_assoc in
+    let right : number ++ space ++ note ++ output ++ end ≡ number ++ (space ++ (note ++ (output ++ end))) = simp append_assoc in
+    left ∙ sym right

@@ -1,0 +1,10 @@
+pub mod Words
+pub mod Fields
+pub mod Settings
+pub mod Lines
+pub mod Said
+pub mod Scripts
+pub mod Faults
+pub mod Reads
+pub mod Prints
+pub mod Runs

@@ -1,0 +1,55 @@
+-- What a line of a script says; none where it is not understood.
+use Rattle.std.specs.Prelude.{ℕ, ◌-◌, ◌^◌, List, [], ◌∷◌, Option, Some, None, codes, if◌then◌else◌}
+use Rattle.std.specs.Str.{bytes_eq}
+use Rattle.ras_core.specs.declared.event.Event.TheVariants.{Datagram}
+use Rattle.script.specs.declared.line.Line.{Line}
+use Rattle.script.specs.declared.line.Line.TheVariants.{Blank, Zone, Set, At}
+use Rattle.script.specs.Words.{words_of}
+use Rattle.script.specs.Fields.{◌>>=◌, number_of, address_of, name_of, octets_of}
+use Rattle.script.specs.Settings.{setting_of}
+
+-- `NAME ADDRESS`
+abbrev pub zone_line : List (List ℕ) → Option Line
+zone_line (name ∷ address ∷ []) = do
+  name ← name_of name
+  address ← address_of address
+  Some (Zone name address)
+zone_line other = None
+
+-- `KEY NUMBER`
+abbrev pub set_line : List (List ℕ) → Option Line
+set_line (key ∷ number ∷ []) = do
+  setting ← setting_of key number
+  Some (Set setting)
+set_line other = None
+
+-- a datagram of these octets comes from this address, at a moment below 2^53
+abbrev pub datagram_of : List ℕ → List ℕ → List ℕ → Option Line
+datagram_of moment address hex = do
+  moment ← number_of 0 (2 ^ 53 - 1) moment
+  source ← address_of address
+  octets ← octets_of hex
+  Some (At (Datagram source octets moment))
+
+-- `MS from ADDRESS HEX`
+abbrev pub event_of : List ℕ → List ℕ → List ℕ → List ℕ → Option Line
+event_of moment from address hex =
+    if bytes_eq from (codes "from") then datagram_of moment address hex else None
+
+-- the octets may be empty, and the line then ends with the address
+abbrev pub at_line : List (List ℕ) → Option Line
+at_line (moment ∷ from ∷ address ∷ []) = event_of moment from address []
+at_line (moment ∷ from ∷ address ∷ hex ∷ []) = event_of moment from address hex
+at_line other = None
+
+-- the first word says what kind of line it is
+abbrev pub line_of_words : List (List ℕ) → Option Line
+line_of_words [] = Some Blank
+line_of_words (kind ∷ words) =
+    if bytes_eq kind (codes "zone") then zone_line words
+    else if bytes_eq kind (codes "set") then set_line words
+    else if bytes_eq kind (codes "at") then at_line words
+    else None
+
+unfoldable pub line_of : List ℕ → Option Line
+line_of line = line_of_words (words_of line)

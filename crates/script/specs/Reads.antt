@@ -1,0 +1,45 @@
+-- What is read for a script.
+use Rattle.std.specs.Prelude.{ℕ, ◌≡◌, ◌≤◌, List, length, Option, Result, Ok, Err}
+use Rattle.std.specs.Io.KnownBytes.{Consumes, IsAtEnd}
+use Rattle.script.specs.declared.fault.ScriptFault.{ScriptFault}
+use Rattle.script.specs.declared.fault.ScriptFault.TheVariants.{TooLong, BadLine, NoZone, Stream}
+use Rattle.script.specs.declared.fault.ScriptFault.TheVariants.{Memory}
+use Rattle.script.specs.declared.read.Script.{Script}
+use Rattle.script.specs.Scripts.{script_of, GivesUnlessStopped}
+
+-- a reading of the input as such ends so, and for no other reason
+abbrev pub IsInputFault : ScriptFault → Type 0
+IsInputFault TooLong = Unit {0}
+IsInputFault (BadLine line) = ⊥
+IsInputFault NoZone = ⊥
+IsInputFault Stream = Unit {0}
+IsInputFault Memory = Unit {0}
+
+-- the octets that were taken from the front of those that the reader had left, at most so many
+pub record ConsumesAtMost (most : ℕ) (old new : Option (List ℕ)) : Type 0 where
+  pub octets : List ℕ
+  pub few : length octets ≤ most
+  pub taken : Consumes old new octets
+
+pub record ConsumesExactly (count : ℕ) (old new : Option (List ℕ)) : Type 0 where
+  pub octets : List ℕ
+  pub exact : length octets ≡ count
+  pub taken : Consumes old new octets
+
+-- A script, and a fault of its lines, is told only at the input's end.
+abbrev pub IsAtEndIfRead : Result Script ScriptFault → Option (List ℕ) → Type 0
+IsAtEndIfRead (Ok script) left = IsAtEnd left
+IsAtEndIfRead (Err (BadLine line)) left = IsAtEnd left
+IsAtEndIfRead (Err NoZone) left = IsAtEnd left
+IsAtEndIfRead (Err TooLong) left = Unit {0}
+IsAtEndIfRead (Err Stream) left = Unit {0}
+IsAtEndIfRead (Err Memory) left = Unit {0}
+
+-- At most one octet past the greatest size is read, and the answer is what the octets say.
+pub record ReadsScript (old new : Option (List ℕ)) (answer : Result Script ScriptFault) : Type 0 where
+  pub text : List ℕ
+  pub taken : Consumes old new text
+  pub few : length text ≤ 1048577
+  pub meaning : GivesUnlessStopped (script_of text) answer
+  pub long : answer ≡ Err TooLong → length text ≡ 1048577
+  pub end : IsAtEndIfRead answer new

@@ -1,0 +1,51 @@
+-- What lines say together.
+use Rattle.std.specs.Prelude.{ℕ, ◌++◌, List, [], ◌∷◌, Option, Some, None}
+use Rattle.ras_module.specs.declared.address.Address.{Address}
+use Rattle.ras_core.specs.declared.event.Event.{Event}
+use Rattle.script.specs.declared.key.Key.{Key}
+use Rattle.script.specs.declared.line.Line.{Line}
+use Rattle.script.specs.declared.line.Line.TheVariants.{Blank, Zone, Set, At}
+
+-- the zone, the settings and the events
+pub record Said : Type 0 where
+  pub zone : Option (List ℕ × Address)
+  pub settings : List (Key × ℕ)
+  pub events : List Event
+
+-- the zone, the setting and the event of a line, where it has one
+abbrev pub zone_in : Option Line → Option (List ℕ × Address)
+zone_in (Some (Zone name address)) = Some (name, address)
+zone_in (Some (Set setting)) = None
+zone_in (Some (At event)) = None
+zone_in (Some Blank) = None
+zone_in None = None
+
+abbrev pub setting_in : Option Line → Option (Key × ℕ)
+setting_in (Some (Zone name address)) = None
+setting_in (Some (Set setting)) = Some setting
+setting_in (Some (At event)) = None
+setting_in (Some Blank) = None
+setting_in None = None
+
+abbrev pub event_in : Option Line → Option Event
+event_in (Some (Zone name address)) = None
+event_in (Some (Set setting)) = None
+event_in (Some (At event)) = Some event
+event_in (Some Blank) = None
+event_in None = None
+
+-- what is said with one more line
+abbrev pub with_line : Said → Line → Said
+with_line said Blank = said
+with_line said (Zone name address) = record said { zone = Some (name, address) }
+with_line said (Set setting) = record said { settings = said.settings ++ setting ∷ [] }
+with_line said (At event) = record said { events = said.events ++ event ∷ [] }
+
+-- whether a line may stand behind these events
+abbrev pub MayFollow : List Event → Line → Type 0
+MayFollow events Blank = Unit {0}
+MayFollow events (At event) = Unit {0}
+MayFollow [] (Zone name address) = Unit {0}
+MayFollow [] (Set setting) = Unit {0}
+MayFollow (event ∷ events) (Zone name address) = ⊥
+MayFollow (event ∷ events) (Set setting) = ⊥

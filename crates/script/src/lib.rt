@@ -1,0 +1,23 @@
+//! Scripts of events for one zone: read whole, run, and their outcomes printed.
+#![tactic(auto)]
+
+mod address;
+mod draft;
+mod fault;
+mod input;
+mod key;
+mod line;
+mod name;
+mod number;
+mod parts;
+mod print;
+mod read;
+mod run;
+mod setting;
+
+pub use fault::{RunFault, ScriptFault};
+pub use read::{Events, Script, read_script};
+pub use run::run_script;
+
+#[cfg(test)]
+mod tests;

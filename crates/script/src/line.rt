@@ -1,0 +1,132 @@
+//! The lines of a script.
+
+ghost use Rattle.std.specs.Prelude.{◌≡◌, ◌-◌, ◌^◌, IfOk};
+ghost use Rattle.script.specs.Fields.{number_of, octets_of};
+ghost use Rattle.script.specs.Lines.{zone_line, set_line, event_of, at_line, line_of};
+
+use crate::address::address_of;
+use crate::name::name_of;
+use crate::number::number_of;
+use crate::parts::{Words, is_word};
+use crate::setting::Setting;
+use hex::FromHexError;
+use ras_core::{Event, Moment};
+use ras_module::{Address, Name, Octets};
+use std::alloc::{AllocError, Global};
+
+/// What a line says.
+#[derive(Drop)]
+pub enum Line {
+    /// Nothing.
+    Blank,
+    /// The zone has this name and this address.
+    Zone(Name, Address),
+    /// This is set.
+    Set(Setting),
+    /// This happens.
+    At(Event),
+}
+
+fn zone_line(mut words: Words) -> Option<Line>
+    ensures { result ≡ zone_line words.entry }
+{
+    let name = words.next_word()?;
+    let address = words.next_word()?;
+    match words.next_word() {
+        Some(_) => None,
+        None => Some(Line::Zone(name_of(name)?, address_of(address)?)),
+    }
+}
+
+fn set_line(mut words: Words) -> Option<Line>
+    ensures { result ≡ set_line words.entry }
+{
+    let key = words.next_word()?;
+    let number = words.next_word()?;
+    match words.next_word() {
+        Some(_) => None,
+        None => Some(Line::Set(Setting::new(key, number)?)),
+    }
+}
+
+/// The octets that a word writes as pairs of hexadecimal digits.
+fn octets_of(alloc: Global, word: &[u8]) -> Result<Option<Octets>, AllocError>
+    ensures { IfOk result (λ octets. octets ≡ octets_of word.now) }
+{
+    match hex::decode(alloc, word) {
+        Ok(octets) => Ok(Some(Octets::from_vec(octets))),
+        Err(FromHexError::OutOfMemory) => Err(AllocError),
+        Err(_) => Ok(None),
+    }
+}
+
+/// The event of a datagram, by the words of its line.
+fn event_of(
+    alloc: Global,
+    moment: &[u8],
+    from: &[u8],
+    address: &[u8],
+    octets: &[u8],
+) -> Result<Option<Line>, AllocError>
+    ensures { IfOk result (λ line. line ≡ event_of moment.now from.now address.now octets.now) }
+{
+    if !is_word(from, "from") {
+        return Ok(None);
+    }
+    match (
+        moment_of(moment),
+        address_of(address),
+        octets_of(alloc, octets)?,
+    ) {
+        (Some(moment), Some(source), Some(octets)) => {
+            Ok(Some(Line::At(Event::Datagram(source, octets, moment))))
+        }
+        _ => Ok(None),
+    }
+}
+
+fn moment_of(word: &[u8]) -> Option<Moment>
+    ensures { result ≡ number_of 0 (2 ^ 53 - 1) word.now }
+{
+    match number_of(0, (1 << 53) - 1, word) {
+        Some(number) => Moment::new(number),
+        None => None,
+    }
+}
+
+fn at_line(alloc: Global, mut words: Words) -> Result<Option<Line>, AllocError>
+    ensures { IfOk result (λ line. line ≡ at_line words.entry) }
+{
+    let (Some(moment), Some(from), Some(address)) = (
+        words.next_word(),
+        words.next_word(),
+        words.next_word(),
+    ) else {
+        return Ok(None);
+    };
+    match (words.next_word(), words.next_word()) {
+        (None, _) => event_of(alloc, moment, from, address, &[]),
+        (Some(octets), None) => event_of(alloc, moment, from, address, octets),
+        (Some(_), Some(_)) => Ok(None),
+    }
+}
+
+/// What a line says; None where it isn't understood.
+#[tactic(auto, unfolding(crate::specs::Lines::line_of))]
+pub fn line_of(alloc: Global, line: &[u8]) -> Result<Option<Line>, AllocError>
+    ensures { IfOk result (λ read. read ≡ line_of line.now) }
+{
+    let mut words = Words::new(line);
+    let Some(kind) = words.next_word() else {
+        return Ok(Some(Line::Blank));
+    };
+    if is_word(kind, "zone") {
+        Ok(zone_line(words))
+    } else if is_word(kind, "set") {
+        Ok(set_line(words))
+    } else if is_word(kind, "at") {
+        at_line(alloc, words)
+    } else {
+        Ok(None)
+    }
+}

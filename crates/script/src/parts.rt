@@ -1,0 +1,64 @@
+//! Parts of a line.
+
+ghost use Rattle.std.specs.Prelude.{◌≡◌, ◌∷◌, [], MatchOption};
+ghost use Rattle.std.specs.Str.{bytes_eq};
+ghost use Rattle.script.specs.Words.{front_part, rest_part, words_of};
+
+use std::marker::Model;
+
+/// What stands before the first such mark, and what stands behind it; all of the text, and nothing,
+/// where there is no such mark.
+pub fn parted(text: &[u8], mark: u8) -> (&[u8], &[u8])
+    ensures front { result.0.now ≡ front_part mark text.now }
+    ensures rest { result.1.now ≡ rest_part mark text.now }
+{
+    match text.iter().position(|c| *c == mark) {
+        Some(place) => (&text[..place], &text[place + 1..]),
+        None => (text, &[]),
+    }
+}
+
+/// Whether a word is this text.
+pub fn is_word(word: &[u8], text: &str) -> bool
+    ensures { result ≡ bytes_eq word.now text.now }
+{
+    word == text.as_bytes()
+}
+
+/// The words of a line that are left. Contracts see the list of them.
+#[derive(Drop)]
+pub struct Words<'a> {
+    rest: &'a [u8],
+}
+
+impl<'a> Model for Words<'a> {
+    ghost use Rattle.std.specs.Prelude.{ℕ, List};
+    ghost use Rattle.script.specs.Words.{words_of};
+
+    ghost Value = { List (List ℕ) };
+
+    ghost view = { λ w. words_of w.rest.now };
+}
+
+impl<'a> Words<'a> {
+    /// The words of a line.
+    pub fn new(line: &'a [u8]) -> Words<'a>
+        ensures { result ≡ words_of line.now }
+    {
+        Words { rest: line }
+    }
+
+    /// The next word, which is then no longer left.
+    pub fn next_word(&mut self) -> Option<&'a [u8]>
+        ensures { MatchOption result (self.old ≡ []) (λ word. self.old ≡ word.now ∷ self.new) }
+    {
+        while !self.rest.is_empty() {
+            let (word, rest) = parted(self.rest, b' ');
+            self.rest = rest;
+            if !word.is_empty() {
+                return Some(word);
+            }
+        }
+        None
+    }
+}

@@ -1,0 +1,95 @@
+//! Reading a script.
+
+ghost use Rattle.std.specs.Prelude.{◌≡◌, ◌≤◌, length};
+ghost use Rattle.script.specs.Scripts.{script_of, GivesUnlessStopped};
+ghost use Rattle.script.specs.Reads.{ReadsScript};
+
+use crate::draft::Draft;
+use crate::fault::ScriptFault;
+use crate::input::read_whole;
+use crate::line::line_of;
+use crate::parts::parted;
+use ras_core::{Config, Event};
+use std::alloc::Global;
+use std::io::Read;
+use std::marker::Model;
+
+/// The events of a script, in order. Contracts see the list of them.
+#[derive(Drop)]
+pub struct Events {
+    items: Vec<Event>,
+}
+
+impl Model for Events {
+    ghost use Rattle.std.specs.Prelude.{List};
+    ghost use Rattle.ras_core.specs.declared.event.Event.{Event};
+
+    ghost Value = { List Event };
+
+    ghost view = { λ e. e.items.items };
+}
+
+impl Events {
+    /// The events of a vector. This takes no memory.
+    pub fn from_vec(items: Vec<Event>) -> Self
+        ensures { result ≡ items.items }
+    {
+        Self { items }
+    }
+
+    /// The vector of the events. This takes no memory.
+    pub fn into_vec(self) -> Vec<Event>
+        ensures { result.items ≡ self }
+    {
+        let Events { items } = self;
+        items
+    }
+
+    /// The events, in order.
+    pub fn as_slice(&self) -> &[Event]
+        ensures { result.now ≡ self.now }
+    {
+        &self.items
+    }
+}
+
+/// A script: the configuration of its zone, and the events that come to it.
+#[derive(Drop)]
+pub struct Script {
+    pub config: Config,
+    pub events: Events,
+}
+
+/// The script that a text is.
+fn script_of(alloc: Global, text: &[u8]) -> Result<Script, ScriptFault>
+    requires { length text.now ≤ 1048576 }
+    ensures { GivesUnlessStopped (script_of text.now) result }
+{
+    let mut draft = Draft::new(alloc);
+    let mut rest = text;
+    let mut number = 0;
+    while !rest.is_empty() {
+        let (line, others) = parted(rest, b'\n');
+        rest = others;
+        number += 1;
+        let Some(line) = line_of(alloc, line)? else {
+            return Err(ScriptFault::BadLine(number));
+        };
+        if !draft.takes(&line) {
+            return Err(ScriptFault::BadLine(number));
+        }
+        draft.add(line)?;
+    }
+    draft.into_script()
+}
+
+/// Reads the script that an input is, to the input's end. Lines are counted from 1, the blank ones
+/// too. At most one octet past the greatest size is read.
+pub fn read_script<R: Read>(alloc: Global, reader: &mut R) -> Result<Script, ScriptFault>
+    ensures { ReadsScript (R.remaining reader.old) (R.remaining reader.new) result }
+{
+    match read_whole(alloc, reader) {
+        Ok(text) => script_of(alloc, &text),
+        Err(fault) => Err(fault),
+    }
+}
