@@ -21,7 +21,7 @@ use Rattle.ras_codec.specs.Replies.{digit_code, digits, bmp_string, alias_addres
 use Rattle.ras_codec.specs.Replies.{alias_list}
 use Rattle.ras_codec.specs.Properties.{IsAlias, IsDigits, AreAliases}
 use Rattle.ras_codec.proofs.Dialled.{both_true}
-use Rattle.ras_codec.proofs.Written.{Writes, bmp_written, in_order-append}
+use Rattle.ras_codec.proofs.Written.{AreEncodings, bmp_written, in_order-append}
 
 code_few : (c : ℕ) → IsTrue (is_dialled c) → digit_code c ≤ 12
 code_few c h = grind (arith, nat_tests)
@@ -36,9 +36,17 @@ digit_here c place h =
     let code = digit_code c in
     let few = code_few c h in
     let bits = binary 4 code in
-    let test : nat_lt 12 code ≡ false = le-ltb 12 code few in
-    (code, (bits, [], sym (append-nil bits), binary_encodes 4 code place (omega arith), rw test
-        (sym (code_back c h), refl)))
+    let test : nat_lt 12 code ≡ false = le-ltb 12 code few in (
+      code,
+      (
+        bits,
+        [],
+        sym (append-nil bits),
+        binary_encodes 4 code place (omega arith),
+        rw test
+            (sym (code_back c h), refl),
+      ),
+    )
 
 digits_here : (text : List ℕ) → AreDialled text → (place : ℕ) → (grammar.each
     (length text) aliases.digit).encodes text place (in_order (digits text) place)
@@ -47,9 +55,26 @@ digits_here (x ∷ xs) h place =
     let p = both_true (is_dialled x) _ h in
     let here = binary 4 (digit_code x) in
     let after = (place + length here) % 8 in
-    let rest = in_order (digits xs) after in
-    (x, (here, rest, refl, digit_here x place p.0, (xs, (rest, [], sym
-        (append-nil rest), digits_here xs p.1 after, (refl, refl)))))
+    let rest = in_order (digits xs) after in (
+      x,
+      (
+        here,
+        rest,
+        refl,
+        digit_here x place p.0,
+        (
+          xs,
+          (
+            rest,
+            [],
+            sym
+                (append-nil rest),
+            digits_here xs p.1 after,
+            (refl, refl),
+          ),
+        ),
+      ),
+    )
 
 dialled_here : (text : List ℕ) → IsDigits text → (place : ℕ)
     → aliases.dialled_digits.encodes text place (in_order (encoding.whole 1 128
@@ -66,8 +91,14 @@ dialled_here text h place =
         pad ++ in_order (digits text) then,
         refl,
         whole_encodes 1 128 (length text) place h.some h.few (omega arith),
-        (pad, in_order (digits text) then, refl, length-replicate
-            (pad_length after) false, digits_here text h.dialled then),
+        (
+          pad,
+          in_order (digits text) then,
+          refl,
+          length-replicate
+              (pad_length after) false,
+          digits_here text h.dialled then,
+        ),
       ),
     )
 
@@ -79,7 +110,7 @@ alias_here (Digits text) h place =
     let index = canonical.whole_encoding 0 1 0 place1 in
     let place2 = (place1 + length index) % 8 in
     let rest = in_order (encoding.whole 1 128 (length text) ∷ encoding.align ∷ digits text) place2
-        in (
+    in (
       false,
       (
         false ∷ [],
@@ -116,8 +147,17 @@ alias_here (H323Id text) h place =
             rest,
             refl,
             whole_encodes 0 1 1 place1 (omega arith) (omega arith) (omega arith),
-            (text, (rest, [], sym (append-nil rest), (bmp_written 256 text h.some h.few
-                (omega arith) h.fit).here place2 (omega arith), (refl, refl))),
+            (
+              text,
+              (
+                rest,
+                [],
+                sym (append-nil rest),
+                (bmp_written 256 text h.some h.few
+                    (omega arith) h.fit).here place2 (omega arith),
+                (refl, refl),
+              ),
+            ),
           ),
         ),
       ),
@@ -125,7 +165,7 @@ alias_here (H323Id text) h place =
 
 each_here : (list : List Alias) → AllByRecursion IsAlias list → (place : ℕ) → place < 8
     → (grammar.each (length list) aliases.alias_address).encodes (map Some list) place (in_order
-        (alias_addresses list) place)
+    (alias_addresses list) place)
 each_here [] h place small = (refl, refl)
 each_here (x ∷ xs) h place small =
     let here = in_order (alias_address x) place in
@@ -137,8 +177,16 @@ each_here (x ∷ xs) h place small =
         rest,
         in_order-append (alias_address x) (alias_addresses xs) place small,
         alias_here x h.0 place,
-        (map Some xs, (rest, [], sym (append-nil rest), each_here xs h.1 after (omega arith),
-            (refl, refl))),
+        (
+          map Some xs,
+          (
+            rest,
+            [],
+            sym (append-nil rest),
+            each_here xs h.1 after (omega arith),
+            (refl, refl),
+          ),
+        ),
       ),
     )
 
@@ -146,7 +194,7 @@ served_in-all : (list : List Alias) → served_in (map Some list) ≡ list
 served_in-all [] = refl
 served_in-all (x ∷ xs) = ap (λ (t : List Alias). x ∷ t) (served_in-all xs)
 
-pub aliases_written : (list : List Alias) → AreAliases list → Writes aliases.alias_list list
+pub aliases_written : (list : List Alias) → AreAliases list → AreEncodings aliases.alias_list list
     (alias_list list)
 unfolding aliases.alias_list
 aliases_written list h = record {
@@ -160,8 +208,17 @@ aliases_written list h = record {
           rest,
           refl,
           length_encodes (length list) place (omega (arith, h.few)),
-          (map Some list, (rest, [], sym (append-nil rest), each_here list h.each after
-              (omega arith), (sym (served_in-all list), refl))),
+          (
+            map Some list,
+            (
+              rest,
+              [],
+              sym (append-nil rest),
+              each_here list h.each after
+                  (omega arith),
+              (sym (served_in-all list), refl),
+            ),
+          ),
         ),
       );
 }

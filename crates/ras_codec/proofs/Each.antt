@@ -30,28 +30,22 @@ in_steps (Err fault) k m = refl
 pub folded-each : {A B : Type 0} (f : B → A → B) (g : Grammar A) (count : ℕ) (y : B)
     (bits : List Bool)
     → folded f g.reading count y bits ≡ ((each count g).reading bits >>= λ xs. Ok
-        (fold_list f y xs.0, xs.1))
+    (fold_list f y xs.0, xs.1))
 folded-each f g zero y bits = refl
 folded-each {A} {B} f g (suc count) y bits =
     same_steps (g.reading bits) (λ x. folded f g.reading count (f y x.0) x.1) (λ x.
-        (each count g).reading x.1 >>= λ xs. Ok (fold_list f (f y x.0) xs.0, xs.1))
-        (λ x. folded-each f g count (f y x.0) x.1)
-    ∙ same_steps (g.reading bits) (λ x. (each count g).reading x.1 >>= λ xs. Ok (fold_list f
-        (f y x.0) xs.0, xs.1)) (λ x. ((each count g).reading x.1 >>= λ xs. Ok
-        (x.0 ∷ xs.0, xs.1)) >>= λ ys. Ok (fold_list f y ys.0, ys.1))
+    (each count g).reading x.1 >>= λ xs. Ok (fold_list f (f y x.0) xs.0, xs.1))
+    (λ x. folded-each f g count (f y x.0) x.1)
+    ∙ same_steps (g.reading bits) (λ x. (each count g).reading x.1 >>= λ xs. Ok (
+      fold_list f
+          (f y x.0) xs.0,
+      xs.1,
+    )) (λ x. ((each count g).reading x.1 >>= λ xs. Ok
+    (x.0 ∷ xs.0, xs.1)) >>= λ ys. Ok (fold_list f y ys.0, ys.1))
     (λ x. sym (in_steps ((each count g).reading x.1) (λ xs. Ok (x.0 ∷ xs.0, xs.1)) (λ ys. Ok
-        (fold_list f y ys.0, ys.1))))
+    (fold_list f y ys.0, ys.1))))
     ∙ sym (in_steps (g.reading bits) (λ x. (each count g).reading x.1 >>= λ xs. Ok
-        (x.0 ∷ xs.0, xs.1)) (λ ys. Ok (fold_list f y ys.0, ys.1)))
-
--- the same, where the fold is a word for it
-pub folded-is : {A B : Type 0} (f : B → A → B) (s : List A → B) (y : B) → ((xs : List A)
-    → fold_list f y xs ≡ s xs) → (g : Grammar A) (count : ℕ) (bits : List Bool)
-    → folded f g.reading count y bits ≡ ((each count g).reading bits >>= λ xs. Ok (s xs.0, xs.1))
-folded-is {A} {B} f s y h g count bits =
-    folded-each f g count y bits ∙ same_steps ((each count g).reading bits) (λ xs. Ok
-        (fold_list f y xs.0, xs.1)) (λ xs. Ok (s xs.0, xs.1)) (λ xs. ap (λ (z : B). Ok (z, xs.1))
-        (h xs.0))
+    (x.0 ∷ xs.0, xs.1)) (λ ys. Ok (fold_list f y ys.0, ys.1)))
 
 module _ {A B : Type 0} (f : B → A → B) (read : List Bool → Result (A × List Bool) ReadFault)
     (count i : ℕ) (y : B) (bits : List Bool) where
@@ -92,16 +86,6 @@ fold_list-adding_to front (x ∷ xs) = fold_list-adding_to (front ++ x ∷ []) x
 pub fold_list-adding : {A : Type 0} (xs : List A) → fold_list adding [] xs ≡ xs
 fold_list-adding xs = fold_list-adding_to [] xs
 
-pub folded-dropping : {A : Type 0} (g : Grammar A) (count : ℕ) (bits : List Bool)
-    → folded dropping g.reading count tt bits ≡ ((each count g).reading bits >>= λ xs. Ok
-        (tt, xs.1))
-folded-dropping g count bits = folded-is dropping (λ xs. tt) tt fold_list-dropping g count bits
-
-pub folded-adding : {A : Type 0} (g : Grammar A) (count : ℕ) (bits : List Bool)
-    → folded adding g.reading count [] bits ≡ ((each count g).reading bits >>= λ xs. Ok
-        (xs.0, xs.1))
-folded-adding g count bits = folded-is adding (λ xs. xs) [] fold_list-adding g count bits
-
 abbrev done : {A : Type 0} → A → Result A ReadFault
 done x = Ok x
 
@@ -124,7 +108,7 @@ module _ {A B : Type 0} (f : B → A → B) (g : Grammar A) (count i : ℕ) (fir
   each-fault fault lt e =
       dropped_fault ((each count g).reading start) (λ xs. (fold_list f first xs.0, xs.1)) fault
       (sym (folded-each f g count first start) ∙ sym so_far
-          ∙ folded-fault f g.reading count i y bits fault lt e)
+      ∙ folded-fault f g.reading count i y bits fault lt e)
 
   pub each-more : (x : A) (after : List Bool) → i < count → g.reading bits ≡ Ok (x, after)
       → folded f g.reading (count - (i + 1)) (f y x) after ≡ folded f g.reading count first start
@@ -149,11 +133,11 @@ whole_again (Err other) y e = absurd cc
 -- an array whose front has been filled
 module _ {A : Type 0} (g : Grammar A) (count i : ℕ) (array : List A) (start bits : List Bool)
     (so_far : folded adding g.reading (count - i) (take i array) bits
-        ≡ folded adding g.reading count [] start) where
+    ≡ folded adding g.reading count [] start) where
   pub array-more : (x : A) (after : List Bool) → i < count → i < length array → g.reading bits
       ≡ Ok (x, after)
       → folded adding g.reading (count - (i + 1)) (take (i + 1) (set array i x)) after
-          ≡ folded adding g.reading count [] start
+      ≡ folded adding g.reading count [] start
   array-more x after lt within e = rw (take_more_set array i x within)
       (each-more adding g count i [] (take i array) start bits so_far x after lt e)
 
@@ -161,14 +145,14 @@ module _ {A : Type 0} (g : Grammar A) (count i : ℕ) (array : List A) (start bi
   array-done e =
       whole_again ((each count g).reading start) (take count array, bits)
       (made_ok ((each count g).reading start) (fold_list adding []) (λ xs. xs)
-          (take count array, bits) fold_list-adding
+      (take count array, bits) fold_list-adding
       (each-done adding g count i [] (take i array) start bits so_far e ∙ ap (λ (n : ℕ). done
-          (take n array, bits)) e))
+      (take n array, bits)) e))
 
 -- values that are dropped
 module _ {A : Type 0} (g : Grammar A) (count i : ℕ) (start bits : List Bool)
     (so_far : folded dropping g.reading (count - i) tt bits
-        ≡ folded dropping g.reading count tt start) where
+    ≡ folded dropping g.reading count tt start) where
   pub dropped-fault : (fault : ReadFault) → i < count → g.reading bits ≡ Err fault →
       ((each count g).reading start >>= made (λ xs. tt {0})) ≡ Err fault
   dropped-fault fault lt e = rw (each-fault dropping g count i tt tt start bits so_far fault lt e)
@@ -178,14 +162,14 @@ module _ {A : Type 0} (g : Grammar A) (count i : ℕ) (start bits : List Bool)
       (tt {0}, bits)
   dropped-done e =
       made_ok ((each count g).reading start) (fold_list dropping tt) (λ xs. tt {0})
-          (tt {0}, bits) fold_list-dropping
+      (tt {0}, bits) fold_list-dropping
       (each-done dropping g count i tt tt start bits so_far e)
 
 -- values that are made into one
 module _ {A B : Type 0} (f : B → A → B) (g : Grammar A) (count i : ℕ) (first y : B)
     (start bits : List Bool)
     (so_far : folded f g.reading (count - i) y bits ≡ folded f g.reading count first start)
-        (s : List A → B) (is : (xs : List A) → fold_list f first xs ≡ s xs) where
+    (s : List A → B) (is : (xs : List A) → fold_list f first xs ≡ s xs) where
   pub each-made : i ≡ count → ((each count g).reading start >>= made s) ≡ Ok (y, bits)
   each-made e = made_ok ((each count g).reading start) (fold_list f first) s (y, bits) is
       (each-done f g count i first y start bits so_far e)

@@ -72,8 +72,12 @@ done x = Ok x
 
 pub nothing_exact : {A : Type 0} (x : A) → IsExact (EncodesNothing x) (λ bits. done (x, bits))
 nothing_exact {A} x = record {
-  found = λ bits rest y e. let same = ok_is (x, bits) (y, rest) e in ([], ap (λ (p : A
-      × List Bool). p.1) same, (sym (ap (λ (p : A × List Bool). p.0) same), refl));
+  found = λ bits rest y e. let same = ok_is (x, bits) (y, rest) e in (
+    [],
+    ap (λ (p : A
+        × List Bool). p.1) same,
+    (sym (ap (λ (p : A × List Bool). p.0) same), refl),
+  );
   only = λ front rest y h. rw (h.0, h.1) refl;
 }
 
@@ -84,9 +88,9 @@ failure_exact fault = none_exact fault
 pub both_exact : {A B : Type 0} (first : A → ℕ → List Bool → Type 0) (read_first : List Bool
     → Result (A × List Bool) ReadFault)
     (next : A → B → ℕ → List Bool → Type 0) (read_next : A → List Bool → Result (B
-        × List Bool) ReadFault)
+    × List Bool) ReadFault)
     → IsExact first read_first → ((x : A) → IsExact (next x) (read_next x)) → IsExact
-        (EncodesBoth first next) (both_reading read_first read_next)
+    (EncodesBoth first next) (both_reading read_first read_next)
 both_exact first read_first next read_next p q = then_exact first read_first next read_next p q
 
 whole_octets : (octets : List ℕ) → place_of (bits_of octets) ≡ 0
@@ -98,21 +102,23 @@ pub inside_exact : {A : Type 0} (encodes : A → ℕ → List Bool → Type 0) (
 inside_exact {A} encodes reading r = record {
   found = λ bits rest x e.
       let step = bind_ok (lifted (open_type_reading bits)) (λ (octets : List ℕ
-          × List Bool). reading (bits_of octets.0) >>= λ value. Ok (value.0, octets.1))
-          (x, rest) e in
+      × List Bool). reading (bits_of octets.0) >>= λ value. Ok (value.0, octets.1))
+      (x, rest) e in
       let octets = step.0.0 in
       let inner = bind_ok (reading (bits_of octets)) (λ (value : A × List Bool). Ok
-          (value.0, step.0.1)) (x, rest) step.2 in
+      (value.0, step.0.1)) (x, rest) step.2 in
       let same = ok_is (inner.0.0, step.0.1) (x, rest) inner.2 in
       let rest-is : step.0.1 ≡ rest = ap (λ (p : A × List Bool). p.1) same in
       let x-is : inner.0.0 ≡ x = ap (λ (p : A × List Bool). p.0) same in
       let outer = open_type_lifts.found bits step.0.1 octets step.1 in
       let within = r.found (bits_of octets) inner.0.1 inner.0.0 inner.1 in
       let said : encodes x 0 within.0 = subst (λ (n : ℕ). encodes x n within.0)
-          (whole_octets octets) (subst (λ (y : A). encodes y (place_of
-          (bits_of octets)) within.0) x-is within.2) in
-      (outer.0, outer.1 ∙ ap (λ (t : List Bool). outer.0 ++ t) rest-is,
-          (octets, outer.2, within.0, inner.0.1, within.1, said));
+      (whole_octets octets) (subst (λ (y : A). encodes y (place_of
+      (bits_of octets)) within.0) x-is within.2) in (
+        outer.0,
+        outer.1 ∙ ap (λ (t : List Bool). outer.0 ++ t) rest-is,
+        (octets, outer.2, within.0, inner.0.1, within.1, said),
+      );
   only = λ front rest x h.
       let octets = h.0 in
       let outer = open_type_lifts.only front rest octets h.1 in

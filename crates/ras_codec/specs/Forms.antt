@@ -21,11 +21,11 @@ abbrev pub EncodesInside : {A : Type 0} → (A → ℕ → List Bool → Type 0)
 EncodesInside encodes x place bits =
     (octets : List ℕ) × EncodesOpenType octets place bits
     × (front : List Bool) × (rest : List Bool) × (bits_of octets ≡ front ++ rest)
-        × encodes x 0 front
+    × encodes x 0 front
 
 abbrev pub both_reading : {A B : Type 0} → (List Bool → Result (A × List Bool) ReadFault)
     → (A → List Bool → Result (B × List Bool) ReadFault) → List Bool → Result (B
-        × List Bool) ReadFault
+    × List Bool) ReadFault
 both_reading first next bits = do
   x ← first bits
   next x.0 x.1

@@ -110,8 +110,11 @@ registration_additions extended = do
   addition_4 ← skipped_addition present 4
   keep_alive ← addition present 5 boolean
   endpoint ← addition present 6 identifier
-  is (record { time_to_live = time_to_live; keep_alive = unwrap_or keep_alive false;
-      endpoint = endpoint })
+  is (record {
+    time_to_live = time_to_live;
+    keep_alive = unwrap_or keep_alive false;
+    endpoint = endpoint;
+  })
 
 -- RegistrationRequest: requestSeqNum, protocolIdentifier, nonStandardData?, discoveryComplete,
 -- callSignalAddress,

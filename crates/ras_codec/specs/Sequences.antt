@@ -5,13 +5,7 @@ use Rattle.ras_codec.specs.Grammar.{Grammar, ◌>>=◌, is, nothing, boolean, bi
 use Rattle.ras_codec.specs.Grammar.{length, small, octets, open_type, inside, aligned, either}
 use Rattle.ras_codec.specs.Grammar.{if◌equals◌take◌else◌, each, each_skipped, optional, skipped}
 
--- SEQUENCE OF without a size: how many there are, and each
-abbrev pub list_of : {A : Type 0} → Grammar A → Grammar (List A)
-list_of g = do
-  count ← length
-  each count g
-
--- the same, whose items are dropped
+-- SEQUENCE OF without a size, whose items are dropped: how many there are, and each
 abbrev pub list_skipped : {A : Type 0} → Grammar A → Grammar (Unit {0})
 list_skipped g = do
   count ← length

@@ -84,11 +84,7 @@ fn disengage_reason(reason: DisengageRejectReason) -> u32
 }
 
 /// RegistrationRejectReason.
-#[tactic(
-    auto,
-    using(crate::proofs::Behind::behind_append),
-    unfolding(crate::specs::Replies::registration_reason)
-)]
+#[tactic(auto, using(crate::proofs::Behind::behind_append), unfolding(crate::specs::Replies::registration_reason))]
 fn registration_reason(writer: &mut BitWriter, reason: &RegistrationRejectReason)
     requires { 65 + 4128 * held_in reason.now ≤ writer.old.room }
     ensures { Writes (65 + 4128 * held_in reason.now) (registration_reason reason.now) writer.old
@@ -107,12 +103,8 @@ fn registration_reason(writer: &mut BitWriter, reason: &RegistrationRejectReason
     }
 }
 
-/// GatekeeperConfirm.
-#[tactic(
-    auto,
-    using(crate::proofs::Behind::behind_append),
-    unfolding(crate::specs::Replies::gatekeeper_confirm)
-)]
+/// GatekeeperConfirm: no additions, no nonStandardData, with its gatekeeperIdentifier.
+#[tactic(auto, using(crate::proofs::Behind::behind_append), unfolding(crate::specs::Replies::gatekeeper_confirm))]
 pub fn gatekeeper_confirm(
     writer: &mut BitWriter,
     seq: RequestSeqNum,
@@ -132,12 +124,8 @@ pub fn gatekeeper_confirm(
     transport_address(writer, ras);
 }
 
-/// GatekeeperReject.
-#[tactic(
-    auto,
-    using(crate::proofs::Behind::behind_append),
-    unfolding(crate::specs::Replies::gatekeeper_reject)
-)]
+/// GatekeeperReject: no additions, no nonStandardData, no gatekeeperIdentifier.
+#[tactic(auto, using(crate::proofs::Behind::behind_append), unfolding(crate::specs::Replies::gatekeeper_reject))]
 pub fn gatekeeper_reject(writer: &mut BitWriter, seq: RequestSeqNum, reason: GatekeeperRejectReason)
     requires { 400 ≤ writer.old.room }
     ensures { Writes 400 (gatekeeper_reject seq reason) writer.old writer.new }
@@ -186,12 +174,9 @@ fn terminal_alias(writer: &mut BitWriter, aliases: &[Alias])
     }
 }
 
-/// The front of a RegistrationConfirm, up to its callSignalAddress.
-#[tactic(
-    auto,
-    using(crate::proofs::Behind::behind_append),
-    unfolding(crate::specs::Replies::registration_confirm_front)
-)]
+/// The front of a RegistrationConfirm, up to its callSignalAddress: with additions, no
+/// nonStandardData, terminalAlias where there are aliases, with its gatekeeperIdentifier.
+#[tactic(auto, using(crate::proofs::Behind::behind_append), unfolding(crate::specs::Replies::registration_confirm_front))]
 fn registration_confirm_front(
     writer: &mut BitWriter,
     seq: RequestSeqNum,
@@ -213,12 +198,8 @@ fn registration_confirm_front(
     transport_address(writer, call_signal);
 }
 
-/// RegistrationReject.
-#[tactic(
-    auto,
-    using(crate::proofs::Behind::behind_append),
-    unfolding(crate::specs::Replies::registration_reject)
-)]
+/// RegistrationReject: no additions, no nonStandardData, no gatekeeperIdentifier.
+#[tactic(auto, using(crate::proofs::Behind::behind_append), unfolding(crate::specs::Replies::registration_reject))]
 pub fn registration_reject(
     writer: &mut BitWriter,
     seq: RequestSeqNum,
@@ -237,7 +218,7 @@ pub fn registration_reject(
     registration_reason(writer, reason);
 }
 
-/// UnregistrationConfirm.
+/// UnregistrationConfirm: no additions, no nonStandardData.
 #[tactic(auto, unfolding(crate::specs::Replies::unregistration_confirm))]
 pub fn unregistration_confirm(writer: &mut BitWriter, seq: RequestSeqNum)
     requires { 400 ≤ writer.old.room }
@@ -249,7 +230,7 @@ pub fn unregistration_confirm(writer: &mut BitWriter, seq: RequestSeqNum)
     request_seq_num(writer, seq);
 }
 
-/// UnregistrationReject.
+/// UnregistrationReject: no additions, no nonStandardData.
 #[tactic(auto, unfolding(crate::specs::Replies::unregistration_reject))]
 pub fn unregistration_reject(writer: &mut BitWriter, seq: RequestSeqNum, reason: UnregRejectReason)
     requires { 400 ≤ writer.old.room }
@@ -262,12 +243,8 @@ pub fn unregistration_reject(writer: &mut BitWriter, seq: RequestSeqNum, reason:
     null_choice(writer, 2, unreg_reason(reason));
 }
 
-/// AdmissionConfirm: the endpoint may send itself, and reports nothing.
-#[tactic(
-    auto,
-    using(crate::proofs::Behind::behind_append),
-    unfolding(crate::specs::Replies::admission_confirm)
-)]
+/// AdmissionConfirm: with additions, no irrFrequency, no nonStandardData; callModel is direct.
+#[tactic(auto, using(crate::proofs::Behind::behind_append), unfolding(crate::specs::Replies::admission_confirm))]
 pub fn admission_confirm(writer: &mut BitWriter, seq: RequestSeqNum, units: u32, dest: &Address)
     requires { 500 ≤ writer.old.room }
     ensures { Writes 500 (admission_confirm seq units dest.now) writer.old writer.new }
@@ -296,7 +273,7 @@ fn admission_confirm_additions(writer: &mut BitWriter)
     writer.octets(&[0, 0]);
 }
 
-/// AdmissionReject.
+/// AdmissionReject: no additions, no nonStandardData.
 #[tactic(auto, unfolding(crate::specs::Replies::admission_reject))]
 pub fn admission_reject(writer: &mut BitWriter, seq: RequestSeqNum, reason: AdmissionRejectReason)
     requires { 400 ≤ writer.old.room }
@@ -309,7 +286,7 @@ pub fn admission_reject(writer: &mut BitWriter, seq: RequestSeqNum, reason: Admi
     null_choice(writer, 7, admission_reason(reason));
 }
 
-/// BandwidthConfirm.
+/// BandwidthConfirm: no additions, no nonStandardData.
 #[tactic(auto, unfolding(crate::specs::Replies::bandwidth_confirm))]
 pub fn bandwidth_confirm(writer: &mut BitWriter, seq: RequestSeqNum, units: u32)
     requires { 400 ≤ writer.old.room }
@@ -322,7 +299,7 @@ pub fn bandwidth_confirm(writer: &mut BitWriter, seq: RequestSeqNum, units: u32)
     band_width(writer, units);
 }
 
-/// BandwidthReject, with the bandwidth that is allowed.
+/// BandwidthReject, with the bandwidth that is allowed: no additions, no nonStandardData.
 #[tactic(auto, unfolding(crate::specs::Replies::bandwidth_reject))]
 pub fn bandwidth_reject(
     writer: &mut BitWriter,
@@ -341,7 +318,7 @@ pub fn bandwidth_reject(
     band_width(writer, allowed);
 }
 
-/// DisengageConfirm.
+/// DisengageConfirm: no additions, no nonStandardData.
 #[tactic(auto, unfolding(crate::specs::Replies::disengage_confirm))]
 pub fn disengage_confirm(writer: &mut BitWriter, seq: RequestSeqNum)
     requires { 400 ≤ writer.old.room }
@@ -353,7 +330,7 @@ pub fn disengage_confirm(writer: &mut BitWriter, seq: RequestSeqNum)
     request_seq_num(writer, seq);
 }
 
-/// DisengageReject.
+/// DisengageReject: no additions, no nonStandardData.
 #[tactic(auto, unfolding(crate::specs::Replies::disengage_reject))]
 pub fn disengage_reject(writer: &mut BitWriter, seq: RequestSeqNum, reason: DisengageRejectReason)
     requires { 400 ≤ writer.old.room }
@@ -366,7 +343,8 @@ pub fn disengage_reject(writer: &mut BitWriter, seq: RequestSeqNum, reason: Dise
     null_choice(writer, 1, disengage_reason(reason));
 }
 
-/// InfoRequest about all calls.
+/// InfoRequest about all calls: with additions, no nonStandardData, no replyAddress; its
+/// callIdentifier is zeros.
 #[tactic(auto, unfolding(crate::specs::Replies::info_request))]
 pub fn info_request(writer: &mut BitWriter, seq: RequestSeqNum)
     requires { 500 ≤ writer.old.room }
@@ -385,7 +363,8 @@ pub fn info_request(writer: &mut BitWriter, seq: RequestSeqNum)
     writer.octets(&[0; 16]);
 }
 
-/// RequestInProgress.
+/// RequestInProgress, in an open type of five octets: no additions, none of its four OPTIONAL
+/// components.
 #[tactic(auto, unfolding(crate::specs::Replies::request_in_progress))]
 pub fn request_in_progress(writer: &mut BitWriter, seq: RequestSeqNum, delay: Delay)
     requires { 400 ≤ writer.old.room }
@@ -404,11 +383,7 @@ pub fn request_in_progress(writer: &mut BitWriter, seq: RequestSeqNum, delay: De
 }
 
 /// The components of a reply.
-#[tactic(
-    auto,
-    using(crate::proofs::Behind::behind_append),
-    unfolding(crate::specs::Replies::registration_confirm)
-)]
+#[tactic(auto, using(crate::proofs::Behind::behind_append), unfolding(crate::specs::Replies::registration_confirm))]
 fn write_components(writer: &mut BitWriter, reply: &Reply)
     requires { 8 * room_of reply.now ≤ writer.old.room }
     ensures { Writes (8 * room_of reply.now) (components reply.now) writer.old writer.new }

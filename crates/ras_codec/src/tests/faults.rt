@@ -92,6 +92,17 @@ fn a_length_in_more_octets_is_read(rt: HostRuntime) -> Result<(), Fail> {
 }
 
 #[test]
+fn a_number_in_more_octets_is_read(rt: HostRuntime) -> Result<(), Fail> {
+    // a bandwidth of 2000 in four octets, where two are enough
+    let mut longer = [0; 55];
+    longer[..31].copy_from_slice(&BRQ[..31]);
+    longer[31..36].copy_from_slice(&[0xC0, 0x00, 0x00, 0x07, 0xD0]);
+    longer[36..].copy_from_slice(&BRQ[34..]);
+    assert!(rt; read(rt.alloc(), &longer)? == read(rt.alloc(), &BRQ)?);
+    Ok(())
+}
+
+#[test]
 fn numbers_at_the_end_of_their_range(rt: HostRuntime) -> Result<(), Fail> {
     let mut octets = GRQ;
     octets[2] = 0xFF;

@@ -258,3 +258,31 @@ fn a_sign_of_life(rt: HostRuntime) -> Result<(), Fail> {
     assert!(rt; read(rt.alloc(), &IRR)? == Some(alive));
     Ok(())
 }
+
+/// The octets of `RRQ_101` with an alias of another kind before its own.
+const RRQ_101_BEHIND_ANOTHER: [u8; 43] = [
+    0x0C, 0x80, 0x00, 0x01, 0x06, 0x00, 0x08, 0x91, 0x4A, 0x00, 0x02, 0x00, 0x01, 0x00, 0x0A, 0x00,
+    0x00, 0x05, 0x06, 0xB8, 0x01, 0x00, 0x0A, 0x00, 0x00, 0x05, 0x06, 0xB7, 0x02, 0x00, 0x02, 0x80,
+    0x02, 0xAA, 0xBB, 0x01, 0x00, 0x43, 0x40, 0xB5, 0x00, 0x00, 0x00,
+];
+
+#[test]
+fn an_alias_of_another_kind_is_passed_over(rt: HostRuntime) -> Result<(), Fail> {
+    let alloc = rt.alloc();
+    let expected = Some(registration(alloc, 2, 5, b"1")?);
+    assert!(rt; read(alloc, &RRQ_101_BEHIND_ANOTHER)? == expected);
+    Ok(())
+}
+
+#[test]
+fn a_call_identifier_of_zeros_is_none(rt: HostRuntime) -> Result<(), Fail> {
+    let mut octets = DRQ;
+    octets[34..].copy_from_slice(&[0; 16]);
+    let end = Request::Drq {
+        seq: seq(9),
+        endpoint: endpoint(b'1'),
+        call: CallKey { octets: [0x11; 16] },
+    };
+    assert!(rt; read(rt.alloc(), &octets)? == Some(end));
+    Ok(())
+}

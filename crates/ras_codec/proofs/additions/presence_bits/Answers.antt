@@ -7,9 +7,11 @@ use Rattle.ras_codec.proofs.additions.presence_bits.Goals as goal
 pub returns-in_err-present : goal.returns-in_err-present
 returns-in_err-present c =
     let p = err_from_is_err_and c.from_residual.result c.from_residual.ensures.1 in
-    rw (p.1, p.2) (each-fault adding boolean c.args.count c.loop-i.i _ _ c.args.decoder.now
-        c.loop-i.ahead c.loop-i.invariant.so_far _ c.loop-i-test.true c.in_err-present.ensures.0,
-        refl)
+    rw (p.1, p.2) (
+      each-fault adding boolean c.args.count c.loop-i.i _ _ c.args.decoder.now
+          c.loop-i.ahead c.loop-i.invariant.so_far _ c.loop-i-test.true c.in_err-present.ensures.0,
+      refl,
+    )
 
 pub loop-i-preserved : goal.loop-i-preserved
 loop-i-preserved c =

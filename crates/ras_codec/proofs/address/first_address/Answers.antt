@@ -9,9 +9,12 @@ use Rattle.ras_codec.proofs.address.first_address.Goals as goal
 pub returns-in_err-address : goal.returns-in_err-address
 returns-in_err-address c =
     let p = err_from_is_err_and c.from_residual.result c.from_residual.ensures.1 in
-    rw (p.1, p.2) (rw (each-fault option_or transport_address c.args.count c.loop.counter None
-        c.loop.first c.args.decoder.now c.loop.ahead c.loop.invariant _ c.loop-test.true
-        c.in_err-address.ensures.0) refl, refl)
+    rw (p.1, p.2) (
+      rw (each-fault option_or transport_address c.args.count c.loop.counter None
+          c.loop.first c.args.decoder.now c.loop.ahead c.loop.invariant _ c.loop-test.true
+          c.in_err-address.ensures.0) refl,
+      refl,
+    )
 
 pub loop-preserved : goal.loop-preserved
 loop-preserved c = rw c.or-first.ensures (each-more option_or transport_address c.args.count

@@ -8,9 +8,12 @@ use Rattle.ras_codec.proofs.alias.served_aliases.Goals as goal
 pub returns-in_err-alias : goal.returns-in_err-alias
 returns-in_err-alias c =
     let p = err_from_is_err_and c.from_residual.result c.from_residual.ensures.1 in
-    rw (p.1, p.2) (inr (rw (each-fault keeping alias_address c.args.count c.loop.counter []
-        c.loop.aliases c.args.decoder.now c.loop.ahead c.loop.invariant _ c.loop-test.true
-        c.in_err-alias.ensures.0) refl), refl)
+    rw (p.1, p.2) (
+      inr (rw (each-fault keeping alias_address c.args.count c.loop.counter []
+          c.loop.aliases c.args.decoder.now c.loop.ahead c.loop.invariant _ c.loop-test.true
+          c.in_err-alias.ensures.0) refl),
+      refl,
+    )
 
 pub loop-preserved : goal.loop-preserved
 loop-preserved c = rw c.in_ok-keep.ensures (each-more keeping alias_address c.args.count

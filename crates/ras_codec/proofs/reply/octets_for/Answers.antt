@@ -5,4 +5,4 @@ use Rattle.ras_codec.proofs.reply.octets_for.Goals as goal
 pub returns-clause-value : goal.returns-clause-value
 returns-clause-value c =
     ap (λ (k : ℕ). k / 8 + 1) (c.saturating_sub.ensures ∙ ap (λ (k : ℕ). k - 1)
-        (width_is c.args.n c.ranges.n.fits))
+    (width_is c.args.n c.ranges.n.fits))

@@ -12,7 +12,7 @@ returns-clause-ok c =
     let fit_new : Fit c.finish.result.items = λ i h. omega arith in
     let begun : c.new-writer.result.bits ≡ bits_of c.args.octets.now.items = cc in
     let written : c.write_components.new.writer.bits ≡ behind (components c.args.reply.now)
-        (bits_of c.args.octets.now.items) = rw (← begun) c.write_components.ensures.0 in
+    (bits_of c.args.octets.now.items) = rw (← begun) c.write_components.ensures.0 in
     appended c.args.octets.now.items c.finish.result.items
-        (components c.args.reply.now) c.write_components.new.writer.bits fit_old fit_new written
-        c.finish.ensures
+    (components c.args.reply.now) c.write_components.new.writer.bits fit_old fit_new written
+    c.finish.ensures

@@ -7,9 +7,12 @@ use Rattle.ras_codec.proofs.sequence.characters.Goals as goal
 pub returns-in_err-characters : goal.returns-in_err-characters
 returns-in_err-characters g c =
     let p = err_from_is_err_and c.from_residual.result c.from_residual.ensures.1 in
-    rw (p.1, p.2) (each-fault adding (bits 16) c.args.count c.loop-i.i _ _ c.args.decoder.now
-        c.loop-i.ahead c.loop-i.invariant.so_far _ c.loop-i-test.true
-        c.in_err-characters.ensures.gives.0, refl)
+    rw (p.1, p.2) (
+      each-fault adding (bits 16) c.args.count c.loop-i.i _ _ c.args.decoder.now
+          c.loop-i.ahead c.loop-i.invariant.so_far _ c.loop-i-test.true
+          c.in_err-characters.ensures.gives.0,
+      refl,
+    )
 
 pub loop-i-preserved : goal.loop-i-preserved
 loop-i-preserved g c =
