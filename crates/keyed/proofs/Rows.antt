@@ -197,9 +197,9 @@ module _ {K V X : Type 0} {R : K → K → Ordering} (o : IsTotalOrder R) (same 
       ∙ (sym (ap (option_filter test) (fin.get-from_entries o (entries_of key value rows) q))
       ∙ sym (get_retained o same test (map_of key value rows) q)))))
 
--- a search among the rows finds what it finds among the values of their map, where one row at most passes
-module _ {K X : Type 0} {R : K → K → Ordering} (o : IsTotalOrder R) (same : IsAntisymmetric R) (key : X → K) (p : X → Bool) where
-  abbrev FindsIn : List X → Option X → Type 0
+-- what a search found: the first row that passes, or that none does
+module _ {X : Type 0} (p : X → Bool) where
+  abbrev pub FindsIn : List X → Option X → Type 0
   FindsIn rows None = (j : ℕ) (s : X) → slice_get rows j ≡ Some s → p s ≡ false
   FindsIn rows (Some r) = (i : ℕ) × (slice_get rows i ≡ Some r) × (p r ≡ true)
 
@@ -210,21 +210,23 @@ module _ {K X : Type 0} {R : K → K → Ordering} (o : IsTotalOrder R) (same : 
     later (suc j) s e = h j s e
   fails_first x rows (Some r) fails h = (suc h.0, h.1, h.2)
 
-  finds_in : (rows : List X) → FindsIn rows (find_first p rows)
+  pub finds_in : (rows : List X) → FindsIn rows (find_first p rows)
   finds_in [] = λ j s e. some_none (sym e)
   finds_in (x ∷ rows) = cases (finds_in rows) (p x) refl where
     cases : FindsIn rows (find_first p rows) → (b : Bool) → p x ≡ b → FindsIn (x ∷ rows) (cond b (Some x) (find_first p rows))
     cases rest true is = (zero, refl, is)
     cases rest false is = fails_first x rows (find_first p rows) is rest
 
+-- where one row at most passes, the search among the values of the map finds the same
+module _ {K X : Type 0} {R : K → K → Ordering} (o : IsTotalOrder R) (same : IsAntisymmetric R) (key : X → K) (p : X → Bool) where
   pub find_rows : (rows : List X) → AreApart key (row_in rows)
       → ((i j : ℕ) (r s : X) → slice_get rows i ≡ Some r → slice_get rows j ≡ Some s → p r ≡ true → p s ≡ true → i ≡ j)
       → find_first p (fin.values (map_of {R = R} key (λ r. r) rows)) ≡ find_first p rows
-  find_rows rows h alone = cases (find_first p rows) (finds_in rows) where
+  find_rows rows h alone = cases (find_first p rows) (finds_in p rows) where
     of : IsMapOf key (λ r. r) (row_in rows) (map_of {R = R} key (λ r. r) rows)
     of = IsMapOf-rows o same key (λ r. r) rows h
 
-    cases : (w : Option X) → FindsIn rows w → find_first p (fin.values (map_of {R = R} key (λ r. r) rows)) ≡ w
+    cases : (w : Option X) → FindsIn p rows w → find_first p (fin.values (map_of {R = R} key (λ r. r) rows)) ≡ w
     cases None none = find_none o same p (map_of key (λ r. r) rows) (λ k r there.
         (let s = of.stands k r there in sym (ap p s.2.value_is) ∙ none s.0 s.1 s.2.there))
     cases (Some r) found = find_one o same p (map_of key (λ r. r) rows) (key r) r (of.has found.0 r found.1) found.2 (λ q x there passes.

@@ -1,0 +1,113 @@
+-- Of more numbers than there are texts, one is not among them.
+use Rattle.std.proofs.Common.{◌≡◌, ◌≢◌, ℕ, zero, suc, ◌+◌, ◌<◌, ◌≤◌, ◌==◌, get_or, Bool, true, false, not, ◌||◌, List, [], ◌∷◌, ◌++◌, length, map, nat_eq, refl, sym, ◌∙◌, ap, subst, arith}
+use Rattle.std.specs.Prelude.{filter, Contains}
+use Rattle.std.specs.List.{list_any}
+use Rattle.std.specs.Cmp.Lexicographic.{pointwise}
+use Rattle.std.specs.Bool.{Decides}
+use Rattle.std.proofs.lemmas.Bool.Decides.{nat_tests, Decides-eqb}
+use Rattle.std.proofs.lemmas.List.{length-map, length-append}
+use Rattle.ras_module.specs.Same.{texts_decide}
+use Rattle.registrations.specs.declared.registration.Registration.{Registration}
+use Rattle.registrations.specs.Numbers.{number_of}
+use Rattle.registrations.specs.Registry.{identifier_of}
+
+abbrev pub has_number : List ℕ → ℕ → Bool
+has_number ns n = list_any (λ m. m == n) ns
+
+abbrev without : ℕ → List ℕ → List ℕ
+without n ns = filter (λ m. not (m == n)) ns
+
+length-without : (n : ℕ) (ns : List ℕ) → length (without n ns) ≤ length ns
+length-without n [] = omega arith
+length-without n (m ∷ ns) = grind (arith, nat_tests, length-without n ns)
+
+length-without_one : (n : ℕ) (ns : List ℕ) → has_number ns n ≡ true → length (without n ns) < length ns
+length-without_one n [] has = absurd (cc has)
+length-without_one n (m ∷ ns) has = grind (arith, nat_tests, length-without_one n ns, length-without n ns)
+
+has-without : (n k : ℕ) (ns : List ℕ) → k ≢ n → has_number ns k ≡ true → has_number (without n ns) k ≡ true
+has-without n k [] differ has = has
+has-without n k (m ∷ ns) differ has = grind (arith, nat_tests, has-without n k ns)
+
+-- a list that has n numbers in a row has n members
+covers : (start n : ℕ) (ns : List ℕ) → ((k : ℕ) → k < n → has_number ns (start + k) ≡ true) → n ≤ length ns
+covers start zero ns each = omega arith
+covers start (suc n) ns each =
+    let here : has_number ns (start + n) ≡ true = each n (omega arith) in
+    let fewer = length-without_one (start + n) ns here in
+    omega (arith, fewer, covers start n (without (start + n) ns) (λ k below. has-without (start + n) (start + k) ns (λ e. omega arith) (each k (omega arith))))
+
+either : (a b c d : Bool) → (a ≡ true → c ≡ true) → (b ≡ true → d ≡ true) → (a || b) ≡ true → (c || d) ≡ true
+either true b c d first rest h = ap (λ x. x || d) (first refl)
+either false b true d first rest h = refl
+either false b false d first rest h = rest h
+
+abbrev pub has_id : List (List ℕ) → List ℕ → Bool
+has_id ids id = list_any (λ i. pointwise nat_eq i id) ids
+
+has_its_number : (ids : List (List ℕ)) (id : List ℕ) → has_id ids id ≡ true → has_number (map number_of ids) (number_of id) ≡ true
+has_its_number [] id has = has
+has_its_number (i ∷ ids) id has =
+    either (pointwise nat_eq i id) (has_id ids id) (number_of i == number_of id) _
+    (λ same. (Decides-eqb (number_of i) (number_of id)).1 (ap number_of ((texts_decide i id).0 same)))
+    (has_its_number ids id) has
+
+-- all identifiers that are not to be handed out
+abbrev pub used : List Registration → List (List ℕ) → List (List ℕ)
+used rows taken = map identifier_of rows ++ taken
+
+or_assoc : (a b c : Bool) → (a || (b || c)) ≡ ((a || b) || c)
+or_assoc true b c = refl
+or_assoc false b c = refl
+
+used_any : (rows : List Registration) (taken : List (List ℕ)) (id : List ℕ)
+    → has_id (used rows taken) id ≡ (list_any (λ r. pointwise nat_eq r.identifier id) rows || has_id taken id)
+used_any [] taken id = refl
+used_any (r ∷ rows) taken id =
+    ap (λ b. pointwise nat_eq r.identifier id || b) (used_any rows taken id)
+    ∙ or_assoc (pointwise nat_eq r.identifier id) (list_any (λ (i : Registration). pointwise nat_eq i.identifier id) rows) (has_id taken id)
+
+-- a number whose text is used is among their numbers
+pub number_used : (rows : List Registration) (taken : List (List ℕ)) (id : List ℕ) (n : ℕ) → number_of id ≡ n
+    → (list_any (λ r. pointwise nat_eq r.identifier id) rows || has_id taken id) ≡ true → has_number (map number_of (used rows taken)) n ≡ true
+number_used rows taken id n is has =
+    subst (λ (m : ℕ). has_number (map number_of (used rows taken)) m ≡ true) is (has_its_number (used rows taken) id (used_any rows taken id ∙ has))
+
+-- of one number more than there are texts, not all can be used
+pub not_all : (rows : List Registration) (taken : List (List ℕ)) (start : ℕ)
+    → ((k : ℕ) → k < length rows + length taken + 1 → has_number (map number_of (used rows taken)) (start + k) ≡ true) → ⊥
+not_all rows taken start each =
+    let most = covers start (length rows + length taken + 1) (map number_of (used rows taken)) each in
+    omega (arith, most, length-map (used rows taken) number_of, length-append (map identifier_of rows) taken, length-map rows identifier_of)
+
+-- the test of a list decides what it has
+any_decides : (ids : List (List ℕ)) (id : List ℕ) → Decides (has_id ids id) (Contains ids id)
+any_decides [] id = (λ e. absurd (cc e), λ h. absurd (omega (arith, h.1)))
+any_decides (i ∷ ids) id = (forth (any_decides ids id) (pointwise nat_eq i id) refl, back (any_decides ids id)) where
+  forth : Decides (has_id ids id) (Contains ids id) → (b : Bool) → pointwise nat_eq i id ≡ b → (b || has_id ids id) ≡ true → Contains (i ∷ ids) id
+  forth rest true is e = (zero, omega arith, (texts_decide i id).0 is)
+  forth rest false is e = (let h = rest.0 e in (suc h.0, omega (arith, h.1), h.2))
+
+  or_true : (a b : Bool) → b ≡ true → (a || b) ≡ true
+  or_true true b h = refl
+  or_true false b h = h
+
+  place : Decides (has_id ids id) (Contains ids id) → (k : ℕ) → k < length (i ∷ ids) → get_or (i ∷ ids) k id ≡ id → (pointwise nat_eq i id || has_id ids id) ≡ true
+  place rest zero below is = ap (λ b. b || has_id ids id) ((texts_decide i id).1 is)
+  place rest (suc k) below is = or_true (pointwise nat_eq i id) (has_id ids id) (rest.1 (k, omega arith, is))
+
+  back : Decides (has_id ids id) (Contains ids id) → Contains (i ∷ ids) id → (pointwise nat_eq i id || has_id ids id) ≡ true
+  back rest h = place rest h.0 h.1 h.2
+
+pub not_among : (ids : List (List ℕ)) (id : List ℕ) → has_id ids id ≡ false → Contains ids id → ⊥
+not_among ids id e h = cc (e, (any_decides ids id).1 h)
+
+pub none_among : (ids : List (List ℕ)) (id : List ℕ) → (Contains ids id → ⊥) → has_id ids id ≡ false
+none_among ids id h = cases (has_id ids id) refl where
+  cases : (b : Bool) → has_id ids id ≡ b → has_id ids id ≡ false
+  cases true is = absurd (h ((any_decides ids id).0 is))
+  cases false is = is
+
+pub neither : (a b : Bool) → (a || b) ≡ false → (a ≡ false) × (b ≡ false)
+neither true b h = absurd (cc h)
+neither false b h = (refl, h)

@@ -1,0 +1,14 @@
+//! The endpoints that are registered, by identifier.
+#![tactic(auto)]
+
+mod fault;
+mod fresh;
+mod list;
+mod number;
+mod registration;
+mod table;
+
+pub use fault::AddFault;
+pub use list::RegistrationList;
+pub use registration::Registration;
+pub use table::Registrations;
