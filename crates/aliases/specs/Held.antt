@@ -42,9 +42,12 @@ conflicts held address aliases = filter (λ alias. is_elsewhere address (get hel
 abbrev pub without_holder : Held → List ℕ → Held
 without_holder held id = retain_values held (λ h. not (pointwise nat_eq h.holder id))
 
+abbrev pub holding_by : List ℕ → Address → Holding
+holding_by id address = record { holder = id; address = address }
+
 -- the alias is held by this endpoint
 abbrev pub with_alias : Held → Alias → List ℕ → Address → Held
-with_alias held alias id address = insert held alias (record { holder = id; address = address })
+with_alias held alias id address = insert held alias (holding_by id address)
 
 -- so is each alias of the list
 abbrev pub with_aliases : Held → List Alias → List ℕ → Address → Held

@@ -1,12 +1,13 @@
 //! The table of the aliases.
 
-ghost use Rattle.std.specs.Prelude.{◌≡◌, ◌≢◌, ◌≤◌, ◌<◌, ◌+◌, ◌↔◌, None, Some, Err, IsOk, IfOk, IfErr, OnOk, OnErr, MatchOption, position, nat_eq};
+ghost use Rattle.std.specs.Prelude.{◌≡◌, ◌≢◌, ◌≤◌, ◌<◌, ◌+◌, ◌↔◌, None, Some, Err, IsOk, IfOk, IfErr, OnOk, OnErr, MatchOption, position, nat_eq, length, Contains};
+ghost use Rattle.ras_module.specs.declared.alias.Alias.{Alias};
 ghost use Rattle.std.specs.List.{find};
 ghost use Rattle.std.specs.Option.{option_copied};
 ghost use Rattle.std.specs.FinMap as map;
 ghost use Rattle.keyed.specs.Places.{IsPlaceOf};
 ghost use Rattle.ras_module.specs.Aliases.{same_alias};
-ghost use Rattle.aliases.specs.Held.{holder_of, conflicts, is_elsewhere, without_holder, with_alias, IsHeldByAnother, Becomes};
+ghost use Rattle.aliases.specs.Held.{holder_of, conflicts, is_elsewhere, without_holder, with_alias, with_aliases, IsHeldByAnother, Becomes};
 ghost use Rattle.aliases.specs.Stored.{alias_of, held_in};
 
 use crate::fault::SetFault;
@@ -128,6 +129,19 @@ impl AliasTable {
         match self.rows.push(row) {
             Ok(()) => Ok(()),
             Err(_) => Err((alias, SetFault::Memory)),
+        }
+    }
+
+    /// Enters each of the aliases for its holder, within the room that was made, where no other endpoint
+    /// holds one of them.
+    pub fn set_all(&mut self, aliases: &[Alias], holder: EndpointId, address: Address)
+        requires room { length aliases.now ≤ self.old.room }
+        requires free { (alias : Alias) → Contains aliases.now alias → IsHeldByAnother self.old.held alias holder → ⊥ }
+        ensures held { self.new.held ≡ with_aliases self.old.held aliases.now holder address }
+        ensures room { self.old.room ≤ self.new.room + length aliases.now }
+    {
+        for alias in aliases {
+            self.set(*alias, holder, address).unwrap();
         }
     }
 

@@ -1,7 +1,7 @@
 -- What holds of each row that a finite map has, holds of all its entries; searches, counts and bounds over its rows.
-use Rattle.std.proofs.Common.{◌≡◌, ℕ, ◌*◌, ◌≤◌, Bool, true, false, List, [], ◌∷◌, length, map, refl, sym, ◌∙◌, ap, subst, cond, Some, None, arith}
+use Rattle.std.proofs.Common.{◌||◌, ◌≡◌, ℕ, ◌*◌, ◌≤◌, Bool, true, false, List, [], ◌∷◌, length, map, refl, sym, ◌∙◌, ap, subst, cond, Some, None, arith}
 use Rattle.std.specs.Prelude.{T}
-use Rattle.std.specs.List.{sum_by, find as find_first}
+use Rattle.std.specs.List.{list_any, sum_by, find as find_first}
 use Rattle.std.proofs.lemmas.List.Sums.{sum_by-cons}
 use Rattle.std.specs.Cmp.{IsTotalOrder}
 use Rattle.std.specs.declared.cmp.Ordering.{Ordering}
@@ -70,3 +70,20 @@ module _ {K X : Type 0} {R : K → K → Ordering} (o : IsTotalOrder R) (same : 
     search_in : (es : List (K × X)) → Each (λ k r. p r ≡ false) es → find_first p (map (λ e. e.1) es) ≡ None
     search_in [] h = refl
     search_in (e ∷ es) h = ap (λ b. cond b (Some e.1) (find_first p (map (λ e. e.1) es))) h.0 ∙ search_in es h.1
+
+  -- a test of all rows
+  pub any_row : (p : X → Bool) (m : FinMap R X) (k : K) (r : X) → fin.get m k ≡ Some r → p r ≡ true → list_any p (fin.values m) ≡ true
+  any_row p m k r there passes = search_in (fin.entries m) (sym (fin.get-entries m k) ∙ there) where
+    search_in : (es : List (K × X)) → fin.find R k es ≡ Some r → list_any p (map (λ e. e.1) es) ≡ true
+    search_in [] h = some_none (sym h)
+    search_in (e ∷ es) h = one (p e.1) refl (eq_by_cmp R k e.0) h (λ later. search_in es later) where
+      one : (b : Bool) → p e.1 ≡ b → (t : Bool) → cond t (Some e.1) (fin.find R k es) ≡ Some r → (fin.find R k es ≡ Some r → list_any p (map (λ e. e.1) es) ≡ true) → (b || list_any p (map (λ e. e.1) es)) ≡ true
+      one true is t h rest = refl
+      one false is true h rest = absurd (cc (is, ap p (same_some e.1 r h), passes))
+      one false is false h rest = rest h
+
+  pub no_row_passes : (p : X → Bool) (m : FinMap R X) → ((k : K) (r : X) → fin.get m k ≡ Some r → p r ≡ false) → list_any p (fin.values m) ≡ false
+  no_row_passes p m none = search_in (fin.entries m) (each_row (λ k r. p r ≡ false) m none) where
+    search_in : (es : List (K × X)) → Each (λ k r. p r ≡ false) es → list_any p (map (λ e. e.1) es) ≡ false
+    search_in [] h = refl
+    search_in (e ∷ es) h = ap (λ b. b || list_any p (map (λ e. e.1) es)) h.0 ∙ search_in es h.1

@@ -1,5 +1,6 @@
 -- Aliases, compared and in order.
 use Rattle.std.specs.Prelude.{ℕ, List, Bool, false, nat_eq}
+use Rattle.std.specs.List.{list_any}
 use Rattle.std.specs.declared.cmp.Ordering.{Ordering}
 use Rattle.std.specs.Ordering.{nat_cmp, ordering_then}
 use Rattle.std.specs.Cmp.Lexicographic.{pointwise, slice_cmp}
@@ -12,6 +13,9 @@ same_alias (Digits a) (Digits b) = pointwise nat_eq a b
 same_alias (H323Id a) (H323Id b) = pointwise nat_eq a b
 same_alias (Digits a) (H323Id b) = false
 same_alias (H323Id a) (Digits b) = false
+
+abbrev pub has_alias : List Alias → Alias → Bool
+has_alias aliases alias = list_any (λ a. same_alias a alias) aliases
 
 abbrev pub kind_of : Alias → ℕ
 kind_of (Digits a) = 0

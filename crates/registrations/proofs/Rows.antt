@@ -12,7 +12,7 @@ use Rattle.std.proofs.lemmas.List.{length-set, length-append}
 use Rattle.std.proofs.lemmas.Bool.Decides.{nat_tests}
 use Rattle.std.proofs.lemmas.Option.{get_or_from_slice_get, slice_get_within}
 use Rattle.keyed.specs.Maps.{update}
-use Rattle.keyed.specs.Places.{row_in, AreApart, IsPlaceOf}
+use Rattle.keyed.specs.Places.{row_in, IsPlaceOf}
 use Rattle.keyed.proofs.Decide.{some_none, same_some}
 use Rattle.keyed.proofs.Maps.{update_there}
 use Rattle.keyed.proofs.Places.{AreApart-put, AreApart-set}

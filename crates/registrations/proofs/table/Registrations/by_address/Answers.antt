@@ -1,4 +1,4 @@
-use Rattle.std.proofs.Common.{ap, sym, subst, ◌∙◌}
+use Rattle.std.proofs.Common.{ap, subst, ◌∙◌}
 use Rattle.registrations.specs.Registry.{Registry, IsConsistent, at_address}
 use Rattle.registrations.proofs.Rows.{address_row, IsConsistent-rows}
 use Rattle.registrations.proofs.table.Registrations.by_address.Goals as goal

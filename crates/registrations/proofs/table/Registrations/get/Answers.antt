@@ -1,4 +1,4 @@
-use Rattle.std.proofs.Common.{ap, sym, subst, ◌∙◌}
+use Rattle.std.proofs.Common.{ap, subst, ◌∙◌}
 use Rattle.std.specs.FinMap as map
 use Rattle.registrations.specs.Registry.{Registry, IsConsistent}
 use Rattle.registrations.proofs.Rows.{get_row, IsConsistent-rows}

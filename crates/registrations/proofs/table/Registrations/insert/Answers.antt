@@ -1,5 +1,4 @@
-use Rattle.std.proofs.Common.{◌≡◌, ap, sym, refl, ◌∙◌, arith}
-use Rattle.std.specs.Prelude.{None}
+use Rattle.std.proofs.Common.{ap, refl, ◌∙◌, arith}
 use Rattle.std.specs.FinMap as map
 use Rattle.registrations.specs.Registry.{live_of, at_address}
 use Rattle.registrations.proofs.Rows.{len_live, IsTable-push, live_push}

@@ -1,4 +1,4 @@
-use Rattle.std.proofs.Common.{ap, sym, ◌∙◌, arith}
+use Rattle.std.proofs.Common.{ap, arith}
 use Rattle.std.specs.FinMap as map
 use Rattle.registrations.proofs.Rows.{len_live}
 use Rattle.registrations.proofs.table.Registrations.len.Goals as goal

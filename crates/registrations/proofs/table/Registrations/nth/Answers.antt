@@ -1,6 +1,5 @@
-use Rattle.std.proofs.Common.{◌≡◌, ap, sym, subst, ◌∙◌, arith}
-use Rattle.std.specs.Prelude.{Option, Some, IfSome, slice_get}
-use Rattle.std.specs.Option.{option_copied}
+use Rattle.std.proofs.Common.{◌≡◌, ap, sym, subst, arith}
+use Rattle.std.specs.Prelude.{Option, Some, IfSome}
 use Rattle.std.specs.FinMap as map
 use Rattle.registrations.specs.declared.registration.Registration.{Registration}
 use Rattle.registrations.proofs.Rows.{len_live, placed_live, if_copied, some_placed, placed_some}
@@ -11,8 +10,7 @@ returns-clause-some c =
     let i = c.self.inside in
     let read = rw c.deref.ensures.value at c.row_at_place.ensures in
     let len = len_live i.items.items i.most i.lowest c.self.invariant in
-    let same = ap (λ t. map.len t.live) c.self.view_is in
-    (
+    let same = ap (λ t. map.len t.live) c.self.view_is in (
       λ some. omega (arith, some_placed i.items.items c.args.i c.row_at_place.result read some, len, same),
       λ below. placed_some i.items.items c.args.i c.row_at_place.result read (omega (arith, below, len, same)),
     )
