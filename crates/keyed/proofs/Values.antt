@@ -71,6 +71,29 @@ module _ {K X : Type 0} {R : K → K → Ordering} (o : IsTotalOrder R) (same : 
     search_in [] h = refl
     search_in (e ∷ es) h = ap (λ b. cond b (Some e.1) (find_first p (map (λ e. e.1) es))) h.0 ∙ search_in es h.1
 
+  -- what a search among the rows found is a row that passes
+  pub find_some : (p : X → Bool) (m : FinMap R X) (r : X) → find_first p (fin.values m) ≡ Some r → (k : K) × (fin.get m k ≡ Some r) × (p r ≡ true)
+  find_some p m r found = search_in (fin.entries m) (each_row (λ k s. fin.get m k ≡ Some s) m (λ k s e. e)) found where
+    search_in : (es : List (K × X)) → Each (λ k s. fin.get m k ≡ Some s) es → find_first p (map (λ e. e.1) es) ≡ Some r → (k : K) × (fin.get m k ≡ Some r) × (p r ≡ true)
+    search_in [] each e = some_none (sym e)
+    search_in (x ∷ es) each e = one (p x.1) refl e (search_in es each.1) where
+      one : (b : Bool) → p x.1 ≡ b → cond b (Some x.1) (find_first p (map (λ e. e.1) es)) ≡ Some r
+          → (find_first p (map (λ e. e.1) es) ≡ Some r → (k : K) × (fin.get m k ≡ Some r) × (p r ≡ true)) → (k : K) × (fin.get m k ≡ Some r) × (p r ≡ true)
+      one true is e rest = (let same = same_some x.1 r e in (x.0, each.0 ∙ ap Some same, sym (ap p same) ∙ is))
+      one false is e rest = rest e
+
+  -- where it found none, none passes
+  pub find_fails : (p : X → Bool) (m : FinMap R X) → find_first p (fin.values m) ≡ None → (k : K) (r : X) → fin.get m k ≡ Some r → p r ≡ false
+  find_fails p m none k r there = search_in (fin.entries m) (sym (fin.get-entries m k) ∙ there) none where
+    search_in : (es : List (K × X)) → fin.find R k es ≡ Some r → find_first p (map (λ e. e.1) es) ≡ None → p r ≡ false
+    search_in [] h e = some_none (sym h)
+    search_in (x ∷ es) h e = one (p x.1) refl (eq_by_cmp R k x.0) h e (search_in es) where
+      one : (b : Bool) → p x.1 ≡ b → (t : Bool) → cond t (Some x.1) (fin.find R k es) ≡ Some r → cond b (Some x.1) (find_first p (map (λ e. e.1) es)) ≡ None
+          → (fin.find R k es ≡ Some r → find_first p (map (λ e. e.1) es) ≡ None → p r ≡ false) → p r ≡ false
+      one true is t h e rest = some_none e
+      one false is true h e rest = sym (ap p (same_some x.1 r h)) ∙ is
+      one false is false h e rest = rest h e
+
   -- a test of all rows
   pub any_row : (p : X → Bool) (m : FinMap R X) (k : K) (r : X) → fin.get m k ≡ Some r → p r ≡ true → list_any p (fin.values m) ≡ true
   any_row p m k r there passes = search_in (fin.entries m) (sym (fin.get-entries m k) ∙ there) where

@@ -1,3 +1,5 @@
 pub mod Digits
 pub mod Covering
 pub mod Rows
+pub mod Consistent
+pub mod Agreement

@@ -1,3 +1,4 @@
 pub mod Registry
 pub mod Stored
 pub mod Numbers
+pub mod Agreement
