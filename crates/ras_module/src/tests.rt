@@ -190,6 +190,6 @@ fn later_doubles_are_dropped(rt: HostRuntime) -> Result<(), Fail> {
     }
     let distinct = list.distinct()?;
     let expected = [digits("101")?, digits("102")?, digits("103")?];
-    assert!(rt; distinct.as_slice() == &expected);
+    assert!(rt; distinct.as_slice() == expected.as_slice());
     Ok(())
 }
