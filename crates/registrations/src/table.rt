@@ -64,6 +64,7 @@ impl Registrations {
     pub fn len(&self) -> usize
         ensures len { result ≡ map.len self.now.live }
         ensures few { map.len self.now.live ≤ self.now.most }
+        ensures sound { IsConsistent self.now.live }
     {
         self.items.len()
     }
