@@ -1,5 +1,5 @@
 -- What the changes of the table do to the look-ups of aliases.
-use Rattle.std.proofs.Common.{◌≡◌, ◌≢◌, ◌<◌, ℕ, Bool, true, false, cond, List, [], ◌∷◌, ◌++◌, not, nat_eq, refl, sym, ◌∙◌, ap, subst, Some, None, Ok, Err, zero, arith}
+use Rattle.std.proofs.Common.{◌≡◌, ◌≢◌, ℕ, Bool, cond, List, [], ◌∷◌, ◌++◌, not, nat_eq, refl, sym, ◌∙◌, ap, subst, Some, None, Ok, Err, zero, arith}
 use Rattle.std.specs.Prelude.{Option, Contains, Result, IsOk, IfErr}
 use Rattle.std.specs.Option.{IsSomeAnd}
 use Rattle.std.specs.Cmp.Lexicographic.{pointwise}
@@ -96,3 +96,7 @@ pub set_succeeds : (r : Result (Unit {0}) (Alias × SetFault)) (held : Held) (al
 set_succeeds (Ok x) held alias id duplicate memory back free = refl
 set_succeeds (Err (a, Duplicate)) held alias id duplicate memory back free = absurd (free (duplicate (λ i. Err (back i, Duplicate))))
 set_succeeds (Err (a, Memory)) held alias id duplicate memory back free = absurd (memory (λ i. Err (back i, Memory)))
+
+-- what nobody holds, no other endpoint holds
+pub not_held : (held : Held) (alias : Alias) (id : List ℕ) → fin.get held alias ≡ None → IsHeldByAnother held alias id → ⊥
+not_held held alias id none other = subst (λ w. IsSomeAnd w (λ h. h.holder ≢ id)) none other

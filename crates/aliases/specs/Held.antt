@@ -34,7 +34,8 @@ abbrev pub is_elsewhere : Address → Option Holding → Bool
 is_elsewhere address None = false
 is_elsewhere address (Some h) = not (same_address h.address address)
 
--- those of the aliases that an endpoint with another call signal address holds, as they stand in the list
+-- those of the aliases that an endpoint with another call signal address holds, as they stand in the
+-- list
 abbrev pub conflicts : Held → Address → List Alias → List Alias
 conflicts held address aliases = filter (λ alias. is_elsewhere address (get held alias)) aliases
 
@@ -52,7 +53,8 @@ with_alias held alias id address = insert held alias (holding_by id address)
 -- so is each alias of the list
 abbrev pub with_aliases : Held → List Alias → List ℕ → Address → Held
 with_aliases held [] id address = held
-with_aliases held (alias ∷ aliases) id address = with_aliases (with_alias held alias id address) aliases id address
+with_aliases held (alias ∷ aliases) id address =
+    with_aliases (with_alias held alias id address) aliases id address
 
 -- what a change that takes no memory and no room makes of the table
 pub record Becomes (old new : HeldAliases) (held : Held) : Type 0 where

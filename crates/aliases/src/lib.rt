@@ -6,3 +6,6 @@ mod table;
 
 pub use fault::SetFault;
 pub use table::AliasTable;
+
+#[cfg(test)]
+mod tests;

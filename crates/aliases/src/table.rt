@@ -42,7 +42,10 @@ impl Model for AliasTable {
 
     ghost use Rattle.aliases.specs.Stored.{alias_of, held_in};
 
-    ghost view = { λ t. record { held = held_in t.rows.items; room = vec_capacity t.rows - vec_len t.rows } };
+    ghost view = { λ t. record {
+      held = held_in t.rows.items;
+      room = vec_capacity t.rows - vec_len t.rows;
+    } };
 
     ghost invariant = { λ t. AreApart alias_of (row_in t.rows.items) };
 }
@@ -65,8 +68,8 @@ impl AliasTable {
         Some(&row.holder)
     }
 
-    /// Those of the aliases that an endpoint with another call signal address holds, in their order and as
-    /// often as they stand there.
+    /// Those of the aliases that an endpoint with another call signal address holds, in their order
+    /// and as often as they stand there.
     pub fn conflicts(&self, aliases: &[Alias], address: Address) -> Result<AliasList, AllocError>
         ensures { IfOk result (λ list. list ≡ conflicts self.now.held address aliases.now) }
     {
@@ -99,8 +102,8 @@ impl AliasTable {
         self.rows.reserve(more)
     }
 
-    /// Enters an alias for its holder, in place of what was entered for it there. The alias comes back where
-    /// another endpoint holds it, and for want of memory, which is never where there is room.
+    /// Enters an alias for its holder, in place of what was entered for it there. The alias comes back
+    /// where another endpoint holds it, and for want of memory, which is never where there is room.
     pub fn set(
         &mut self,
         alias: Alias,
@@ -109,7 +112,8 @@ impl AliasTable {
     ) -> Result<(), (Alias, SetFault)>
         ensures ok { OnOk result (self.new.held ≡ with_alias self.old.held alias holder address) }
         ensures room { OnOk result (self.old.room ≤ self.new.room + 1) }
-        ensures duplicate { (result ≡ Err (alias, SetFault.Duplicate)) ↔ IsHeldByAnother self.old.held alias holder }
+        ensures duplicate { (result ≡ Err (alias, SetFault.Duplicate))
+            ↔ IsHeldByAnother self.old.held alias holder }
         ensures reserved { 0 < self.old.room → result ≢ Err (alias, SetFault.Memory) }
         ensures alias { IfErr result (λ e. e.0 ≡ alias) }
         ensures err { OnErr result (Becomes self.old self.new self.old.held) }
@@ -132,11 +136,12 @@ impl AliasTable {
         }
     }
 
-    /// Enters each of the aliases for its holder, within the room that was made, where no other endpoint
-    /// holds one of them.
+    /// Enters each of the aliases for its holder, within the room that was made, where no other
+    /// endpoint holds one of them. This takes no memory.
     pub fn set_all(&mut self, aliases: &[Alias], holder: EndpointId, address: Address)
         requires room { length aliases.now ≤ self.old.room }
-        requires free { (alias : Alias) → Contains aliases.now alias → IsHeldByAnother self.old.held alias holder → ⊥ }
+        requires free { (alias : Alias) → Contains aliases.now alias
+            → IsHeldByAnother self.old.held alias holder → ⊥ }
         ensures held { self.new.held ≡ with_aliases self.old.held aliases.now holder address }
         ensures room { self.old.room ≤ self.new.room + length aliases.now }
     {
@@ -167,7 +172,8 @@ fn index_of(rows: &[Row], alias: &Alias) -> Option<usize>
 
 /// Where the row of the alias stands.
 fn place_of(rows: &[Row], alias: &Alias) -> Option<usize>
-    ensures { MatchOption result (map.get (held_in rows.now) alias.now ≡ None) (IsPlaceOf alias_of alias.now rows.now) }
+    ensures { MatchOption result (map.get (held_in rows.now) alias.now ≡ None)
+        (IsPlaceOf alias_of alias.now rows.now) }
 {
     index_of(rows, alias)
 }

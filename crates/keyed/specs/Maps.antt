@@ -23,6 +23,7 @@ module _ {K V : Type 0} {R : K → K → Ordering} where
   total figure m = sum_by figure (values m)
 
 -- a look-up answers this here, and elsewhere as before
-pub record Changed {A B : Type 0} (before after : A → Option B) (a : A) (answer : Option B) : Type 0 where
+pub record Changed {A B : Type 0} (before after : A → Option B) (a : A) (answer : Option B)
+    : Type 0 where
   pub here : after a ≡ answer
   pub others : (b : A) → b ≢ a → after b ≡ before b

@@ -9,7 +9,8 @@ abbrev pub entries_of : {K V X : Type 0} → (X → K) → (X → V) → List X 
 entries_of {K} {V} key value rows = map {B = K × V} (λ r. (key r, value r)) rows
 
 -- the map of these rows
-abbrev pub map_of : {K V X : Type 0} {R : K → K → Ordering} → (X → K) → (X → V) → List X → FinMap R V
+abbrev pub map_of : {K V X : Type 0} {R : K → K → Ordering}
+    → (X → K) → (X → V) → List X → FinMap R V
 map_of key value rows = from_entries (entries_of key value rows)
 
 -- what stands where in a list

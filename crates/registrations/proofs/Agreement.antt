@@ -1,7 +1,6 @@
 -- How the registrations and the table of the aliases keep in agreement.
-use Rattle.std.proofs.Common.{◌≡◌, ◌≢◌, ◌&&◌, ◌||◌, ℕ, Bool, true, false, not, cond, List, [], ◌∷◌, refl, sym, ◌∙◌, ap, subst, arith, Some, None}
-use Rattle.std.specs.Prelude.{Option, Contains, filter}
-use Rattle.std.specs.List.{list_any}
+use Rattle.std.proofs.Common.{◌≡◌, ◌≢◌, ◌&&◌, ℕ, Bool, true, false, not, cond, List, [], ◌∷◌, refl, sym, ◌∙◌, ap, subst, arith, Some, None}
+use Rattle.std.specs.Prelude.{Option, Contains}
 use Rattle.std.specs.Option.{option_map}
 use Rattle.std.specs.Ordering.{nat_cmp}
 use Rattle.std.specs.Cmp.Lexicographic.{slice_cmp}
@@ -9,14 +8,14 @@ use Rattle.std.specs.FinMap as fin
 use Rattle.std.proofs.lemmas.Cmp.{nat_list_cmp_total}
 use Rattle.std.proofs.lemmas.Map.Lookups.{exact_bytes}
 use Rattle.keyed.specs.Maps.{update, Changed}
-use Rattle.keyed.proofs.Decide.{by_member, Contains-parts, any_decides, some_none, same_some, test_false}
+use Rattle.keyed.proofs.Decide.{by_member, Contains-parts, any_decides, some_none, same_some}
 use Rattle.keyed.proofs.Maps.{by_key, Changed-insert, Changed-remove, Changed-update, insert_over, update_there}
 use Rattle.keyed.proofs.Values.{any_row, no_row_passes}
 use Rattle.ras_module.specs.declared.address.Address.{Address}
 use Rattle.ras_module.specs.declared.alias.Alias.{Alias}
 use Rattle.ras_module.specs.Addresses.{same_address}
 use Rattle.ras_module.specs.Aliases.{same_alias, alias_cmp, has_alias}
-use Rattle.ras_module.specs.Same.{texts_decide, address_decides, alias_decides}
+use Rattle.ras_module.specs.Same.{address_decides, alias_decides}
 use Rattle.aliases.specs.Held.{Held, Holding, holding_by, is_elsewhere, conflicts, with_aliases, without_holder}
 use Rattle.aliases.proofs.Entering.{get-with_aliases, get-with_other_aliases, get-without_holder, get-without_own, get-without_another, was_held}
 use Rattle.registrations.specs.declared.registration.Registration.{Registration}
@@ -71,12 +70,14 @@ Agree-insert live held r agree absent free = record { holds = holds; held_by = h
   held_by : (alias : Alias) (h : Holding) → fin.get (with_aliases held r.aliases r.identifier r.call_signal) alias ≡ Some h
       → (s : Registration) × IsHolder (fin.insert live r.identifier r) alias h s
   held_by alias h e = by_member same_alias alias_decides r.aliases alias _
-      (λ own. let same : holding_by r.identifier r.call_signal ≡ h = same_some _ h (sym (get-with_aliases held r.aliases r.identifier r.call_signal alias own) ∙ e) in
-      (r, record {
-        live_is = ap (fin.get (fin.insert live r.identifier r)) (sym (ap (λ (x : Holding). x.holder) same)) ∙ c.here;
-        has = own;
-        address_is = sym (ap (λ (x : Holding). x.address) same);
-      }))
+      (λ own. let same : holding_by r.identifier r.call_signal ≡ h = same_some _ h (sym (get-with_aliases held r.aliases r.identifier r.call_signal alias own) ∙ e) in (
+        r,
+        record {
+          live_is = ap (fin.get (fin.insert live r.identifier r)) (sym (ap (λ (x : Holding). x.holder) same)) ∙ c.here;
+          has = own;
+          address_is = sym (ap (λ (x : Holding). x.address) same);
+        },
+      ))
       (λ other. let was = sym (get-with_other_aliases held r.aliases r.identifier r.call_signal alias other) ∙ e in
       let by = agree.held_by alias h was in
       let apart : h.holder ≢ r.identifier = λ p. some_none (sym by.1.live_is ∙ (ap (fin.get live) p ∙ absent)) in
@@ -91,9 +92,9 @@ Agree-rewrite live held id old new f agree there is named free =
     let absent : fin.get (fin.remove live id) new.identifier ≡ None = ap (fin.get (fin.remove live id)) named ∙ (Changed-remove nat_list_cmp_total exact_bytes live id).here in
     let come = Agree-insert (fin.remove live id) (without_holder held id) new gone absent free in
     let map_is : fin.insert (fin.remove live id) new.identifier new ≡ update live id f =
-        ap (λ k. fin.insert (fin.remove live id) k new) named
-        ∙ (insert_over nat_list_cmp_total exact_bytes live id new
-        ∙ (ap (fin.insert live id) (sym is) ∙ sym (update_there nat_list_cmp_total exact_bytes live id old f there))) in
+    ap (λ k. fin.insert (fin.remove live id) k new) named
+    ∙ (insert_over nat_list_cmp_total exact_bytes live id new
+    ∙ (ap (fin.insert live id) (sym is) ∙ sym (update_there nat_list_cmp_total exact_bytes live id old f there))) in
     subst (λ (m : Live). Agree m (with_aliases (without_holder held id) new.aliases id new.call_signal)) map_is
     (subst (λ (k : List ℕ). Agree (fin.insert (fin.remove live id) new.identifier new) (with_aliases (without_holder held id) new.aliases k new.call_signal)) named come)
 
@@ -109,24 +110,25 @@ Agree-update live held id f agree same_signal same_aliases = record {
   held_by = λ alias h e.
       (let by = agree.held_by alias h e in
       by_key nat_list_cmp_total exact_bytes h.holder id ((r : Registration) × IsHolder (update live id f) alias h r)
-      (λ p. (f by.0, record {
-        live_is = ap (fin.get (update live id f)) p ∙ ((Changed-update nat_list_cmp_total exact_bytes live id f).here ∙ ap (option_map f) (ap (fin.get live) (sym p) ∙ by.1.live_is));
-        has = subst (λ (xs : List Alias). Contains xs alias) (sym (same_aliases by.0)) by.1.has;
-        address_is = by.1.address_is ∙ sym (same_signal by.0);
-      }))
-      (λ differ. (by.0, record {
-        live_is = (Changed-update nat_list_cmp_total exact_bytes live id f).others h.holder differ ∙ by.1.live_is;
-        has = by.1.has;
-        address_is = by.1.address_is;
-      })));
+      (λ p. (
+        f by.0,
+        record {
+          live_is = ap (fin.get (update live id f)) p ∙ ((Changed-update nat_list_cmp_total exact_bytes live id f).here ∙ ap (option_map f) (ap (fin.get live) (sym p) ∙ by.1.live_is));
+          has = subst (λ (xs : List Alias). Contains xs alias) (sym (same_aliases by.0)) by.1.has;
+          address_is = by.1.address_is ∙ sym (same_signal by.0);
+        },
+      ))
+      (λ differ. (
+        by.0,
+        record {
+          live_is = (Changed-update nat_list_cmp_total exact_bytes live id f).others h.holder differ ∙ by.1.live_is;
+          has = by.1.has;
+          address_is = by.1.address_is;
+        },
+      )));
 }
 
 -- ---- conflicts
-refused : (a b : Bool) → (a && not b) ≡ true → (a ≡ true) × (b ≡ false)
-refused true true e = absurd (cc e)
-refused true false e = (refl, refl)
-refused false b e = absurd (cc e)
-
 -- the aliases that the table reports are those of registrations with another call signal address
 module _ (live : Live) (held : Held) (agree : Agree live held) (address : Address) where
   elsewhere_is : (alias : Alias) → is_elsewhere address (fin.get held alias) ≡ is_registered_elsewhere live address alias

@@ -1,5 +1,5 @@
 -- What the changes of the table do to the look-ups by identifier and by call signal address.
-use Rattle.std.proofs.Common.{◌≡◌, ◌≢◌, ℕ, Bool, true, false, cond, List, refl, sym, ◌∙◌, ap, subst, inl, inr, ◌⊎◌, Some, None}
+use Rattle.std.proofs.Common.{◌≡◌, ◌≢◌, ℕ, cond, List, refl, sym, ◌∙◌, ap, inl, inr, ◌⊎◌, Some, None}
 use Rattle.std.specs.Prelude.{Option}
 use Rattle.std.specs.Option.{option_map}
 use Rattle.std.specs.Ordering.{nat_cmp}
@@ -8,7 +8,7 @@ use Rattle.std.specs.FinMap as fin
 use Rattle.std.proofs.lemmas.Cmp.{nat_list_cmp_total}
 use Rattle.std.proofs.lemmas.Map.Lookups.{exact_bytes}
 use Rattle.keyed.specs.Maps.{update}
-use Rattle.keyed.proofs.Decide.{by_test, some_none, same_some, test_false}
+use Rattle.keyed.proofs.Decide.{some_none, same_some, test_false}
 use Rattle.keyed.proofs.Maps.{by_key, Changed-insert, Changed-remove, Changed-update}
 use Rattle.keyed.proofs.Values.{find_one, find_none, find_some, find_fails}
 use Rattle.ras_module.specs.declared.address.Address.{Address}
@@ -64,7 +64,7 @@ pub IsConsistent-insert : (live : Live) (r : Registration) → IsConsistent live
 IsConsistent-insert live r sound absent free =
     let c = Changed-insert nat_list_cmp_total exact_bytes live r.identifier r in
     let here = λ (id : List ℕ) (s : Registration) (p : id ≡ r.identifier) (e : fin.get (fin.insert live r.identifier r) id ≡ Some s).
-        same_some r s (sym c.here ∙ (ap (fin.get (fin.insert live r.identifier r)) (sym p) ∙ e)) in
+    same_some r s (sym c.here ∙ (ap (fin.get (fin.insert live r.identifier r)) (sym p) ∙ e)) in
     record {
       own = λ id s e. by_key nat_list_cmp_total exact_bytes id r.identifier (s.identifier ≡ id)
           (λ p. sym (ap (λ (x : Registration). x.identifier) (here id s p e)) ∙ sym p)

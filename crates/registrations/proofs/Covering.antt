@@ -1,11 +1,11 @@
 -- Of more numbers than there are texts, one is not among them.
-use Rattle.std.proofs.Common.{◌≡◌, ◌≢◌, ℕ, zero, suc, ◌+◌, ◌<◌, ◌≤◌, ◌==◌, get_or, Bool, true, false, not, ◌||◌, List, [], ◌∷◌, ◌++◌, length, map, nat_eq, refl, ◌∙◌, ap, subst, arith}
+use Rattle.std.proofs.Common.{◌≡◌, ◌≢◌, ℕ, zero, suc, ◌+◌, ◌<◌, ◌≤◌, ◌==◌, Bool, true, false, not, ◌||◌, List, [], ◌∷◌, ◌++◌, length, map, nat_eq, refl, ◌∙◌, ap, subst, arith}
 use Rattle.std.specs.Prelude.{filter, Contains}
 use Rattle.std.specs.List.{list_any}
 use Rattle.std.specs.Cmp.Lexicographic.{pointwise}
-use Rattle.std.specs.Bool.{Decides}
 use Rattle.std.proofs.lemmas.Bool.Decides.{nat_tests, Decides-eqb}
 use Rattle.std.proofs.lemmas.List.{length-map, length-append}
+use Rattle.keyed.proofs.Decide.{any_decides}
 use Rattle.ras_module.specs.Same.{texts_decide}
 use Rattle.registrations.specs.declared.registration.Registration.{Registration}
 use Rattle.registrations.specs.Numbers.{number_of}
@@ -80,33 +80,9 @@ not_all rows taken start each =
     let most = covers start (length rows + length taken + 1) (map number_of (used rows taken)) each in
     omega (arith, most, length-map (used rows taken) number_of, length-append (map identifier_of rows) taken, length-map rows identifier_of)
 
--- the test of a list decides what it has
-any_decides : (ids : List (List ℕ)) (id : List ℕ) → Decides (has_id ids id) (Contains ids id)
-any_decides [] id = (λ e. absurd (cc e), λ h. absurd (omega (arith, h.1)))
-any_decides (i ∷ ids) id = (forth (any_decides ids id) (pointwise nat_eq i id) refl, back (any_decides ids id)) where
-  forth : Decides (has_id ids id) (Contains ids id) → (b : Bool) → pointwise nat_eq i id ≡ b → (b || has_id ids id) ≡ true → Contains (i ∷ ids) id
-  forth rest true is e = (zero, omega arith, (texts_decide i id).0 is)
-  forth rest false is e = (let h = rest.0 e in (suc h.0, omega (arith, h.1), h.2))
-
-  or_true : (a b : Bool) → b ≡ true → (a || b) ≡ true
-  or_true true b h = refl
-  or_true false b h = h
-
-  place : Decides (has_id ids id) (Contains ids id) → (k : ℕ) → k < length (i ∷ ids) → get_or (i ∷ ids) k id ≡ id → (pointwise nat_eq i id || has_id ids id) ≡ true
-  place rest zero below is = ap (λ b. b || has_id ids id) ((texts_decide i id).1 is)
-  place rest (suc k) below is = or_true (pointwise nat_eq i id) (has_id ids id) (rest.1 (k, omega arith, is))
-
-  back : Decides (has_id ids id) (Contains ids id) → Contains (i ∷ ids) id → (pointwise nat_eq i id || has_id ids id) ≡ true
-  back rest h = place rest h.0 h.1 h.2
-
+-- what the test doesn't find is not in the list
 pub not_among : (ids : List (List ℕ)) (id : List ℕ) → has_id ids id ≡ false → Contains ids id → ⊥
-not_among ids id e h = cc (e, (any_decides ids id).1 h)
-
-pub none_among : (ids : List (List ℕ)) (id : List ℕ) → (Contains ids id → ⊥) → has_id ids id ≡ false
-none_among ids id h = cases (has_id ids id) refl where
-  cases : (b : Bool) → has_id ids id ≡ b → has_id ids id ≡ false
-  cases true is = absurd (h ((any_decides ids id).0 is))
-  cases false is = is
+not_among ids id e h = cc (e, (any_decides (pointwise nat_eq) texts_decide ids id).1 h)
 
 pub neither : (a b : Bool) → (a || b) ≡ false → (a ≡ false) × (b ≡ false)
 neither true b h = absurd (cc h)

@@ -174,10 +174,6 @@ none_named rows id none = sym (get_row rows id) ∙ no_row rows none where
     cases true rest h = absurd (cc h)
     cases false rest h = rest h
 
-pub some_or_none : (o : Option Registration) → IsSome o → o ≡ None → ⊥
-some_or_none None some is = absurd (cc some)
-some_or_none (Some r) some is = cc is
-
 -- what a search of the rows says of the map
 module _ (rows : List Registration) (most lowest : ℕ) (table : IsTable rows most lowest) (live : Live) (is : live_of rows ≡ live) where
   pub placed_live : (i : ℕ) → IfSome (slice_get rows i) (λ r. fin.get live r.identifier ≡ Some r)

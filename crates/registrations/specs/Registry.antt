@@ -15,7 +15,8 @@ use Rattle.registrations.specs.declared.registration.Registration.{Registration}
 abbrev pub Live : Type 0
 Live = FinMap (slice_cmp nat_cmp) Registration
 
--- with the most that there may be, and how many more can be added so that no memory is taken for them
+-- with the most that there may be, and how many more can be added so that no memory is taken for
+-- them
 pub record Registry : Type 0 where
   pub live : Live
   pub most : ℕ
@@ -41,8 +42,8 @@ IsListOf live list = entries_of list ≡ entries live
 abbrev pub at_address : Live → Address → Option Registration
 at_address live address = find (λ r. same_address r.call_signal address) (values live)
 
--- an identifier that may be handed out: no registration has it, it is none of those that are taken, and an
--- EndpointIdentifier has 1 to 128 characters (H.225.0)
+-- an identifier that may be handed out: no registration has it, it is none of those that are taken,
+-- and it has 1 to 128 characters (H.225.0, EndpointIdentifier)
 pub record IsUnused (live : Live) (taken : List (List ℕ)) (id : List ℕ) : Type 0 where
   pub not_live : get live id ≡ None
   pub not_taken : Contains taken id → ⊥
@@ -70,7 +71,8 @@ with_deadline deadline r = record r { deadline = deadline }
 
 -- a full registration takes the place of an earlier one
 abbrev pub after_rewrite : Address → List Alias → ℕ → Registration → Registration
-after_rewrite ras aliases deadline r = record r { ras = ras; aliases = aliases; deadline = deadline }
+after_rewrite ras aliases deadline r =
+    record r { ras = ras; aliases = aliases; deadline = deadline }
 
 -- it was heard now
 abbrev pub after_hear : ℕ → Registration → Registration

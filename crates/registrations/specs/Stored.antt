@@ -1,4 +1,5 @@
--- How the registrations are stored: in rows, of which no two share an identifier or a call signal address.
+-- How the registrations are stored: in rows, of which no two share an identifier or a call signal
+-- address.
 use Rattle.std.specs.Prelude.{◌≤◌, ◌+◌, ℕ, List, length}
 use Rattle.keyed.specs.Places.{row_in, AreApart}
 use Rattle.registrations.specs.declared.registration.Registration.{Registration}

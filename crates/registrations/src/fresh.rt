@@ -25,7 +25,8 @@ pub(crate) fn unused_from(items: &[Registration], taken: &[EndpointId], start: u
 }
 
 fn is_used(items: &[Registration], taken: &[EndpointId], id: &EndpointId) -> bool
-    ensures { result ≡ (list_any (λ r. pointwise nat_eq r.identifier id.now) items.now || list_any (λ i. pointwise nat_eq i id.now) taken.now) }
+    ensures { result ≡ (list_any (λ r. pointwise nat_eq r.identifier id.now) items.now
+        || list_any (λ i. pointwise nat_eq i id.now) taken.now) }
 {
     is_registered(items, id) || taken.contains(id)
 }

@@ -12,3 +12,6 @@ pub use fault::AddFault;
 pub use list::RegistrationList;
 pub use registration::Registration;
 pub use table::Registrations;
+
+#[cfg(test)]
+mod tests;

@@ -19,14 +19,14 @@ use ras_module::{Address, EndpointId, ReplyAliases};
 use std::alloc::{AllocError, Global};
 use std::marker::Model;
 
-/// The registrations of a zone, of which no two share an identifier or a call signal address. Contracts see
-/// a finite map.
+/// The registrations of a zone, of which no two share an identifier or a call signal address.
+/// Contracts see a finite map.
 #[derive(Drop)]
 pub struct Registrations {
     items: Vec<Registration>,
     most: usize,
-    // each lower number is the identifier of a registration, so that the search for an unused one need not
-    // pass them
+    // each lower number is the identifier of a registration, so that the search for an unused one
+    // need not pass them
     lowest: u64,
 }
 
@@ -41,7 +41,11 @@ impl Model for Registrations {
 
     ghost coded = { Prim.hlevel (codes, map.code) };
 
-    ghost view = { λ t. record { live = live_of t.items.items; most = t.most; room = vec_capacity t.items - vec_len t.items } };
+    ghost view = { λ t. record {
+      live = live_of t.items.items;
+      most = t.most;
+      room = vec_capacity t.items - vec_len t.items;
+    } };
 
     ghost invariant = { λ t. IsTable t.items.items t.most t.lowest };
 }
@@ -85,16 +89,19 @@ impl Registrations {
         row_at(&self.items, address)
     }
 
-    /// A registration whose time to live is over: its deadline is not after `now`. None where there is none.
+    /// A registration whose time to live is over: its deadline is not after `now`. None where there is
+    /// none.
     pub fn over(&self, now: u64) -> Option<&Registration>
         ensures over { IfSome result (λ r. r.now.deadline ≤ now) }
         ensures live { IfSome result (λ r. map.get self.now.live r.now.identifier ≡ Some r.now) }
-        ensures none { result ≡ None → (id : List ℕ) (r : Registration) → map.get self.now.live id ≡ Some r → now < r.deadline }
+        ensures none { result ≡ None → (id : List ℕ) (r : Registration)
+            → map.get self.now.live id ≡ Some r → now < r.deadline }
     {
         row_over(&self.items, now)
     }
 
-    /// One registration for each `i` below `len`, and each of them once while the table stands as it is.
+    /// One registration for each `i` below `len`, and each of them once while the table stands as it
+    /// is.
     pub fn nth(&self, i: usize) -> Option<&Registration>
         ensures some { IsSome result ↔ (i < map.len self.now.live) }
         ensures live { IfSome result (λ r. map.get self.now.live r.now.identifier ≡ Some r.now) }
@@ -117,8 +124,8 @@ impl Registrations {
         self.get(id).is_none() && !taken.contains(id)
     }
 
-    /// An identifier that no registration has, and that is not taken: the first number from 1 whose text, in
-    /// at least four decimal digits, is such a one.
+    /// An identifier that no registration has, and that is not taken: the first number from 1 whose
+    /// text, in at least four decimal digits, is such a one.
     pub fn unused(&self, taken: &[EndpointId]) -> EndpointId
         ensures { IsUnused self.now.live taken.now result }
     {
@@ -136,8 +143,9 @@ impl Registrations {
         self.items.reserve(more)
     }
 
-    /// Registers an endpoint under an unused identifier, which is written into the registration. Nothing is
-    /// added where the table is full, and for want of memory, which is never where there is room.
+    /// Registers an endpoint under an unused identifier, which is written into the registration.
+    /// Nothing is added where the table is full, and for want of memory, which is never where there is
+    /// room.
     pub fn add(
         &mut self,
         registration: Registration,
@@ -145,7 +153,8 @@ impl Registrations {
     ) -> Result<EndpointId, AddFault>
         requires { at_address self.old.live registration.call_signal ≡ None }
         ensures unused { IfOk result (IsUnused self.old.live taken.now) }
-        ensures ok { IfOk result (λ id. Adds self.old self.new (map.insert self.old.live id (with_identifier id registration))) }
+        ensures ok { IfOk result (λ id. Adds self.old self.new
+            (map.insert self.old.live id (with_identifier id registration))) }
         ensures full { (result ≡ Err AddFault.Full) ↔ (map.len self.old.live ≡ self.old.most) }
         ensures reserved { 0 < self.old.room → result ≢ Err AddFault.Memory }
         ensures err { OnErr result (Becomes self.old self.new self.old.live) }
@@ -163,7 +172,8 @@ impl Registrations {
     pub fn insert(&mut self, registration: Registration) -> Result<(), AddFault>
         requires identifier { map.get self.old.live registration.identifier ≡ None }
         requires address { at_address self.old.live registration.call_signal ≡ None }
-        ensures ok { OnOk result (Adds self.old self.new (map.insert self.old.live registration.identifier registration)) }
+        ensures ok { OnOk result (Adds self.old self.new
+            (map.insert self.old.live registration.identifier registration)) }
         ensures full { (result ≡ Err AddFault.Full) ↔ (map.len self.old.live ≡ self.old.most) }
         ensures reserved { 0 < self.old.room → result ≢ Err AddFault.Memory }
         ensures err { OnErr result (Becomes self.old self.new self.old.live) }
@@ -196,14 +206,14 @@ impl Registrations {
         ensures { Becomes self.old self.new (update self.old.live id.now (with_deadline deadline)) }
     {
         let place = live_place(&self.items, id);
-        let row = &mut self.items[place];
-        row.deadline = deadline;
+        self.items[place].deadline = deadline;
     }
 
     /// Replaces what an endpoint registered, but for its call signal address.
     pub fn rewrite(&mut self, id: &EndpointId, ras: Address, aliases: ReplyAliases, deadline: u64)
         requires { IsSome (map.get self.old.live id.now) }
-        ensures { Becomes self.old self.new (update self.old.live id.now (after_rewrite ras aliases deadline)) }
+        ensures { Becomes self.old self.new
+            (update self.old.live id.now (after_rewrite ras aliases deadline)) }
     {
         let place = live_place(&self.items, id);
         let row = &mut self.items[place];
@@ -240,8 +250,7 @@ impl Registrations {
         ensures { Becomes self.old self.new (update self.old.live id.now after_calm) }
     {
         let place = live_place(&self.items, id);
-        let row = &mut self.items[place];
-        row.tries = 0;
+        self.items[place].tries = 0;
     }
 }
 
@@ -290,7 +299,8 @@ fn index_of(items: &[Registration], id: &EndpointId) -> Option<usize>
 
 /// Where the registration under this identifier stands.
 fn place_of(items: &[Registration], id: &EndpointId) -> Option<usize>
-    ensures { MatchOption result (map.get (live_of items.now) id.now ≡ None) (IsPlaceOf identifier_of id.now items.now) }
+    ensures { MatchOption result (map.get (live_of items.now) id.now ≡ None)
+        (IsPlaceOf identifier_of id.now items.now) }
 {
     index_of(items, id)
 }

@@ -25,7 +25,7 @@ loop-alias-preserved c =
     let ok = rw c.unwrap.ensures at c.set.ensures.ok in
     let room = rw c.unwrap.ensures at c.set.ensures.room in
     let held =
-        ok ∙ (ap (λ h. with_alias h alias c.args.holder c.args.address) c.loop-alias.invariant.0
-        ∙ (sym (with_aliases-push c.args.self.now.held (take i list) alias c.args.holder c.args.address)
-        ∙ ap (λ l. with_aliases c.args.self.now.held l c.args.holder c.args.address) (sym more))) in
+    ok ∙ (ap (λ h. with_alias h alias c.args.holder c.args.address) c.loop-alias.invariant.0
+    ∙ (sym (with_aliases-push c.args.self.now.held (take i list) alias c.args.holder c.args.address)
+    ∙ ap (λ l. with_aliases c.args.self.now.held l c.args.holder c.args.address) (sym more))) in
     (held, omega (arith, room, c.loop-alias.invariant.1))
