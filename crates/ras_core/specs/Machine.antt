@@ -48,7 +48,11 @@ serve z now (Rrq seq call_signal ras aliases gatekeeper time_to_live keep_alive 
       endpoint = endpoint;
     }) given)
 serve z now (Urq seq call_signal endpoint) given =
-    hearing now endpoint (Some (unregistration z seq call_signal endpoint))
+    hearing now endpoint (Some (unregistration z (record {
+      seq = seq;
+      call_signal = call_signal;
+      endpoint = endpoint;
+    })))
 serve z now other given = None
 
 -- an outcome, and the zone that it leaves

@@ -6,6 +6,7 @@ use Rattle.ras_module.specs.declared.reason.UnregRejectReason.TheVariants.{NotCu
 use Rattle.ras_module.specs.declared.reply.Reply.TheVariants.{Ucf, Urj}
 use Rattle.registrations.specs.declared.registration.Registration.{Registration}
 use Rattle.registrations.specs.Registry.{at_address}
+use Rattle.ras_core.specs.declared.registering.Unregistering.{Unregistering}
 use Rattle.ras_core.specs.State.{State, Served, unchanged, with_live}
 
 -- by the identifier where one is given, and else by the call signal address
@@ -21,5 +22,5 @@ departure z seq (Some r) =
     record { reply = Ucf seq; given = None; zone = with_live z (remove z.live r.identifier) }
 
 -- a URQ
-abbrev pub unregistration : State → ℕ → Option Address → Option (List ℕ) → Served
-unregistration z seq call_signal endpoint = departure z seq (leaving z endpoint call_signal)
+abbrev pub unregistration : State → Unregistering → Served
+unregistration z q = departure z q.seq (leaving z q.endpoint q.call_signal)

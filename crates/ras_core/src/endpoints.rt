@@ -1,9 +1,10 @@
 //! The endpoints of a zone, with the table of their aliases.
 
-ghost use Rattle.std.specs.Prelude.{◌≡◌, ◌≤◌, ◌==◌, [], None, IfOk, OnOk, OnErr};
+ghost use Rattle.std.specs.Prelude.{◌≡◌, ◌≤◌, [], IsSome, IfOk, OnOk, OnErr};
 ghost use Rattle.std.specs.Option.{option_copied};
 ghost use Rattle.std.specs.FinMap as map;
-ghost use Rattle.registrations.specs.Registry.{at_address, IsConsistent, IsListOf, IsUnused};
+ghost use Rattle.keyed.specs.Maps.{update};
+ghost use Rattle.registrations.specs.Registry.{at_address, IsConsistent, IsListOf, IsUnused, with_deadline};
 ghost use Rattle.registrations.specs.Agreement.{registered_elsewhere};
 ghost use Rattle.ras_core.specs.State.{heard_now};
 ghost use Rattle.ras_core.specs.Changes.{IsAddable, IsPossible, IsRewritable, after_change};
@@ -59,18 +60,19 @@ impl Endpoints {
         ensures endpoints { IsConsistent self.now.live }
         ensures aliases { HaveAliasesApart self.now.live }
     {
-        let _endpoint = self.registrations.nth(0);
         self.registrations.len()
     }
 
     pub fn get(&self, id: &EndpointId) -> Option<&Registration>
-        ensures { option_copied result ≡ map.get self.now.live id.now }
+        ensures found { option_copied result ≡ map.get self.now.live id.now }
+        ensures sound { IsConsistent self.now.live }
     {
         self.registrations.get(id)
     }
 
     pub fn by_address(&self, address: Address) -> Option<&Registration>
-        ensures { option_copied result ≡ at_address self.now.live address }
+        ensures found { option_copied result ≡ at_address self.now.live address }
+        ensures sound { IsConsistent self.now.live }
     {
         self.registrations.by_address(address)
     }
@@ -116,12 +118,20 @@ impl Endpoints {
     {
         match change {
             Change::Nothing => {}
-            Change::Renewal(id, deadline) => self.registrations.renew(&id, deadline),
+            Change::Renewal(id, deadline) => self.renew(&id, deadline),
             Change::Rewriting(id, entry, deadline) => self.rewrite(now, id, entry, deadline)?,
             Change::Addition(registration) => self.add(registration)?,
             Change::Removal(id) => self.remove(&id),
         }
         Ok(())
+    }
+
+    fn renew(&mut self, id: &EndpointId, deadline: u64)
+        requires { IsSome (map.get self.old.live id.now) }
+        ensures live { self.new.live ≡ update self.old.live id.now (with_deadline deadline) }
+        ensures most { self.new.most ≡ self.old.most }
+    {
+        self.registrations.renew(id, deadline);
     }
 
     fn rewrite(
@@ -141,6 +151,7 @@ impl Endpoints {
             ras,
             aliases,
         } = entry;
+        let _consistent = self.registrations.len();
         self.aliases.reserve(aliases.as_slice().len())?;
         self.aliases.drop_holder(&id);
         self.aliases.set_all(aliases.as_slice(), id, call_signal);

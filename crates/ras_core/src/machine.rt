@@ -23,7 +23,7 @@ use crate::event::Event;
 use crate::fault::StepFault;
 use crate::moment::Moment;
 use crate::outcome::{Datagram, IgnoredCause, Note, Outcome};
-use crate::registering::{Entry, Registering};
+use crate::registering::{Entry, Registering, Unregistering};
 use ras_codec::{ReadFault, read, write_into};
 use ras_module::{
     Address, EndpointId, GatekeeperRejectReason, Name, Octets, RegistrationRejectReason, Reply,
@@ -269,36 +269,26 @@ impl Machine {
     }
 
     /// Whom an UnregistrationRequest means: by its identifier where it has one, else by its address.
-    fn leaving(
-        &self,
-        endpoint: Option<EndpointId>,
-        call_signal: Option<Address>,
-    ) -> Option<EndpointId>
-        ensures { result ≡ option_map (λ r. r.identifier) (leaving self.now endpoint call_signal) }
+    fn leaving(&self, q: &Unregistering) -> Option<EndpointId>
+        ensures { result ≡ option_map (λ r. r.identifier) (leaving self.now q.now.endpoint q.now.call_signal) }
     {
-        let found = match endpoint {
+        let found = match q.endpoint {
             Some(id) => self.endpoints.get(&id),
-            None => self.endpoints.by_address(call_signal?),
+            None => self.endpoints.by_address(q.call_signal?),
         };
         found.map(|r| r.identifier)
     }
 
-    fn unregister(
-        &self,
-        now: Moment,
-        seq: RequestSeqNum,
-        call_signal: Option<Address>,
-        endpoint: Option<EndpointId>,
-    ) -> Decision
-        ensures { Decides self.now now (λ _. Some (unregistration self.now seq call_signal endpoint)) result }
+    fn unregister(&self, now: Moment, q: &Unregistering) -> Decision
+        ensures { Decides self.now now (λ _. Some (unregistration self.now q.now)) result }
     {
-        match self.leaving(endpoint, call_signal) {
+        match self.leaving(q) {
             None => Decision::reply(Reply::Urj {
-                seq,
+                seq: q.seq,
                 reason: UnregRejectReason::NotCurrentlyRegistered,
             }),
             Some(id) => Decision {
-                reply: Reply::Ucf { seq },
+                reply: Reply::Ucf { seq: q.seq },
                 given: None,
                 change: Change::Removal(id),
             },
@@ -348,6 +338,34 @@ impl Machine {
         })
     }
 
+    fn serve_registration(
+        &mut self,
+        now: Moment,
+        source: Source,
+        q: &Registering,
+    ) -> Result<Outcome, AllocError>
+        ensures ok { IfOk result (λ outcome. answered source (hearing now q.now.endpoint (registration self.old now q.now outcome.given)) ≡ Some (outcome, self.new)) }
+        ensures unused { IfOk result (λ outcome. IfSome outcome.given (IsUnused self.old.live [])) }
+        ensures err { OnErr result (self.new ≡ self.old) }
+    {
+        let decision = self.register(now, q)?;
+        self.carry_out(now, source, q.endpoint, decision)
+    }
+
+    fn serve_unregistration(
+        &mut self,
+        now: Moment,
+        source: Source,
+        q: &Unregistering,
+    ) -> Result<Outcome, AllocError>
+        ensures ok { IfOk result (λ outcome. answered source (hearing now q.now.endpoint (Some (unregistration self.old q.now))) ≡ Some (outcome, self.new)) }
+        ensures unused { IfOk result (λ outcome. IfSome outcome.given (IsUnused self.old.live [])) }
+        ensures err { OnErr result (self.new ≡ self.old) }
+    {
+        let decision = self.unregister(now, q);
+        self.carry_out(now, source, q.endpoint, decision)
+    }
+
     fn serve(
         &mut self,
         now: Moment,
@@ -383,16 +401,19 @@ impl Machine {
                     keep_alive,
                     endpoint,
                 };
-                let decision = self.register(now, &q)?;
-                self.carry_out(now, source, endpoint, decision)
+                self.serve_registration(now, source, &q)
             }
             Request::Urq {
                 seq,
                 call_signal,
                 endpoint,
             } => {
-                let decision = self.unregister(now, seq, call_signal, endpoint);
-                self.carry_out(now, source, endpoint, decision)
+                let q = Unregistering {
+                    seq,
+                    call_signal,
+                    endpoint,
+                };
+                self.serve_unregistration(now, source, &q)
             }
             _ => Ok(ignored(IgnoredCause::NotServed)),
         }

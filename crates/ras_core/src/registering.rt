@@ -1,4 +1,4 @@
-//! What a RegistrationRequest asks for.
+//! What a request for registration or unregistration asks for.
 
 use ras_module::{Address, AliasList, EndpointId, Name, ReplyAliases, RequestSeqNum, TimeToLive};
 
@@ -12,6 +12,14 @@ pub struct Registering {
     pub gatekeeper: Option<Name>,
     pub time_to_live: Option<TimeToLive>,
     pub keep_alive: bool,
+    pub endpoint: Option<EndpointId>,
+}
+
+/// An UnregistrationRequest (H.225.0, URQ).
+#[derive(Clone, Copy)]
+pub struct Unregistering {
+    pub seq: RequestSeqNum,
+    pub call_signal: Option<Address>,
     pub endpoint: Option<EndpointId>,
 }
 
