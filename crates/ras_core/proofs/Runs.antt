@@ -4,7 +4,7 @@ use Rattle.std.proofs.lemmas.List.{take_more, append-nil}
 use Rattle.std.specs.List.{zip}
 use Rattle.ras_core.specs.declared.event.Event.{Event}
 use Rattle.ras_core.specs.declared.outcome.Outcome.{Outcome}
-use Rattle.ras_core.specs.Machine.{State}
+use Rattle.ras_core.specs.State.{State}
 use Rattle.ras_core.specs.Steps.{Step, Run, RunsOn}
 
 pub run_of_nothing : (z : State) (old : List Outcome) → RunsOn z [] old old z

@@ -1,5 +1,10 @@
 pub mod Defaults
 pub mod Ranges
+pub mod State
+pub mod Discovery
+pub mod Registering
+pub mod Unregistering
 pub mod Machine
+pub mod Changes
 pub mod Steps
 pub mod Soundness

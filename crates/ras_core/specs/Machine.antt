@@ -1,79 +1,109 @@
 -- The zone as a machine: what each event is answered, and what it leaves.
-use Rattle.std.specs.Prelude.{ℕ, ◌+◌, ◌^◌, Bool, false, not, nat_eq, nat_lt, max, List, length, Option, None, Some, Result, Ok, Err, if◌then◌else◌}
-use Rattle.std.specs.Cmp.Lexicographic.{pointwise}
+use Rattle.std.specs.Prelude.{ℕ, ◌+◌, ◌^◌, Bool, true, false, nat_lt, max, List, length, Option, None, Some, Result, Ok, Err, if◌then◌else◌}
 use Rattle.ras_module.specs.declared.address.Address.{Address}
-use Rattle.ras_module.specs.declared.reason.GatekeeperRejectReason.TheVariants.{TerminalExcluded}
-use Rattle.ras_module.specs.declared.reply.Reply.{Reply}
-use Rattle.ras_module.specs.declared.reply.Reply.TheVariants.{Gcf, Grj}
 use Rattle.ras_module.specs.declared.request.Request.{Request}
-use Rattle.ras_module.specs.declared.request.Request.TheVariants.{Grq}
+use Rattle.ras_module.specs.declared.request.Request.TheVariants.{Grq, Rrq, Urq}
 use Rattle.ras_codec.specs.Messages.{message_reading}
 use Rattle.ras_codec.specs.Replies.{encoding_of}
 use Rattle.ras_codec.specs.declared.fault.ReadFault.{ReadFault}
-use Rattle.ras_core.specs.declared.config.ConfigParts.{ConfigParts}
 use Rattle.ras_core.specs.declared.event.Event.{Event}
 use Rattle.ras_core.specs.declared.event.Event.TheVariants.{Datagram}
 use Rattle.ras_core.specs.declared.outcome.IgnoredCause.{IgnoredCause}
 use Rattle.ras_core.specs.declared.outcome.IgnoredCause.TheVariants.{TooLong, Unreadable, NotServed}
 use Rattle.ras_core.specs.declared.outcome.Note.TheVariants.{Served, Ignored}
 use Rattle.ras_core.specs.declared.outcome.Outcome.{Outcome}
+use Rattle.ras_core.specs.State as state
+use Rattle.ras_core.specs.State.{State, heard_now, with_live, unchanged}
+use Rattle.ras_core.specs.Discovery.{discovery}
+use Rattle.ras_core.specs.Registering.{registration}
+use Rattle.ras_core.specs.Unregistering.{unregistration}
 
--- What a zone is: its settings, the clock in milliseconds, and how many steps were made.
-pub record State : Type 0 where
-  pub config : ConfigParts
-  pub clock : ℕ
-  pub steps : ℕ
+-- The endpoint that a served request names was heard, whatever the reply, where it is registered and stays
+-- so. (Where the very identifier is handed out in this step, its registration was heard now as it is.)
+abbrev pub hearing : ℕ → Option (List ℕ) → Option state.Served → Option state.Served
+hearing now (Some id) (Some s) = Some (record s { zone = with_live s.zone (heard_now now id s.zone.live) })
+hearing now None served = served
+hearing now (Some id) None = None
 
--- the zone before its first step
-abbrev pub opening : ConfigParts → State
-opening config = record { config = config; clock = 0; steps = 0 }
+-- the requests that are served
+abbrev pub is_served : Request → Bool
+is_served (Grq seq gatekeeper) = true
+is_served (Rrq seq call_signal ras aliases gatekeeper time_to_live keep_alive endpoint) = true
+is_served (Urq seq call_signal endpoint) = true
+is_served other = false
 
--- a gatekeeper was named, and it is another one (H.225.0, gatekeeperIdentifier)
-abbrev pub is_foreign : State → Option (List ℕ) → Bool
-is_foreign z None = false
-is_foreign z (Some name) = not (pointwise nat_eq name z.config.identifier)
+-- What a request is answered and leaves at this moment, where the identifier is the one that is handed out;
+-- none where it calls for one and there is none.
+abbrev pub serve : State → ℕ → Request → Option (List ℕ) → Option state.Served
+serve z now (Grq seq gatekeeper) given = Some (unchanged z (discovery z seq gatekeeper))
+serve z now (Rrq seq call_signal ras aliases gatekeeper time_to_live keep_alive endpoint) given =
+    hearing now endpoint (registration z now (record {
+      seq = seq;
+      call_signal = call_signal;
+      ras = ras;
+      aliases = aliases;
+      gatekeeper = gatekeeper;
+      time_to_live = time_to_live;
+      keep_alive = keep_alive;
+      endpoint = endpoint;
+    }) given)
+serve z now (Urq seq call_signal endpoint) given =
+    hearing now endpoint (Some (unregistration z (record {
+      seq = seq;
+      call_signal = call_signal;
+      endpoint = endpoint;
+    })))
+serve z now other given = None
 
--- Gatekeeper discovery (H.323, 7.2.1): the gatekeeper makes itself known, with its name and its RAS
--- address, to whoever asks for none or for this one.
-abbrev pub discovery : State → ℕ → Option (List ℕ) → Reply
-discovery z seq gatekeeper =
-    if is_foreign z gatekeeper
-    then Grj seq TerminalExcluded
-    else Gcf seq z.config.identifier z.config.address
+-- an outcome, and the zone that it leaves
+abbrev pub Answer : Type 0
+Answer = Option (Outcome × State)
 
--- the reply to a request, where it is served
-abbrev pub reply_to : State → Request → Option Reply
-reply_to z (Grq seq gatekeeper) = Some (discovery z seq gatekeeper)
-reply_to z other = None
-
-abbrev pub ignored : IgnoredCause → Outcome
-ignored cause = record { output = None; note = Ignored cause }
+abbrev pub ignored : State → IgnoredCause → Answer
+ignored z cause = Some (record { output = None; note = Ignored cause; given = None }, z)
 
 -- a reply goes to where the request came from
-abbrev pub answered : Address → Option Reply → Outcome
-answered source None = ignored NotServed
-answered source (Some reply) =
-    record { output = Some (record { to = source; bytes = encoding_of reply }); note = Served }
+abbrev pub answered : Address → Option state.Served → Answer
+answered source None = None
+answered source (Some s) = Some (record {
+  output = Some (record { to = source; bytes = encoding_of s.reply });
+  note = Served;
+  given = s.given;
+}, s.zone)
 
-abbrev pub read_outcome : State → Address → Result (Option Request) ReadFault → Outcome
-read_outcome z source (Err fault) = ignored Unreadable
-read_outcome z source (Ok None) = ignored NotServed
-read_outcome z source (Ok (Some request)) = answered source (reply_to z request)
+abbrev pub request_answer : State → ℕ → Address → Request → Option (List ℕ) → Answer
+request_answer z now source request given =
+    if is_served request
+    then answered source (serve z now request given)
+    else ignored z NotServed
+
+abbrev pub read_answer : State → ℕ → Address → Result (Option Request) ReadFault → Option (List ℕ) → Answer
+read_answer z now source (Err fault) given = ignored z Unreadable
+read_answer z now source (Ok None) given = ignored z NotServed
+read_answer z now source (Ok (Some request)) given = request_answer z now source request given
 
 -- a datagram falls under the first that applies: it is too long, unreadable, not served, or served
-abbrev pub datagram_outcome : State → Address → List ℕ → Outcome
-datagram_outcome z source bytes =
+abbrev pub datagram_answer : State → ℕ → Address → List ℕ → Option (List ℕ) → Answer
+datagram_answer z now source bytes given =
     if nat_lt 4096 (length bytes)
-    then ignored TooLong
-    else read_outcome z source (message_reading bytes)
+    then ignored z TooLong
+    else read_answer z now source (message_reading bytes) given
+
+-- the clock stands at now, and so many steps are made
+abbrev pub at_moment : ℕ → ℕ → Answer → Answer
+at_moment now steps None = None
+at_moment now steps (Some answer) = Some (answer.0, record answer.1 { clock = now; steps = steps })
 
 -- so many steps are made, and no more
 abbrev pub most_steps : ℕ
 most_steps = 2 ^ 62
 
--- One event: its outcome and the zone after it; none where the zone is closed. The clock never goes back.
-abbrev pub machine : State → Event → Option (Outcome × State)
-machine z (Datagram source bytes moment) =
+-- One event, where the identifier is the one that is handed out: its outcome and the zone after it. There is
+-- none where the zone is closed, nor where an identifier is called for and there is none. The clock never
+-- goes back.
+abbrev pub machine : State → Event → Option (List ℕ) → Answer
+machine z (Datagram source bytes moment) given =
     if nat_lt z.steps most_steps
-    then Some (datagram_outcome z source bytes, record z { clock = max z.clock moment; steps = z.steps + 1 })
+    then at_moment (max z.clock moment) (z.steps + 1)
+        (datagram_answer z (max z.clock moment) source bytes given)
     else None

@@ -1,14 +1,17 @@
 -- Steps of the machine, and runs.
-use Rattle.std.specs.Prelude.{◌≡◌, ◌≤◌, ◌++◌, List, [], ◌∷◌, length, Some, Option, None}
+use Rattle.std.specs.Prelude.{◌≡◌, ◌≤◌, ◌++◌, List, [], ◌∷◌, length, Some, Option, None, IfSome}
 use Rattle.std.specs.List.{zip}
+use Rattle.registrations.specs.Registry.{IsUnused}
 use Rattle.ras_core.specs.declared.event.Event.{Event}
 use Rattle.ras_core.specs.declared.outcome.Datagram.{Datagram}
 use Rattle.ras_core.specs.declared.outcome.Outcome.{Outcome}
-use Rattle.ras_core.specs.Machine.{State, machine}
+use Rattle.ras_core.specs.State.{State}
+use Rattle.ras_core.specs.Machine.{machine}
 
--- From z, the event has this outcome and leaves the zone so.
+-- From z, the event has this outcome and leaves the zone so. An identifier that is handed out was unused.
 pub record Step (z : State) (event : Event) (outcome : Outcome) (after : State) : Type 0 where
-  pub makes : machine z event ≡ Some (outcome, after)
+  pub unused : IfSome outcome.given (IsUnused z.live [])
+  pub makes : machine z event outcome.given ≡ Some (outcome, after)
 
 -- step after step, over entries of an event with its outcome
 abbrev pub Run : State → List (Event × Outcome) → State → Type 0

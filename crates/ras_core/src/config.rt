@@ -1,11 +1,11 @@
 //! What is set for a zone.
 
-ghost use Rattle.std.specs.Prelude.{◌≡◌, ◌<◌, None};
+ghost use Rattle.std.specs.Prelude.{◌≡◌, ◌≤◌, ◌<◌, None};
 ghost use Rattle.std.specs.Option.{option_copied};
 ghost use Rattle.ras_core.specs.Ranges.{range_fault, is_outside, IsConfigAnswer};
 ghost use Rattle.ras_core.specs.Defaults.{default_parts};
 
-use ras_module::{Address, Name};
+use ras_module::{Address, Name, TimeToLive};
 use std::marker::Model;
 use thiserror::Error;
 
@@ -169,5 +169,20 @@ impl Config {
         ensures ranges { range_fault self.now ≡ None }
     {
         &self.parts
+    }
+
+    /// The time to live of the zone.
+    pub(crate) fn time_to_live(&self) -> TimeToLive
+        ensures { result ≡ self.now.time_to_live }
+    {
+        TimeToLive::new(self.parts.time_to_live as u32).unwrap()
+    }
+
+    /// How many endpoints there may be.
+    pub(crate) fn endpoints(&self) -> usize
+        ensures same { result ≡ self.now.endpoints }
+        ensures few { result ≤ 20000 }
+    {
+        self.parts.endpoints as usize
     }
 }

@@ -2,12 +2,15 @@
 //! duties; ITU-T H.225.0, RAS). Nothing here waits, prints or reads a clock: moments are handed in.
 #![tactic(auto)]
 
+mod change;
 mod config;
+mod endpoints;
 mod event;
 mod fault;
 mod machine;
 mod moment;
 mod outcome;
+mod registering;
 mod zone;
 
 pub use config::{Config, ConfigFault, ConfigParts};

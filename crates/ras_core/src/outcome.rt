@@ -1,6 +1,6 @@
 //! What a step answers.
 
-use ras_module::{Octets, Source};
+use ras_module::{EndpointId, Octets, Source};
 
 /// Octets that go to an address.
 #[derive(PartialEq, Eq, Debug, Drop)]
@@ -29,9 +29,11 @@ pub enum Note {
     Ignored(IgnoredCause),
 }
 
-/// What a step did: what is sent, of at most 20,000 octets, and what happened.
-#[derive(PartialEq, Eq, Debug, Drop)]
+/// What a step did: what is sent, of at most 20,000 octets, what happened, and the identifier that was
+/// handed out to a new endpoint.
+#[derive(PartialEq, Eq, Drop)]
 pub struct Outcome {
     pub output: Option<Datagram>,
     pub note: Note,
+    pub given: Option<EndpointId>,
 }

@@ -1,7 +1,9 @@
 //! The zone.
 
 ghost use Rattle.std.specs.Prelude.{◌≡◌, ◌<◌, ◌≤◌, ◌↔◌, IfOk, OnOk, OnErr, IfErr, IsTrue, take, length, vec_len, vec_capacity, ◌++◌, ◌∷◌, []};
-ghost use Rattle.ras_core.specs.Machine.{opening, most_steps};
+ghost use Rattle.registrations.specs.Registry.{IsListOf};
+ghost use Rattle.ras_core.specs.State.{opening};
+ghost use Rattle.ras_core.specs.Machine.{most_steps};
 ghost use Rattle.ras_core.specs.Steps.{Step, RunsOn, HasFewOctets};
 ghost use Rattle.ras_core.specs.Soundness.{Sound};
 
@@ -11,7 +13,8 @@ use crate::fault::{NewFault, StepFault};
 use crate::machine::Machine;
 use crate::moment::Moment;
 use crate::outcome::Outcome;
-use std::alloc::Global;
+use registrations::RegistrationList;
+use std::alloc::{AllocError, Global};
 use std::marker::Model;
 
 /// The zone of one gatekeeper. Contracts see its state, which is always sound.
@@ -21,10 +24,14 @@ pub struct Zone {
 }
 
 impl Model for Zone {
-    ghost use Rattle.ras_core.specs.Machine.{State};
+    ghost use Rattle.std.specs.Coded.{codes};
+    ghost use Rattle.std.specs.FinMap as map;
+    ghost use Rattle.ras_core.specs.State.{State};
     ghost use Rattle.ras_core.specs.Soundness.{Sound};
 
     ghost Value = { State };
+
+    ghost coded = { Prim.hlevel (codes, map.code) };
 
     ghost view = { λ z. z.machine };
 
@@ -37,10 +44,9 @@ impl Zone {
         ensures opening { IfOk result (λ zone. zone ≡ opening config) }
         ensures sound { IfOk result Sound }
     {
-        let _ranges = config.parts();
-        Ok(Zone {
-            machine: Machine::new(alloc, config),
-        })
+        let machine = Machine::new(alloc, config);
+        let _sound = machine.len();
+        Ok(Zone { machine })
     }
 
     /// One step of the machine: what it answers to the event, of at most 20,000 octets. It is refused as
@@ -60,7 +66,17 @@ impl Zone {
         ensures err { OnErr result (self.new ≡ self.old) }
         ensures sound { Sound self.new }
     {
-        self.machine.step(event)
+        let outcome = self.machine.step(event);
+        let _sound = self.machine.len();
+        outcome
+    }
+
+    /// The endpoints that are registered, by rising identifier: character by character, a prefix before what
+    /// it begins.
+    pub fn endpoints(&self) -> Result<RegistrationList, AllocError>
+        ensures { IfOk result (IsListOf self.now.live) }
+    {
+        self.machine.list()
     }
 
     /// The clock: the latest moment of an event so far.

@@ -1,5 +1,5 @@
 -- Aliases, compared and in order.
-use Rattle.std.specs.Prelude.{ℕ, List, Bool, false, nat_eq}
+use Rattle.std.specs.Prelude.{ℕ, List, [], ◌∷◌, Bool, false, not, nat_eq, filter}
 use Rattle.std.specs.List.{list_any}
 use Rattle.std.specs.declared.cmp.Ordering.{Ordering}
 use Rattle.std.specs.Ordering.{nat_cmp, ordering_then}
@@ -16,6 +16,12 @@ same_alias (H323Id a) (Digits b) = false
 
 abbrev pub has_alias : List Alias → Alias → Bool
 has_alias aliases alias = list_any (λ a. same_alias a alias) aliases
+
+-- later doubles are dropped: the head, and then the rest without its likes
+abbrev pub without_doubles : List Alias → List Alias
+without_doubles [] = []
+without_doubles (alias ∷ aliases) =
+    alias ∷ filter (λ a. not (same_alias alias a)) (without_doubles aliases)
 
 abbrev pub kind_of : Alias → ℕ
 kind_of (Digits a) = 0

@@ -2,7 +2,7 @@
 
 ghost use Rattle.std.specs.Prelude.{◌≡◌, ◌↔◌, ◌++◌, ◌∷◌, ◌≤◌, [], length, IfOk, OnOk, OnErr, IsTrue, MatchResult, ◌<◌};
 ghost use Rattle.std.specs.Cmp.Lexicographic.{pointwise};
-ghost use Rattle.ras_module.specs.Aliases.{same_alias};
+ghost use Rattle.ras_module.specs.Aliases.{same_alias, has_alias, without_doubles};
 ghost use Rattle.ras_module.specs.Same.{aliases_equivalence, aliases_partial_equivalence};
 
 use crate::alias::Alias;
@@ -75,6 +75,26 @@ impl AliasList {
     {
         self.items.push(alias)?;
         Ok(())
+    }
+
+    /// Whether an alias is among them.
+    fn has(&self, alias: &Alias) -> bool
+        ensures { result ≡ has_alias self.now alias.now }
+    {
+        self.items.iter().any(|kept| kept == alias)
+    }
+
+    /// The aliases, each once: later doubles are dropped.
+    pub fn distinct(&self) -> Result<Self, AllocError>
+        ensures { IfOk result (λ distinct. distinct ≡ without_doubles self.now) }
+    {
+        let mut kept = AliasList::new(*self.items.allocator());
+        for alias in &self.items {
+            if !kept.has(alias) {
+                kept.push(*alias)?;
+            }
+        }
+        Ok(kept)
     }
 
     /// An equal list.

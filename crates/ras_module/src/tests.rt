@@ -181,3 +181,15 @@ fn octets_come_and_go_as_vectors(rt: HostRuntime) -> Result<(), Fail> {
     assert_eq!(rt; copy.into_vec().as_slice(), [1, 2, 3].as_slice());
     Ok(())
 }
+
+#[test]
+fn later_doubles_are_dropped(rt: HostRuntime) -> Result<(), Fail> {
+    let mut list = AliasList::new(rt.alloc());
+    for text in ["101", "102", "101", "103", "102"] {
+        list.push(digits(text)?)?;
+    }
+    let distinct = list.distinct()?;
+    let expected = [digits("101")?, digits("102")?, digits("103")?];
+    assert!(rt; distinct.as_slice() == expected.as_slice());
+    Ok(())
+}

@@ -2,7 +2,7 @@
 
 ghost use Rattle.std.specs.Prelude.{◌≡◌, IfOk};
 
-use ras_module::{Address, AliasList, EndpointId};
+use ras_module::{Address, EndpointId, ReplyAliases};
 use std::alloc::AllocError;
 
 /// What is known of a registered endpoint. Moments are in milliseconds.
@@ -15,7 +15,7 @@ pub struct Registration {
     /// Its address for RAS messages.
     pub ras: Address,
     /// Its aliases, in the order of its last full RegistrationRequest.
-    pub aliases: AliasList,
+    pub aliases: ReplyAliases,
     /// When its time to live ends, unless it is renewed.
     pub deadline: u64,
     /// When it was last heard.

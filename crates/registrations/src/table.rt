@@ -15,7 +15,7 @@ use crate::fresh::unused_from;
 use crate::list::{RegistrationList, rising};
 use crate::number::{number_in, numbered};
 use crate::registration::Registration;
-use ras_module::{Address, AliasList, EndpointId};
+use ras_module::{Address, EndpointId, ReplyAliases};
 use std::alloc::{AllocError, Global};
 use std::marker::Model;
 
@@ -68,6 +68,7 @@ impl Registrations {
     pub fn len(&self) -> usize
         ensures len { result ≡ map.len self.now.live }
         ensures few { map.len self.now.live ≤ self.now.most }
+        ensures sound { IsConsistent self.now.live }
     {
         self.items.len()
     }
@@ -209,7 +210,7 @@ impl Registrations {
     }
 
     /// Replaces what an endpoint registered, but for its call signal address.
-    pub fn rewrite(&mut self, id: &EndpointId, ras: Address, aliases: AliasList, deadline: u64)
+    pub fn rewrite(&mut self, id: &EndpointId, ras: Address, aliases: ReplyAliases, deadline: u64)
         requires { IsSome (map.get self.old.live id.now) }
         ensures { Becomes self.old self.new
             (update self.old.live id.now (after_rewrite ras aliases deadline)) }

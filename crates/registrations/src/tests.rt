@@ -1,5 +1,5 @@
 use crate::*;
-use ras_module::{Address, Alias, AliasList, BmpString, DialledDigits, EndpointId};
+use ras_module::{Address, Alias, AliasList, BmpString, DialledDigits, EndpointId, ReplyAliases};
 use std::alloc::Global;
 use std::test::Fail;
 
@@ -27,12 +27,19 @@ fn address(last: u8) -> Address {
     }
 }
 
+fn reply_aliases(list: AliasList) -> Result<ReplyAliases, Fail> {
+    match ReplyAliases::new(list) {
+        Ok(aliases) => Ok(aliases),
+        Err(_) => Err(Fail::from("at most 32 aliases")),
+    }
+}
+
 fn registration(alloc: Global, name: &str, last: u8, deadline: u64) -> Result<Registration, Fail> {
     Ok(Registration {
         identifier: id(name)?,
         call_signal: address(last),
         ras: address(last),
-        aliases: AliasList::new(alloc),
+        aliases: reply_aliases(AliasList::new(alloc))?,
         deadline,
         heard: 0,
         tries: 0,
@@ -147,12 +154,12 @@ fn one_registration_changes(rt: HostRuntime) -> Result<(), Fail> {
     if table.get(&one).is_some() {
         let mut aliases = AliasList::new(rt.alloc());
         aliases.push(digits("12")?)?;
-        table.rewrite(&one, address(9), aliases, 400);
+        table.rewrite(&one, address(9), reply_aliases(aliases)?, 400);
     }
     match table.get(&one) {
         Some(r) => {
             assert!(rt; r.call_signal == address(1) && r.ras == address(9) && r.deadline == 400);
-            assert!(rt; r.aliases.len() == 1);
+            assert!(rt; r.aliases.as_slice().len() == 1);
         }
         None => assert!(rt; false),
     }

@@ -1,0 +1,45 @@
+-- What the ranges of a zone's settings give.
+use Rattle.std.proofs.Common.{◌≡◌, ◌≤◌, ◌<◌, ◌||◌, ℕ, Bool, true, false, List, refl, Some, None, arith}
+use Rattle.std.specs.Prelude.{Option, IsSome, SomeIff, nat_lt, codes, if◌then◌else◌}
+use Rattle.std.proofs.lemmas.Bool.Decides.{nat_tests}
+use Rattle.ras_core.specs.declared.config.ConfigParts.{ConfigParts}
+use Rattle.ras_core.specs.Ranges.{is_outside, range_fault}
+
+passes : (b : Bool) (x : List ℕ) (rest : Option (List ℕ)) → (if b then Some x else rest) ≡ None → (b ≡ false) × (rest ≡ None)
+passes true x rest h = absurd (cc h)
+passes false x rest h = (refl, h)
+
+neither : (a b : Bool) → (a || b) ≡ false → (a ≡ false) × (b ≡ false)
+neither true b h = absurd (cc h)
+neither false b h = (refl, h)
+
+not_below : (a b : ℕ) → nat_lt a b ≡ false → b ≤ a
+not_below a b h = grind (arith, nat_tests)
+
+inside : (low high n : ℕ) → is_outside low high n ≡ false → (low ≤ n) × (n ≤ high)
+inside low high n h =
+    let both = neither (nat_lt n low) (nat_lt high n) h in
+    (not_below n low both.0, not_below high n both.1)
+
+-- how long registrations live, and how many there may be
+pub record Limits (parts : ConfigParts) : Type 0 where
+  pub some_time : 1 ≤ parts.time_to_live
+  pub time : parts.time_to_live ≤ 4294967295
+  pub endpoints : parts.endpoints ≤ 20000
+
+pub limits : (parts : ConfigParts) → range_fault parts ≡ None → Limits parts
+unfolding range_fault
+limits parts h =
+    let limit = passes (is_outside 1 1000000000000 parts.limit) (codes "zone.limit") _ h in
+    let call_limit = passes (is_outside 1 4294967295 parts.call_limit) (codes "zone.call_limit") _ limit.1 in
+    let time = passes (is_outside 1 4294967295 parts.time_to_live) (codes "zone.time_to_live") _ call_limit.1 in
+    let endpoints = passes (is_outside 1 20000 parts.endpoints) (codes "zone.endpoints") _ time.1 in
+    record {
+      some_time = (inside 1 4294967295 parts.time_to_live time.0).0;
+      time = (inside 1 4294967295 parts.time_to_live time.0).1;
+      endpoints = (inside 1 20000 parts.endpoints endpoints.0).1;
+    }
+
+pub is_time : (seconds : ℕ) (o : Option ℕ) → SomeIff o (0 < seconds) seconds → 1 ≤ seconds → IsSome o
+is_time seconds None iff some = absurd (iff (omega arith))
+is_time seconds (Some t) iff some = refl
