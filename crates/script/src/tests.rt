@@ -174,6 +174,7 @@ fn ignored(cause: IgnoredCause) -> Outcome {
     Outcome {
         output: None,
         note: Note::Ignored(cause),
+        given: None,
     }
 }
 
@@ -189,6 +190,7 @@ fn each_outcome_has_its_line(rt: HostRuntime) -> Result<(), Fail> {
             bytes: Octets::from_vec([0x04, 0x80, 0xAF].to_vec(rt.alloc())?),
         }),
         note: Note::Served,
+        given: None,
     })?;
     outcomes.push(ignored(IgnoredCause::TooLong))?;
     outcomes.push(ignored(IgnoredCause::Unreadable))?;

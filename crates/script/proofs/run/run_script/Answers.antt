@@ -26,7 +26,7 @@ returns-in-Ok-ran g c =
     let end = g.W.Write.contents c.flush.new.self in
     let outcomes = c.run-ran.new.outcomes.items in
     let ran : RunsOn (opening script.config) script.events [] outcomes c.run-ran.new.self =
-        search rules in
+    search rules in
     let lines : Appends start end (outcome_lines outcomes) = search rules in
     (c.run-ran.new.self, record { outcomes = outcomes; run = ran; lines = lines })
 
@@ -39,7 +39,7 @@ returns g c =
     let outcomes = c.run-ran.new.outcomes.items in
     let below : before < length script.events = search rules in
     let ran : RunsOn (opening script.config) (take before script.events) [] outcomes
-        c.run-ran.new.self = search rules in
+    c.run-ran.new.self = search rules in
     let lines : Appends start end (outcome_lines outcomes) = search rules in
     closed_at script before c.run-ran.new.self start end below
     (record { outcomes = outcomes; run = ran; lines = lines })
