@@ -1,7 +1,6 @@
-//! Discovery under refusals of memory. The program prints the same, whichever one of its requests
-//! for memory is refused: a step or a run that was refused leaves the zone as it was, and the same
-//! call with memory then gives the answer that it would have given. `./check` runs it once for each
-//! request.
+//! Discovery and registration under refusals of memory. The program prints the same, whichever one of its requests for
+//! memory is refused: a step or a run that was refused leaves the zone as it was, and the same call with
+//! memory then gives the answer that it would have given. `./check` runs it once for each request.
 #![tactic(auto)]
 
 mod trial;

@@ -4,8 +4,9 @@ use ras_core::{Config, ConfigParts, Event, Moment, Outcome, StepFault, Zone};
 use ras_module::{Address, Name, Octets};
 use std::alloc::Global;
 
-/// A GatekeeperRequest that names no gatekeeper, and one for the gatekeeper `xx`.
-const REQUESTS: [&[u8]; 2] = [
+/// A GatekeeperRequest that names no gatekeeper, and one for the gatekeeper `xx`. An endpoint that registers,
+/// registers anew, and keeps its registration alive; one that asks for the same alias; and the first goes.
+const REQUESTS: [&[u8]; 7] = [
     &[
         0x00, 0x00, 0x00, 0x00, 0x06, 0x00, 0x08, 0x91, 0x4A, 0x00, 0x02, 0x00, 0x0A, 0x00, 0x00,
         0x05, 0x06, 0xB7, 0x02, 0x00,
@@ -13,6 +14,31 @@ const REQUESTS: [&[u8]; 2] = [
     &[
         0x00, 0x80, 0x00, 0x00, 0x06, 0x00, 0x08, 0x91, 0x4A, 0x00, 0x02, 0x00, 0x0A, 0x00, 0x00,
         0x05, 0x06, 0xB7, 0x02, 0x00, 0x40, 0x00, 0x78, 0x00, 0x78,
+    ],
+    &[
+        0x0C, 0x80, 0x00, 0x01, 0x06, 0x00, 0x08, 0x91, 0x4A, 0x00, 0x02, 0x00, 0x01, 0x00, 0x0A,
+        0x00, 0x00, 0x05, 0x06, 0xB8, 0x01, 0x00, 0x0A, 0x00, 0x00, 0x05, 0x06, 0xB7, 0x02, 0x00,
+        0x01, 0x01, 0x00, 0x43, 0x40, 0xB5, 0x00, 0x00, 0x00,
+    ],
+    &[
+        0x0C, 0x80, 0x00, 0x01, 0x06, 0x00, 0x08, 0x91, 0x4A, 0x00, 0x02, 0x00, 0x01, 0x00, 0x0A,
+        0x00, 0x00, 0x05, 0x06, 0xB8, 0x01, 0x00, 0x0A, 0x00, 0x00, 0x05, 0x06, 0xB7, 0x02, 0x00,
+        0x01, 0x01, 0x00, 0x43, 0x40, 0xB5, 0x00, 0x00, 0x00,
+    ],
+    &[
+        0x0E, 0x00, 0x00, 0x01, 0x06, 0x00, 0x08, 0x91, 0x4A, 0x00, 0x02, 0x00, 0x01, 0x00, 0x0A,
+        0x00, 0x00, 0x05, 0x06, 0xB8, 0x01, 0x00, 0x0A, 0x00, 0x00, 0x05, 0x06, 0xB7, 0x02, 0x00,
+        0xB5, 0x00, 0x00, 0x00, 0x0C, 0x0C, 0x01, 0x80, 0x09, 0x06, 0x00, 0x30, 0x00, 0x30, 0x00,
+        0x30, 0x00, 0x31,
+    ],
+    &[
+        0x0C, 0x80, 0x00, 0x02, 0x06, 0x00, 0x08, 0x91, 0x4A, 0x00, 0x02, 0x00, 0x01, 0x00, 0x0A,
+        0x00, 0x00, 0x07, 0x06, 0xB8, 0x01, 0x00, 0x0A, 0x00, 0x00, 0x07, 0x06, 0xB7, 0x02, 0x00,
+        0x02, 0x01, 0x00, 0x43, 0xC0, 0x10, 0x43, 0x40, 0xB5, 0x00, 0x00, 0x00,
+    ],
+    &[
+        0x18, 0x40, 0x00, 0x04, 0x01, 0x00, 0x0A, 0x00, 0x00, 0x05, 0x06, 0xB8, 0x06, 0x00, 0x30,
+        0x00, 0x30, 0x00, 0x30, 0x00, 0x31,
     ],
 ];
 
@@ -46,7 +72,14 @@ fn event(alloc: Global, bytes: &[u8], milliseconds: u64) -> Option<Event> {
     Some(Event::Datagram(source, Octets::from_vec(bytes), moment))
 }
 
-/// One step; where it was refused for want of memory, the zone is as it was, and it is made again.
+/// What a refused step has to leave: the clock, the steps, and how many endpoints there are.
+fn shape(zone: &Zone) -> Option<(u64, u64, usize)> {
+    let endpoints = zone.endpoints().ok()?;
+    let count = endpoints.as_slice().len();
+    Some((zone.clock().milliseconds(), zone.steps(), count))
+}
+
+/// One step; where it was refused for want of memory, the zone is as it was, and the step is made again.
 fn step(
     alloc: Global,
     zone: &mut Zone,
@@ -57,13 +90,14 @@ fn step(
         let Some(event) = event(alloc, bytes, milliseconds) else {
             continue;
         };
-        let clock = zone.clock();
-        let steps = zone.steps();
+        let Some(before) = shape(zone) else {
+            continue;
+        };
         match zone.step(event) {
             Ok(outcome) => return Ok(outcome),
             Err(StepFault::Closed) => return Err("the zone is closed"),
             Err(StepFault::Memory) => {
-                if zone.clock() != clock || zone.steps() != steps {
+                if shape(zone) != Some(before) {
                     return Err("a refused step changed the zone");
                 }
             }
@@ -84,7 +118,7 @@ fn show(rt: &impl Print, outcome: &Outcome) -> Result<(), &'static str> {
     printed.map_err(|_| "standard output failed")
 }
 
-/// Discovery, step by step.
+/// The requests, step by step.
 pub fn steps(rt: &impl Print, alloc: Global) -> Result<(), &'static str> {
     let mut zone = zone(alloc)?;
     for (i, bytes) in REQUESTS.iter().enumerate() {
@@ -103,8 +137,8 @@ fn events(alloc: Global) -> Option<Vec<Event>> {
     Some(events)
 }
 
-/// A run from one event on; where it was refused, the steps before the event that its fault names
-/// stand, and the run goes on from there.
+/// A run from one event on; where it was refused, the steps before the event that its fault names stand, and
+/// the run goes on from there.
 fn run(zone: &mut Zone, events: &[Event], outcomes: &mut Vec<Outcome>) -> Result<(), &'static str> {
     for _ in 0..TRIES {
         let done = outcomes.len();
@@ -124,7 +158,7 @@ fn run(zone: &mut Zone, events: &[Event], outcomes: &mut Vec<Outcome>) -> Result
     Err("a run was refused twice")
 }
 
-/// Discovery, as a run.
+/// The requests, as a run.
 pub fn runs(rt: &impl Print, alloc: Global) -> Result<(), &'static str> {
     for _ in 0..TRIES {
         let Some(events) = events(alloc) else {

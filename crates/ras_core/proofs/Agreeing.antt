@@ -46,7 +46,7 @@ module _ (roll : Roll) (held : Held) (agree : Agree roll.live held) where
 
   pub Agree-rewriting : IsConsistent roll.live → (id : List ℕ) (e : Entry) (deadline now : ℕ) → IsRewritable roll id e
       → Agree (heard_now now id (update roll.live id (after_rewrite e.ras e.aliases deadline)))
-          (with_aliases (without_holder held id) e.aliases id e.call_signal)
+      (with_aliases (without_holder held id) e.aliases id e.call_signal)
   Agree-rewriting sound id e deadline now can =
       let at = IsAt-found roll.live sound e.call_signal can.old can.found in
       let f = after_rewrite e.ras e.aliases deadline in

@@ -24,8 +24,8 @@ after_change now (Rewriting id e deadline) live =
 after_change now (Addition r) live = insert live r.identifier r
 after_change now (Removal id) live = remove live id
 
--- a registration may be added: its identifier and its address are free, nobody holds its aliases, and there
--- is a place for it
+-- a registration may be added: its identifier and its address are free, nobody holds its aliases,
+-- and there is a place for it
 pub record IsAddable (roll : Roll) (r : Registration) : Type 0 where
   pub identifier : get roll.live r.identifier ≡ None
   pub address : at_address roll.live r.call_signal ≡ None
@@ -58,7 +58,8 @@ served z now d = record {
 }
 
 -- It decides so, with an identifier that was unused, and its change can be made.
-pub record Decides (z : State) (now : ℕ) (answer : Option (List ℕ) → Option Served) (d : Decision) : Type 0 where
+pub record Decides (z : State) (now : ℕ) (answer : Option (List ℕ) → Option Served) (d : Decision)
+    : Type 0 where
   pub unused : IfSome d.given (IsUnused z.live [])
   pub possible : IsPossible (roll_of z) d.change
   pub is : answer d.given ≡ Some (served z now d)

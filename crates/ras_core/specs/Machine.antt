@@ -1,11 +1,13 @@
 -- The zone as a machine: what each event is answered, and what it leaves.
-use Rattle.std.specs.Prelude.{ℕ, ◌+◌, ◌^◌, Bool, true, false, nat_lt, max, List, length, Option, None, Some, Result, Ok, Err, if◌then◌else◌}
+use Rattle.std.specs.Prelude.{ℕ, ◌+◌, ◌^◌, nat_lt, max, List, length, Option, None, Some, Result, Ok, Err, if◌then◌else◌}
 use Rattle.ras_module.specs.declared.address.Address.{Address}
 use Rattle.ras_module.specs.declared.request.Request.{Request}
 use Rattle.ras_module.specs.declared.request.Request.TheVariants.{Grq, Rrq, Urq}
 use Rattle.ras_codec.specs.Messages.{message_reading}
 use Rattle.ras_codec.specs.Replies.{encoding_of}
 use Rattle.ras_codec.specs.declared.fault.ReadFault.{ReadFault}
+use Rattle.ras_core.specs.declared.registering.Registering.{Registering}
+use Rattle.ras_core.specs.declared.registering.Unregistering.{Unregistering}
 use Rattle.ras_core.specs.declared.event.Event.{Event}
 use Rattle.ras_core.specs.declared.event.Event.TheVariants.{Datagram}
 use Rattle.ras_core.specs.declared.outcome.IgnoredCause.{IgnoredCause}
@@ -18,42 +20,14 @@ use Rattle.ras_core.specs.Discovery.{discovery}
 use Rattle.ras_core.specs.Registering.{registration}
 use Rattle.ras_core.specs.Unregistering.{unregistration}
 
--- The endpoint that a served request names was heard, whatever the reply, where it is registered and stays
--- so. (Where the very identifier is handed out in this step, its registration was heard now as it is.)
+-- The endpoint that a served request names was heard, whatever the reply, where it is registered
+-- and stays so. (Where that very identifier is handed out in this step, its registration was heard
+-- now as it is.)
 abbrev pub hearing : ℕ → Option (List ℕ) → Option state.Served → Option state.Served
-hearing now (Some id) (Some s) = Some (record s { zone = with_live s.zone (heard_now now id s.zone.live) })
+hearing now (Some id) (Some s) =
+    Some (record s { zone = with_live s.zone (heard_now now id s.zone.live) })
 hearing now None served = served
 hearing now (Some id) None = None
-
--- the requests that are served
-abbrev pub is_served : Request → Bool
-is_served (Grq seq gatekeeper) = true
-is_served (Rrq seq call_signal ras aliases gatekeeper time_to_live keep_alive endpoint) = true
-is_served (Urq seq call_signal endpoint) = true
-is_served other = false
-
--- What a request is answered and leaves at this moment, where the identifier is the one that is handed out;
--- none where it calls for one and there is none.
-abbrev pub serve : State → ℕ → Request → Option (List ℕ) → Option state.Served
-serve z now (Grq seq gatekeeper) given = Some (unchanged z (discovery z seq gatekeeper))
-serve z now (Rrq seq call_signal ras aliases gatekeeper time_to_live keep_alive endpoint) given =
-    hearing now endpoint (registration z now (record {
-      seq = seq;
-      call_signal = call_signal;
-      ras = ras;
-      aliases = aliases;
-      gatekeeper = gatekeeper;
-      time_to_live = time_to_live;
-      keep_alive = keep_alive;
-      endpoint = endpoint;
-    }) given)
-serve z now (Urq seq call_signal endpoint) given =
-    hearing now endpoint (Some (unregistration z (record {
-      seq = seq;
-      call_signal = call_signal;
-      endpoint = endpoint;
-    })))
-serve z now other given = None
 
 -- an outcome, and the zone that it leaves
 abbrev pub Answer : Type 0
@@ -65,19 +39,50 @@ ignored z cause = Some (record { output = None; note = Ignored cause; given = No
 -- a reply goes to where the request came from
 abbrev pub answered : Address → Option state.Served → Answer
 answered source None = None
-answered source (Some s) = Some (record {
-  output = Some (record { to = source; bytes = encoding_of s.reply });
-  note = Served;
-  given = s.given;
-}, s.zone)
+answered source (Some s) = Some (
+  record {
+    output = Some (record { to = source; bytes = encoding_of s.reply });
+    note = Served;
+    given = s.given;
+  },
+  s.zone,
+)
 
+abbrev pub registration_answer : State → ℕ → Address → Registering → Option (List ℕ) → Answer
+registration_answer z now source q given =
+    answered source (hearing now q.endpoint (registration z now q given))
+
+abbrev pub unregistration_answer : State → ℕ → Address → Unregistering → Answer
+unregistration_answer z now source q =
+    answered source (hearing now q.endpoint (Some (unregistration z q)))
+
+-- What a request is answered and leaves at this moment, where the identifier is the one that is
+-- handed out; none where it calls for one and there is none.
 abbrev pub request_answer : State → ℕ → Address → Request → Option (List ℕ) → Answer
-request_answer z now source request given =
-    if is_served request
-    then answered source (serve z now request given)
-    else ignored z NotServed
+request_answer z now source (Grq seq gatekeeper) given =
+    answered source (Some (unchanged z (discovery z seq gatekeeper)))
+request_answer z now source
+    (Rrq seq call_signal ras aliases gatekeeper time_to_live keep_alive endpoint) given =
+    registration_answer z now source (record {
+      seq = seq;
+      call_signal = call_signal;
+      ras = ras;
+      aliases = aliases;
+      gatekeeper = gatekeeper;
+      time_to_live = time_to_live;
+      keep_alive = keep_alive;
+      endpoint = endpoint;
+    }) given
+request_answer z now source (Urq seq call_signal endpoint) given =
+    unregistration_answer z now source (record {
+      seq = seq;
+      call_signal = call_signal;
+      endpoint = endpoint;
+    })
+request_answer z now source other given = ignored z NotServed
 
-abbrev pub read_answer : State → ℕ → Address → Result (Option Request) ReadFault → Option (List ℕ) → Answer
+abbrev pub read_answer : State → ℕ → Address → Result (Option Request) ReadFault
+    → Option (List ℕ) → Answer
 read_answer z now source (Err fault) given = ignored z Unreadable
 read_answer z now source (Ok None) given = ignored z NotServed
 read_answer z now source (Ok (Some request)) given = request_answer z now source request given
@@ -98,12 +103,12 @@ at_moment now steps (Some answer) = Some (answer.0, record answer.1 { clock = no
 abbrev pub most_steps : ℕ
 most_steps = 2 ^ 62
 
--- One event, where the identifier is the one that is handed out: its outcome and the zone after it. There is
--- none where the zone is closed, nor where an identifier is called for and there is none. The clock never
--- goes back.
+-- One event, where the identifier is the one that is handed out: its outcome and the zone after it.
+-- There is none where the zone is closed, nor where an identifier is called for and there is none.
+-- The clock never goes back.
 abbrev pub machine : State → Event → Option (List ℕ) → Answer
 machine z (Datagram source bytes moment) given =
     if nat_lt z.steps most_steps
     then at_moment (max z.clock moment) (z.steps + 1)
-        (datagram_answer z (max z.clock moment) source bytes given)
+    (datagram_answer z (max z.clock moment) source bytes given)
     else None

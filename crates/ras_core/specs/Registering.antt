@@ -1,5 +1,5 @@
--- Registration of endpoints (H.323, 7.2.2; H.225.0: RRQ, RCF, RRJ). Each case applies where none above it
--- does.
+-- Registration of endpoints (H.323, 7.2.2; H.225.0: RRQ, RCF, RRJ). Each case applies where none
+-- above it does.
 use Rattle.std.specs.Prelude.{◌+◌, ◌*◌, ◌==◌, ℕ, Bool, false, not, nat_lt, min, List, [], ◌∷◌, length, Option, None, Some, if◌then◌else◌}
 use Rattle.std.specs.FinMap.{get, insert, len}
 use Rattle.keyed.specs.Maps.{update}
@@ -88,7 +88,8 @@ addition z now q e (Some id) = Some (record {
 })
 
 -- an endpoint whose address is registered, or a new one, for which there has to be a place
-abbrev pub entering : State → ℕ → Registering → Entry → Option Registration → Option (List ℕ) → Option Served
+abbrev pub entering : State → ℕ → Registering → Entry → Option Registration → Option (List ℕ)
+    → Option Served
 entering z now q e (Some r) given = Some (refreshment z now q e r)
 entering z now q e None given =
     if len z.live == z.config.endpoints
@@ -96,19 +97,21 @@ entering z now q e None given =
     else addition z now q e given
 
 -- where some of the aliases are held by endpoints with another call signal address, those are told
-abbrev pub unless_held : State → ℕ → Registering → Entry → List Alias → Option (List ℕ) → Option Served
+abbrev pub unless_held : State → ℕ → Registering → Entry → List Alias → Option (List ℕ)
+    → Option Served
 unless_held z now q e [] given = entering z now q e (at_address z.live e.call_signal) given
 unless_held z now q e (alias ∷ held) given = rejection z q (DuplicateAlias (alias ∷ held))
 
 -- a full registration, with these addresses and distinct aliases
-abbrev pub full : State → ℕ → Registering → Option Address → Option Address → List Alias → Option (List ℕ) → Option Served
+abbrev pub full : State → ℕ → Registering → Option Address → Option Address → List Alias
+    → Option (List ℕ) → Option Served
 full z now q None ras aliases given = rejection z q InvalidCallSignalAddress
 full z now q (Some call_signal) None aliases given = rejection z q InvalidRasAddress
 full z now q (Some call_signal) (Some ras) aliases given =
     if nat_lt 32 (length aliases)
     then rejection z q ResourceUnavailable
     else unless_held z now q (record { call_signal = call_signal; ras = ras; aliases = aliases })
-        (registered_elsewhere z.live call_signal aliases) given
+    (registered_elsewhere z.live call_signal aliases) given
 
 -- an RRQ
 abbrev pub registration : State → ℕ → Registering → Option (List ℕ) → Option Served

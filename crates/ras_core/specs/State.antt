@@ -25,7 +25,8 @@ with_live z live = record z { live = live }
 abbrev pub heard_now : ℕ → List ℕ → Live → Live
 heard_now now id live = update live id (after_hear now)
 
--- What a request is answered, which new identifier was handed out for it, and what the zone is afterwards.
+-- What a request is answered, which new identifier was handed out for it, and what the zone is
+-- afterwards.
 pub record Served : Type 0 where
   pub reply : Reply
   pub given : Option (List ℕ)

@@ -8,7 +8,8 @@ use Rattle.ras_core.specs.declared.outcome.Outcome.{Outcome}
 use Rattle.ras_core.specs.State.{State}
 use Rattle.ras_core.specs.Machine.{machine}
 
--- From z, the event has this outcome and leaves the zone so. An identifier that is handed out was unused.
+-- From z, the event has this outcome and leaves the zone so. An identifier that is handed out was
+-- unused.
 pub record Step (z : State) (event : Event) (outcome : Outcome) (after : State) : Type 0 where
   pub unused : IfSome outcome.given (IsUnused z.live [])
   pub makes : machine z event outcome.given ≡ Some (outcome, after)

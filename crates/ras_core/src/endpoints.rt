@@ -79,7 +79,8 @@ impl Endpoints {
 
     /// Those of the aliases that endpoints with another call signal address hold.
     pub fn conflicts(&self, aliases: &[Alias], address: Address) -> Result<AliasList, AllocError>
-        ensures { IfOk result (λ held. held ≡ registered_elsewhere self.now.live address aliases.now) }
+        ensures { IfOk result (λ held.
+            held ≡ registered_elsewhere self.now.live address aliases.now) }
     {
         let _endpoints = &self.registrations;
         self.aliases.conflicts(aliases, address)
@@ -142,7 +143,8 @@ impl Endpoints {
         deadline: u64,
     ) -> Result<(), AllocError>
         requires { IsRewritable self.old id entry }
-        ensures live { OnOk result (self.new.live ≡ after_change now (Change.Rewriting id entry deadline) self.old.live) }
+        ensures live { OnOk result (self.new.live
+            ≡ after_change now (Change.Rewriting id entry deadline) self.old.live) }
         ensures most { self.new.most ≡ self.old.most }
         ensures err { OnErr result (self.new ≡ self.old) }
     {
@@ -162,7 +164,8 @@ impl Endpoints {
 
     fn add(&mut self, registration: Registration) -> Result<(), AllocError>
         requires { IsAddable self.old registration }
-        ensures live { OnOk result (self.new.live ≡ map.insert self.old.live registration.identifier registration) }
+        ensures live { OnOk result (self.new.live
+            ≡ map.insert self.old.live registration.identifier registration) }
         ensures most { self.new.most ≡ self.old.most }
         ensures err { OnErr result (self.new ≡ self.old) }
     {

@@ -9,9 +9,11 @@ ghost use Rattle.registrations.specs.Registry.{at_address, IsListOf, IsUnused};
 ghost use Rattle.registrations.specs.Agreement.{registered_elsewhere};
 ghost use Rattle.ras_core.specs.State.{State, opening};
 ghost use Rattle.ras_core.specs.Discovery.{is_foreign, discovery};
-ghost use Rattle.ras_core.specs.Registering.{confirmation, deadline, entering, full, granted, has_moved, keep_alive, named, registration};
+ghost use Rattle.ras_core.specs.Registering.{confirmation, deadline, granted, has_moved};
+ghost use Rattle.ras_core.specs.Registering.{entering, full, keep_alive, named, registration};
 ghost use Rattle.ras_core.specs.Unregistering.{leaving, unregistration};
-ghost use Rattle.ras_core.specs.Machine.{answered, datagram_answer, hearing, most_steps, request_answer};
+ghost use Rattle.ras_core.specs.Machine.{answered, datagram_answer, hearing, most_steps};
+ghost use Rattle.ras_core.specs.Machine.{registration_answer, request_answer, unregistration_answer};
 ghost use Rattle.ras_core.specs.Changes.{Decides, IsPossible, roll_of, served};
 ghost use Rattle.ras_core.specs.Steps.{Step};
 ghost use Rattle.ras_core.specs.Soundness.{Sound};
@@ -60,7 +62,12 @@ impl Model for Machine {
 
     ghost coded = { Prim.hlevel (codes, map.code) };
 
-    ghost view = { λ m. record { config = m.config; live = m.endpoints.live; clock = m.clock; steps = m.steps } };
+    ghost view = { λ m. record {
+      config = m.config;
+      live = m.endpoints.live;
+      clock = m.clock;
+      steps = m.steps;
+    } };
 
     ghost invariant = { λ m. (m.endpoints.most ≡ m.config.endpoints) × (m.steps ≤ most_steps) };
 }
@@ -179,7 +186,8 @@ impl Machine {
 
     /// A registration is kept alive where it is known and the endpoint hasn't moved.
     fn keep_alive(&self, now: Moment, q: &Registering) -> Result<Decision, AllocError>
-        ensures { IfOk result (Decides self.now now (λ _. keep_alive self.now now q.now (named self.now q.now.endpoint))) }
+        ensures { IfOk result (Decides self.now now
+            (λ _. keep_alive self.now now q.now (named self.now q.now.endpoint))) }
     {
         let Some(id) = q.endpoint else {
             return Ok(rejection(q, RegistrationRejectReason::FullRegistrationRequired));
@@ -199,7 +207,8 @@ impl Machine {
 
     /// A full registration.
     fn register_fully(&self, now: Moment, q: &Registering) -> Result<Decision, AllocError>
-        ensures { IfOk result (Decides self.now now (full self.now now q.now q.now.call_signal q.now.ras (without_doubles q.now.aliases))) }
+        ensures { IfOk result (Decides self.now now
+            (full self.now now q.now q.now.call_signal q.now.ras (without_doubles q.now.aliases))) }
     {
         let Some(call_signal) = q.call_signal else {
             return Ok(rejection(q, RegistrationRejectReason::InvalidCallSignalAddress));
@@ -223,8 +232,13 @@ impl Machine {
     }
 
     /// Those of the aliases that endpoints with another call signal address hold.
-    fn conflicts(&self, aliases: &ReplyAliases, address: Address) -> Result<ReplyAliases, AllocError>
-        ensures { IfOk result (λ held. held ≡ registered_elsewhere self.now.live address aliases.now) }
+    fn conflicts(
+        &self,
+        aliases: &ReplyAliases,
+        address: Address,
+    ) -> Result<ReplyAliases, AllocError>
+        ensures { IfOk result (λ held.
+            held ≡ registered_elsewhere self.now.live address aliases.now) }
     {
         let held = self.endpoints.conflicts(aliases.as_slice(), address)?;
         Ok(ReplyAliases::new(held).unwrap())
@@ -233,7 +247,8 @@ impl Machine {
     /// Registers anew who has the address, or a new endpoint.
     fn enter(&self, now: Moment, q: &Registering, entry: Entry) -> Result<Decision, AllocError>
         requires { registered_elsewhere self.now.live entry.call_signal entry.aliases ≡ [] }
-        ensures { IfOk result (Decides self.now now (entering self.now now q.now entry (at_address self.now.live entry.call_signal))) }
+        ensures { IfOk result (Decides self.now now
+            (entering self.now now q.now entry (at_address self.now.live entry.call_signal))) }
     {
         let told = entry.aliases.copy()?;
         let deadline = self.deadline(now, q);
@@ -268,9 +283,11 @@ impl Machine {
         }
     }
 
-    /// Whom an UnregistrationRequest means: by its identifier where it has one, else by its address.
+    /// Whom an UnregistrationRequest means: by its identifier where it has one, else by its
+    /// address.
     fn leaving(&self, q: &Unregistering) -> Option<EndpointId>
-        ensures { result ≡ option_map (λ r. r.identifier) (leaving self.now q.now.endpoint q.now.call_signal) }
+        ensures { result ≡ option_map (λ r. r.identifier)
+            (leaving self.now q.now.endpoint q.now.call_signal) }
     {
         let found = match q.endpoint {
             Some(id) => self.endpoints.get(&id),
@@ -297,7 +314,8 @@ impl Machine {
 
     /// The datagram in which this reply is sent.
     fn datagram(&self, to: Source, reply: &Reply) -> Result<Datagram, AllocError>
-        ensures { IfOk result (λ datagram. datagram ≡ record { to = to; bytes = encoding_of reply.now }) }
+        ensures { IfOk result (λ datagram.
+            datagram ≡ record { to = to; bytes = encoding_of reply.now }) }
     {
         let mut bytes = Vec::with_capacity(self.alloc, reply.room())?;
         write_into(reply, &mut bytes)?;
@@ -307,8 +325,8 @@ impl Machine {
         })
     }
 
-    /// Does what was decided about a request that names this endpoint. The reply is written before anything
-    /// changes.
+    /// Does what was decided about a request that names this endpoint. The reply is written
+    /// before anything changes.
     fn carry_out(
         &mut self,
         now: Moment,
@@ -317,7 +335,8 @@ impl Machine {
         decision: Decision,
     ) -> Result<Outcome, AllocError>
         requires { IsPossible (roll_of self.old) decision.change }
-        ensures ok { IfOk result (λ outcome. Some (outcome, self.new) ≡ answered source (hearing now endpoint (Some (served self.old now decision)))) }
+        ensures ok { IfOk result (λ outcome. Some (outcome, self.new)
+            ≡ answered source (hearing now endpoint (Some (served self.old now decision)))) }
         ensures err { OnErr result (self.new ≡ self.old) }
         ensures given { IfOk result (λ outcome. outcome.given ≡ decision.given) }
     {
@@ -344,8 +363,10 @@ impl Machine {
         source: Source,
         q: &Registering,
     ) -> Result<Outcome, AllocError>
-        ensures ok { IfOk result (λ outcome. answered source (hearing now q.now.endpoint (registration self.old now q.now outcome.given)) ≡ Some (outcome, self.new)) }
-        ensures unused { IfOk result (λ outcome. IfSome outcome.given (IsUnused self.old.live [])) }
+        ensures ok { IfOk result (λ outcome.
+            registration_answer self.old now source q.now outcome.given ≡ Some (outcome, self.new)) }
+        ensures unused { IfOk result (λ outcome.
+            IfSome outcome.given (IsUnused self.old.live [])) }
         ensures err { OnErr result (self.new ≡ self.old) }
     {
         let decision = self.register(now, q)?;
@@ -358,8 +379,10 @@ impl Machine {
         source: Source,
         q: &Unregistering,
     ) -> Result<Outcome, AllocError>
-        ensures ok { IfOk result (λ outcome. answered source (hearing now q.now.endpoint (Some (unregistration self.old q.now))) ≡ Some (outcome, self.new)) }
-        ensures unused { IfOk result (λ outcome. IfSome outcome.given (IsUnused self.old.live [])) }
+        ensures ok { IfOk result (λ outcome.
+            unregistration_answer self.old now source q.now ≡ Some (outcome, self.new)) }
+        ensures unused { IfOk result (λ outcome.
+            IfSome outcome.given (IsUnused self.old.live [])) }
         ensures err { OnErr result (self.new ≡ self.old) }
     {
         let decision = self.unregister(now, q);
@@ -372,8 +395,10 @@ impl Machine {
         source: Source,
         request: Request,
     ) -> Result<Outcome, AllocError>
-        ensures ok { IfOk result (λ outcome. request_answer self.old now source request outcome.given ≡ Some (outcome, self.new)) }
-        ensures unused { IfOk result (λ outcome. IfSome outcome.given (IsUnused self.old.live [])) }
+        ensures ok { IfOk result (λ outcome.
+            request_answer self.old now source request outcome.given ≡ Some (outcome, self.new)) }
+        ensures unused { IfOk result (λ outcome.
+            IfSome outcome.given (IsUnused self.old.live [])) }
         ensures err { OnErr result (self.new ≡ self.old) }
     {
         match request {
@@ -420,14 +445,11 @@ impl Machine {
     }
 
     /// What a datagram is answered.
-    fn answer(
-        &mut self,
-        now: Moment,
-        source: Source,
-        bytes: &[u8],
-    ) -> Result<Outcome, AllocError>
-        ensures ok { IfOk result (λ outcome. datagram_answer self.old now source bytes.now outcome.given ≡ Some (outcome, self.new)) }
-        ensures unused { IfOk result (λ outcome. IfSome outcome.given (IsUnused self.old.live [])) }
+    fn answer(&mut self, now: Moment, source: Source, bytes: &[u8]) -> Result<Outcome, AllocError>
+        ensures ok { IfOk result (λ outcome.
+            datagram_answer self.old now source bytes.now outcome.given ≡ Some (outcome, self.new)) }
+        ensures unused { IfOk result (λ outcome.
+            IfSome outcome.given (IsUnused self.old.live [])) }
         ensures err { OnErr result (self.new ≡ self.old) }
     {
         if bytes.len() > MOST_OCTETS {
@@ -472,7 +494,11 @@ fn ignored(cause: IgnoredCause) -> Outcome
 
 /// A RegistrationReject.
 fn rejection(q: &Registering, reason: RegistrationRejectReason) -> Decision
-    ensures { result ≡ record { reply = Reply.Rrj q.now.seq reason; given = None; change = Change.Nothing } }
+    ensures { result ≡ record {
+      reply = Reply.Rrj q.now.seq reason;
+      given = None;
+      change = Change.Nothing;
+    } }
 {
     Decision::reply(Reply::Rrj { seq: q.seq, reason })
 }
@@ -488,16 +514,21 @@ fn has_moved(r: &Registration, ras: Option<Address>) -> bool
 }
 
 /// The registration of an endpoint that is new, and was heard now.
-fn new_registration(now: Moment, entry: Entry, identifier: EndpointId, deadline: u64) -> Registration
+fn new_registration(
+    now: Moment,
+    entry: Entry,
+    identifier: EndpointId,
+    deadline: u64,
+) -> Registration
     ensures { result ≡ record {
-        identifier = identifier;
-        call_signal = entry.call_signal;
-        ras = entry.ras;
-        aliases = entry.aliases;
-        deadline = deadline;
-        heard = now;
-        tries = 0;
-        asked = 0;
+      identifier = identifier;
+      call_signal = entry.call_signal;
+      ras = entry.ras;
+      aliases = entry.aliases;
+      deadline = deadline;
+      heard = now;
+      tries = 0;
+      asked = 0;
     } }
 {
     Registration {

@@ -29,8 +29,8 @@ pub enum Note {
     Ignored(IgnoredCause),
 }
 
-/// What a step did: what is sent, of at most 20,000 octets, what happened, and the identifier that was
-/// handed out to a new endpoint.
+/// What a step did: what is sent, of at most 20,000 octets, what happened, and the identifier
+/// that was handed out to a new endpoint.
 #[derive(PartialEq, Eq, Drop)]
 pub struct Outcome {
     pub output: Option<Datagram>,

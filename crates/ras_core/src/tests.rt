@@ -86,9 +86,7 @@ const URQ: [u8; 21] = [
 ];
 
 /// UnregistrationConfirm.
-const UCF: [u8; 3] = [
-    0x1C, 0x00, 0x04,
-];
+const UCF: [u8; 3] = [0x1C, 0x00, 0x04];
 
 const GATEKEEPER: Address = Address {
     ip: [10, 0, 0, 1],
@@ -215,7 +213,8 @@ fn moments_end_below_2_to_the_53(rt: HostRuntime) -> Result<(), Fail> {
     Ok(())
 }
 
-/// Whether the datagram is answered so, with or without a new identifier, and how many endpoints there are then.
+/// Whether the datagram is answered so, with or without a new identifier, and leaves so many
+/// endpoints.
 fn is_answered(
     alloc: Global,
     zone: &mut Zone,
@@ -233,10 +232,12 @@ fn is_answered(
     let Some(datagram) = outcome.output else {
         return Ok(false);
     };
-    Ok(datagram.to == source
-        && datagram.bytes.as_slice() == reply
-        && outcome.given.is_some() == is_new
-        && zone.endpoints()?.as_slice().len() == endpoints)
+    Ok(
+        datagram.to == source
+            && datagram.bytes.as_slice() == reply
+            && outcome.given.is_some() == is_new
+            && zone.endpoints()?.as_slice().len() == endpoints,
+    )
 }
 
 #[test]
@@ -246,7 +247,17 @@ fn endpoints_come_stay_and_go(rt: HostRuntime) -> Result<(), Fail> {
     assert!(rt; is_answered(alloc, &mut zone, 9, &KEEP_ALIVE, &FULL_REQUIRED, false, 0)?);
     assert!(rt; is_answered(alloc, &mut zone, 5, &RRQ, &RCF, true, 1)?);
     assert!(rt; is_answered(alloc, &mut zone, 6, &OTHER_RRQ, &OTHER_RCF, true, 2)?);
-    assert!(rt; is_answered(alloc, &mut zone, 7, &DUPLICATE_RRQ, &DUPLICATE_RRJ, false, 2)?);
+    assert!(rt;
+        is_answered(
+            alloc,
+            &mut zone,
+            7,
+            &DUPLICATE_RRQ,
+            &DUPLICATE_RRJ,
+            false,
+            2
+        )?
+    );
     assert!(rt; is_answered(alloc, &mut zone, 5, &RRQ, &RCF, false, 2)?);
     assert!(rt; is_answered(alloc, &mut zone, 5, &URQ, &UCF, false, 1)?);
     assert!(rt; is_answered(alloc, &mut zone, 5, &RRQ, &RCF, true, 2)?);

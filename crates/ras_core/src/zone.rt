@@ -71,8 +71,8 @@ impl Zone {
         outcome
     }
 
-    /// The endpoints that are registered, by rising identifier: character by character, a prefix before what
-    /// it begins.
+    /// The endpoints that are registered, by rising identifier: character by character, a prefix
+    /// before what it begins.
     pub fn endpoints(&self) -> Result<RegistrationList, AllocError>
         ensures { IfOk result (IsListOf self.now.live) }
     {
