@@ -1,0 +1,4 @@
+pub mod Entries
+pub mod LegLemmas
+pub mod StoredCalls
+pub mod Leaving
