@@ -18,7 +18,7 @@ use Rattle.ras_module.specs.Same.{call_key_decides}
 use Rattle.ras_module.specs.declared.call_key.CallKey.{CallKey}
 use Rattle.ras_module.proofs.CallKeyOrder.{call_key_cmp_total, call_key_cmp-IsAntisymmetric}
 use Rattle.admission.specs.declared.call.Call.{Call}
-use Rattle.admission.specs.Calls.{OpenCalls, CallTable, units_from, has_leg, legs_in, leg_at, IsInNoCall, IsCall, IsConsistent, Becomes, Adds, open_calls_of}
+use Rattle.admission.specs.Calls.{OpenCalls, CallTable, EachCall, units_from, has_leg, legs_in, leg_at, IsInNoCall, IsCall, IsConsistent, Becomes, Adds, open_calls_of}
 use Rattle.admission.specs.Legs.{leg_of}
 use Rattle.admission.specs.Stored.{AreStored, Rewrites, key_of}
 use Rattle.admission.proofs.Entries.{value_of, entries_again, AreApart-entries, get_entries, len_entries, total_entries, entries_insert, entries_remove}
@@ -29,23 +29,20 @@ open_of calls = open_calls_of calls.entries
 pub get_call : {S : Type 0} (calls : IndexMap CallKey Call S) (key : CallKey) → hash.get same_call_key calls key ≡ fin.get (open_of calls) key
 get_call calls key = sym (get_entries call_key_decides call_key_cmp_total call_key_cmp-IsAntisymmetric calls.entries key)
 
--- each of the calls is one
-abbrev pub AreCalls : OpenCalls → Type 0
-AreCalls calls = (k : CallKey) (call : Call) → fin.get calls k ≡ Some call → IsCall call
+module _ (P : Call → Type 0) where
+  pub EachCall-insert : (m : OpenCalls) (key : CallKey) (call : Call) → EachCall P m → P call → EachCall P (fin.insert m key call)
+  EachCall-insert m key call each is k c there =
+      let change = maps.Changed-insert call_key_cmp_total call_key_cmp-IsAntisymmetric m key call in
+      maps.by_key call_key_cmp_total call_key_cmp-IsAntisymmetric k key (P c)
+      (λ p. subst P (same_some call c (sym change.here ∙ subst (λ (x : CallKey). fin.get (fin.insert m key call) x ≡ Some c) p there)) is)
+      (λ differ. each k c (sym (change.others k differ) ∙ there))
 
-pub AreCalls-insert : (m : OpenCalls) (key : CallKey) (call : Call) → AreCalls m → IsCall call → AreCalls (fin.insert m key call)
-AreCalls-insert m key call each is k c there =
-    let change = maps.Changed-insert call_key_cmp_total call_key_cmp-IsAntisymmetric m key call in
-    maps.by_key call_key_cmp_total call_key_cmp-IsAntisymmetric k key (IsCall c)
-    (λ p. subst IsCall (same_some call c (sym change.here ∙ subst (λ (x : CallKey). fin.get (fin.insert m key call) x ≡ Some c) p there)) is)
-    (λ differ. each k c (sym (change.others k differ) ∙ there))
-
-pub AreCalls-remove : (m : OpenCalls) (key : CallKey) → AreCalls m → AreCalls (fin.remove m key)
-AreCalls-remove m key each k c there =
-    let change = maps.Changed-remove call_key_cmp_total call_key_cmp-IsAntisymmetric m key in
-    maps.by_key call_key_cmp_total call_key_cmp-IsAntisymmetric k key (IsCall c)
-    (λ p. absurd (cc (sym change.here ∙ subst (λ (x : CallKey). fin.get (fin.remove m key) x ≡ Some c) p there)))
-    (λ differ. each k c (sym (change.others k differ) ∙ there))
+  pub EachCall-remove : (m : OpenCalls) (key : CallKey) → EachCall P m → EachCall P (fin.remove m key)
+  EachCall-remove m key each k c there =
+      let change = maps.Changed-remove call_key_cmp_total call_key_cmp-IsAntisymmetric m key in
+      maps.by_key call_key_cmp_total call_key_cmp-IsAntisymmetric k key (P c)
+      (λ p. absurd (cc (sym change.here ∙ subst (λ (x : CallKey). fin.get (fin.remove m key) x ≡ Some c) p there)))
+      (λ differ. each k c (sym (change.others k differ) ∙ there))
 
 pub AreStored-empty : {S : Type 0} (calls : IndexMap CallKey Call S) (most : ℕ) → hash.IsEmpty calls → most ≤ 20000 → AreStored calls most
 AreStored-empty calls most empty few =
@@ -73,7 +70,7 @@ module _ {S : Type 0} (old new : IndexMap CallKey Call S) (most : ℕ) (s : AreS
   AreStored-open call u longer room is =
       let map_is = entries_insert call_key_decides call_key_cmp_total call_key_cmp-IsAntisymmetric old new key call u in
       record {
-        each = λ k c there. AreCalls-insert (open_of old) key call s.each is k c (ap (λ m. fin.get m k) (sym map_is) ∙ there);
+        each = λ k c there. EachCall-insert IsCall (open_of old) key call s.each is k c (ap (λ m. fin.get m k) (sym map_is) ∙ there);
         apart = AreApart-entries call_key_decides new.entries unique;
         few = omega (arith, longer, s.few, room);
         most_few = s.most_few;
@@ -85,7 +82,7 @@ module _ {S : Type 0} (old new : IndexMap CallKey Call S) (most : ℕ) (s : AreS
   AreStored-change now u same_length is =
       let map_is = entries_insert call_key_decides call_key_cmp_total call_key_cmp-IsAntisymmetric old new key now u in
       record {
-        each = λ k c was. AreCalls-insert (open_of old) key now s.each is k c (ap (λ m. fin.get m k) (sym map_is) ∙ was);
+        each = λ k c was. EachCall-insert IsCall (open_of old) key now s.each is k c (ap (λ m. fin.get m k) (sym map_is) ∙ was);
         apart = AreApart-entries call_key_decides new.entries unique;
         few = omega (arith, same_length, s.few);
         most_few = s.most_few;
@@ -97,7 +94,7 @@ module _ {S : Type 0} (old new : IndexMap CallKey Call S) (most : ℕ) (s : AreS
   AreStored-end u shorter =
       let map_is = entries_remove call_key_decides call_key_cmp_total call_key_cmp-IsAntisymmetric old new key u in
       record {
-        each = λ k c was. AreCalls-remove (open_of old) key s.each k c (ap (λ m. fin.get m k) (sym map_is) ∙ was);
+        each = λ k c was. EachCall-remove IsCall (open_of old) key s.each k c (ap (λ m. fin.get m k) (sym map_is) ∙ was);
         apart = AreApart-entries call_key_decides new.entries unique;
         few = omega (arith, shorter, s.few);
         most_few = s.most_few;
@@ -204,7 +201,7 @@ finds_in test (x ∷ es) = cases (finds_in test es) (test x.1) refl where
   cases rest true is = (zero, refl, is)
   cases rest false is = fails_first test x es (find (λ e. test e.1) es) is rest
 
-none_from : {X : Type 0} (w : Option X) → is_some w ≡ false → w ≡ None
+pub none_from : {X : Type 0} (w : Option X) → is_some w ≡ false → w ≡ None
 none_from None h = refl
 none_from (Some x) h = absurd (cc h)
 

@@ -1,5 +1,5 @@
 -- The calls that are open, as a finite map from their keys.
-use Rattle.std.specs.Prelude.{◌≡◌, ◌≤◌, ◌<◌, ◌+◌, ◌^◌, ℕ, Bool, List, [], ◌∷◌, ◌++◌, Option, Some, None, is_some, nat_eq, if◌then◌else◌, option_and_then}
+use Rattle.std.specs.Prelude.{◌≡◌, ◌≤◌, ◌<◌, ◌+◌, ◌^◌, ℕ, Bool, List, [], ◌∷◌, ◌++◌, Option, Some, None, is_some, nat_eq, if◌then◌else◌, option_and_then, All}
 use Rattle.std.specs.FinMap.{FinMap, get, insert, remove, len, from_entries}
 use Rattle.keyed.specs.Maps.{total}
 use Rattle.ras_module.specs.CallKeys.{call_key_cmp}
@@ -115,8 +115,16 @@ pub record IsCall (call : Call) : Type 0 where
   pub legs : AreLegs call.legs
   pub units : call.units < 2 ^ 32
 
+-- this holds of each call
+abbrev pub EachCall : (Call → Type 0) → OpenCalls → Type 0
+EachCall P calls = (key : CallKey) (call : Call) → get calls key ≡ Some call → P call
+
+-- this holds of each leg of each call
+abbrev pub EachLeg : (Leg → Type 0) → OpenCalls → Type 0
+EachLeg P calls = EachCall (λ call. All P call.legs) calls
+
 -- what holds of every table
 pub record IsConsistent (t : CallTable) : Type 0 where
-  pub each : (key : CallKey) (call : Call) → get t.calls key ≡ Some call → IsCall call
+  pub each : EachCall IsCall t.calls
   pub few : len t.calls ≤ t.most
   pub most : t.most ≤ 20000

@@ -1,12 +1,11 @@
 -- How the calls are stored.
 use Rattle.std.specs.Prelude.{◌≡◌, ◌≤◌, ℕ, List, Some, length}
-use Rattle.std.specs.FinMap as fin
 use Rattle.indexmap.specs.IndexMap.{IndexMap, get, spare, IsUnique, Updates}
 use Rattle.keyed.specs.Places.{AreApart, row_in}
 use Rattle.ras_module.specs.CallKeys.{same_call_key}
 use Rattle.ras_module.specs.declared.call_key.CallKey.{CallKey}
 use Rattle.admission.specs.declared.call.Call.{Call}
-use Rattle.admission.specs.Calls.{IsCall, open_calls_of}
+use Rattle.admission.specs.Calls.{EachCall, IsCall, open_calls_of}
 use Rattle.admission.specs.Legs.{without_leg}
 
 abbrev pub key_of : CallKey × Call → CallKey
@@ -17,7 +16,7 @@ call_of e = e.1
 
 -- no two entries share a key, there are no more than there may be, and each has a call
 pub record AreStored {S : Type 0} (calls : IndexMap CallKey Call S) (most : ℕ) : Type 0 where
-  pub each : (key : CallKey) (call : Call) → fin.get (open_calls_of calls.entries) key ≡ Some call → IsCall call
+  pub each : EachCall IsCall (open_calls_of calls.entries)
   pub apart : AreApart key_of (row_in calls.entries)
   pub few : length calls.entries ≤ most
   pub most_few : most ≤ 20000
