@@ -29,8 +29,11 @@ module _ (figure : Call → ℕ) (calls : OpenCalls) (key : CallKey) where
   pub total-update : (call : Call) (change : Call → Call) → fin.get calls key ≡ Some call
       → total figure (update calls key change) + figure call ≡ total figure calls + figure (change call)
   total-update call change there =
-      omega (arith, ap (total figure) (update_there call_key_cmp_total call_key_cmp-IsAntisymmetric calls key call change there),
-      total-change call_key_cmp_total call_key_cmp-IsAntisymmetric figure calls key call (change call) there)
+      omega (
+        arith,
+        ap (total figure) (update_there call_key_cmp_total call_key_cmp-IsAntisymmetric calls key call change there),
+        total-change call_key_cmp_total call_key_cmp-IsAntisymmetric figure calls key call (change call) there,
+      )
 
   -- a figure that the change keeps
   pub total-kept : (call : Call) (change : Call → Call) → fin.get calls key ≡ Some call → figure (change call) ≡ figure call
@@ -41,8 +44,11 @@ module _ (figure : Call → ℕ) (calls : OpenCalls) (key : CallKey) where
   pub total-left : (call : Call) (endpoint : List ℕ) → fin.get calls key ≡ Some call → has_other call.legs endpoint ≡ true
       → total figure (after_leave calls key endpoint) + figure call ≡ total figure calls + figure (with_legs_but endpoint call)
   total-left call endpoint there other =
-      omega (arith, ap (total figure) (after_leave-other calls key endpoint call there other),
-      total-change call_key_cmp_total call_key_cmp-IsAntisymmetric figure calls key call (with_legs_but endpoint call) there)
+      omega (
+        arith,
+        ap (total figure) (after_leave-other calls key endpoint call there other),
+        total-change call_key_cmp_total call_key_cmp-IsAntisymmetric figure calls key call (with_legs_but endpoint call) there,
+      )
 
   -- and where none does
   pub total-ended : (call : Call) (endpoint : List ℕ) → fin.get calls key ≡ Some call → has_other call.legs endpoint ≡ false
@@ -208,9 +214,12 @@ IsInNoCall-zero calls x zero key = cases (fin.get calls key) refl where
 
 pub legs_of-none : (calls : OpenCalls) (x : List ℕ) → IsInNoCall calls x → legs_of calls x ≡ 0
 legs_of-none calls x none =
-    omega (arith, total_le call_key_cmp_total call_key_cmp-IsAntisymmetric (leg_count x) 0 calls (λ key call there.
-    (let is : leg_of call.legs x ≡ None = ap (λ w. leg_of (legs_in w) x) (sym there) ∙ none key in
-    omega (arith, ap (λ w. count (is_some w)) is))))
+    omega (
+      arith,
+      total_le call_key_cmp_total call_key_cmp-IsAntisymmetric (leg_count x) 0 calls (λ key call there.
+          (let is : leg_of call.legs x ≡ None = ap (λ w. leg_of (legs_in w) x) (sym there) ∙ none key in
+          omega (arith, ap (λ w. count (is_some w)) is))),
+    )
 
 -- what holds of each call, or of each leg, after each change
 module _ (P : Call → Type 0) (calls : OpenCalls) (key : CallKey) (each : EachCall P calls) where

@@ -12,7 +12,8 @@ use Rattle.admission.specs.Legs.{AreLegs, leg_of, without_leg}
 abbrev pub OpenCalls : Type 0
 OpenCalls = FinMap call_key_cmp Call
 
--- with the most that there may be, and how many more can be opened so that no memory is taken for them
+-- with the most that there may be, and how many more can be opened so that no memory is taken for
+-- them
 pub record CallTable : Type 0 where
   pub calls : OpenCalls
   pub most : ℕ

@@ -8,8 +8,8 @@ use Rattle.admission.specs.declared.leg.Leg.{Leg}
 abbrev pub endpoint_of : Leg → List ℕ
 endpoint_of leg = leg.endpoint
 
--- a call is between two endpoints, of which one may not have asked for admission yet: one or two legs, of
--- different endpoints
+-- a call is between two endpoints, of which one may not have asked for admission yet: one or two
+-- legs, of different endpoints
 pub record AreLegs (legs : List Leg) : Type 0 where
   pub some : 1 ≤ length legs
   pub few : length legs ≤ 2

@@ -26,8 +26,10 @@ abbrev pub with_legs_but : List ℕ → Call → Call
 with_legs_but endpoint call = record call { legs = without_leg call.legs endpoint }
 
 -- the call under this key is changed, where it is there, with no memory taken
-pub record Rewrites {S : Type 0} (change : Call → Call) (old new : IndexMap CallKey Call S) (key : CallKey) : Type 0 where
-  pub updates : (call : Call) → get same_call_key old key ≡ Some call → Updates same_call_key old new key (Some (change call))
+pub record Rewrites {S : Type 0} (change : Call → Call) (old new : IndexMap CallKey Call S)
+    (key : CallKey) : Type 0 where
+  pub updates : (call : Call) → get same_call_key old key ≡ Some call
+      → Updates same_call_key old new key (Some (change call))
   pub unique : IsUnique same_call_key new
   pub same_length : length new.entries ≡ length old.entries
   pub same_room : spare new ≡ spare old

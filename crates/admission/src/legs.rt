@@ -11,8 +11,8 @@ use arrayvec::ArrayVec;
 use ras_module::EndpointId;
 use std::marker::Model;
 
-/// The legs of a call, in the order in which they were admitted: one or two, of different endpoints.
-/// Contracts see the list.
+/// The legs of a call, in the order in which they were admitted: one or two, of different
+/// endpoints. Contracts see the list.
 #[derive(Drop)]
 pub struct Legs {
     items: ArrayVec<Leg, 2>,

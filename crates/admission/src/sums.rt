@@ -47,7 +47,8 @@ pub(crate) fn legs_with(calls: &IndexMap<CallKey, Call>, endpoint: &EndpointId) 
 
 /// The key of a call with a leg of this endpoint.
 pub(crate) fn call_in(calls: &IndexMap<CallKey, Call>, endpoint: &EndpointId) -> Option<CallKey>
-    ensures { result ≡ option_map (λ e. e.0) (find (λ e. has_leg endpoint.now e.1) calls.now.entries) }
+    ensures { result
+        ≡ option_map (λ e. e.0) (find (λ e. has_leg endpoint.now e.1) calls.now.entries) }
 {
     for (key, call) in calls.iter() {
         if call.legs.get(endpoint).is_some() {

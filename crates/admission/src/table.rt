@@ -46,7 +46,11 @@ impl Model for Calls {
 
     ghost coded = { Prim.hlevel (codes, map.code) };
 
-    ghost view = { λ t. record { calls = open_calls_of t.calls.entries; most = t.most; room = spare t.calls } };
+    ghost view = { λ t. record {
+      calls = open_calls_of t.calls.entries;
+      most = t.most;
+      room = spare t.calls;
+    } };
 
     ghost invariant = { λ t. AreStored t.calls t.most };
 }
@@ -137,14 +141,15 @@ impl Calls {
         self.calls.reserve(more)
     }
 
-    /// Opens a call with its first leg. Nothing is changed where as many are open as may be, and for want of
-    /// memory, which is never where there is room.
+    /// Opens a call with its first leg. Nothing is changed where as many are open as may be, and for
+    /// want of memory, which is never where there is room.
     pub fn open(&mut self, key: CallKey, pool: usize, units: u32, leg: Leg) -> Result<(), CallFault>
         requires { map.get self.old.calls key ≡ None }
         ensures ok { OnOk result (Adds self.old self.new
             (map.insert self.old.calls key (new_call pool units leg))) }
         ensures full { (result ≡ Err CallFault.Full) ↔ (map.len self.old.calls ≡ self.old.most) }
-        ensures other { map.len self.old.calls ≢ self.old.most → IsOkUnless result CallFault.Memory }
+        ensures other { map.len self.old.calls ≢ self.old.most
+            → IsOkUnless result CallFault.Memory }
         ensures reserved { 0 < self.old.room → result ≢ Err CallFault.Memory }
         ensures err { OnErr result (Becomes self.old self.new self.old.calls) }
     {
@@ -165,7 +170,8 @@ impl Calls {
     /// Adds the second leg of a call, which uses no further units. This takes no memory.
     pub fn join(&mut self, key: CallKey, leg: Leg) -> Result<(), CallFault>
         requires { leg_at self.old.calls key leg.endpoint ≡ None }
-        ensures ok { OnOk result (Becomes self.old self.new (update self.old.calls key (with_leg leg))) }
+        ensures ok { OnOk result (Becomes self.old self.new
+            (update self.old.calls key (with_leg leg))) }
         ensures joins { IsOk result ↔ (length (legs_in (map.get self.old.calls key)) ≡ 1) }
         ensures two_legs { (result ≡ Err CallFault.TwoLegs)
             ↔ (length (legs_in (map.get self.old.calls key)) ≡ 2) }
@@ -187,7 +193,8 @@ impl Calls {
         ensures ok { OnOk result (Becomes self.old self.new
             (update self.old.calls key.now (with_units units))) }
         ensures changes { IsOk result ↔ IsSome (map.get self.old.calls key.now) }
-        ensures no_call { (result ≡ Err CallFault.NoCall) ↔ (map.get self.old.calls key.now ≡ None) }
+        ensures no_call { (result ≡ Err CallFault.NoCall)
+            ↔ (map.get self.old.calls key.now ≡ None) }
         ensures err { OnErr result (self.new ≡ self.old) }
     {
         let Some(_call) = self.get(key) else {
@@ -204,7 +211,8 @@ impl Calls {
         ensures ended { IfOk result (λ left. left.ended
             ≡ freed_by_leave self.old.calls key.now endpoint.now) }
         ensures leaves { IsOk result ↔ IsSome (leg_at self.old.calls key.now endpoint.now) }
-        ensures no_call { (result ≡ Err CallFault.NoCall) ↔ (map.get self.old.calls key.now ≡ None) }
+        ensures no_call { (result ≡ Err CallFault.NoCall)
+            ↔ (map.get self.old.calls key.now ≡ None) }
         ensures no_leg { (result ≡ Err CallFault.NoLeg) ↔ (IsSome (map.get self.old.calls key.now)
             × (leg_at self.old.calls key.now endpoint.now ≡ None)) }
         ensures err { OnErr result (self.new ≡ self.old) }
