@@ -9,8 +9,10 @@ use Rattle.std.proofs.lemmas.Bool.Decides.{Decides-eqb}
 use Rattle.ras_module.specs.declared.address.Address.{Address}
 use Rattle.ras_module.specs.declared.alias.Alias.{Alias}
 use Rattle.ras_module.specs.declared.alias.Alias.TheVariants.{Digits, H323Id}
+use Rattle.ras_module.specs.declared.call_key.CallKey.{CallKey}
 use Rattle.ras_module.specs.Addresses.{same_address}
 use Rattle.ras_module.specs.Aliases.{same_alias}
+use Rattle.ras_module.specs.CallKeys.{same_call_key}
 
 pub texts_decide : (xs ys : List ℕ) → Decides (pointwise nat_eq xs ys) (xs ≡ ys)
 texts_decide xs ys = slice_eq-Decides Decides-eqb xs ys (pointwise nat_eq xs ys) refl
@@ -31,6 +33,12 @@ address_decides a b = (
       λ i. record { ip = ips i; port = ports i }),
   λ e. true_both _ _ ((texts_decide a.ip b.ip).1 (ap (λ c. c.ip) e))
       ((Decides-eqb a.port b.port).1 (ap (λ c. c.port) e)),
+)
+
+pub call_key_decides : (a b : CallKey) → Decides (same_call_key a b) (a ≡ b)
+call_key_decides a b = (
+  λ h. (let octets = (texts_decide a.octets b.octets).0 h in λ i. record { octets = octets i }),
+  λ e. (texts_decide a.octets b.octets).1 (ap (λ k. k.octets) e),
 )
 
 pub alias_decides : (a b : Alias) → Decides (same_alias a b) (a ≡ b)

@@ -1,0 +1,5 @@
+pub mod Entries
+pub mod LegLemmas
+pub mod StoredCalls
+pub mod Leaving
+pub mod Soundness

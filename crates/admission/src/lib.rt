@@ -1,0 +1,18 @@
+//! The calls that the gatekeeper has admitted (H.323, 7.2): who takes part in each, and the bandwidth
+//! that they use.
+#![tactic(auto)]
+
+mod call;
+mod call_list;
+mod fault;
+mod leg;
+mod legs;
+mod sums;
+mod table;
+
+pub use call::Call;
+pub use call_list::CallList;
+pub use fault::CallFault;
+pub use leg::Leg;
+pub use legs::Legs;
+pub use table::{Calls, Left};

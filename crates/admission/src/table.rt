@@ -1,0 +1,261 @@
+//! The table of the calls.
+
+ghost use Rattle.std.specs.Prelude.{◌≡◌, ◌≢◌, ◌<◌, ◌≤◌, ◌+◌, ◌^◌, ◌↔◌, length, None, Err, IsOk, IsSome, IsTrue, IfOk, OnOk, OnErr, IsOkUnless, MatchOption};
+ghost use Rattle.std.specs.Option.{option_copied};
+ghost use Rattle.std.specs.FinMap as map;
+ghost use Rattle.keyed.specs.Maps.{update};
+ghost use Rattle.ras_module.specs.CallKeys.{same_call_key};
+ghost use Rattle.indexmap.specs.IndexMap.{get};
+ghost use Rattle.admission.specs.Calls.{in_use, in_use_of, legs_in, leg_at, legs_of, new_call, with_leg, with_units, after_leave, freed_by_leave, IsInNoCall, IsConsistent, Becomes, Adds};
+ghost use Rattle.admission.specs.Legs.{leg_of, without_leg, has_other};
+ghost use Rattle.admission.specs.Stored.{Rewrites, with_legs_but};
+
+use crate::call::Call;
+use crate::call_list::{CallList, rising};
+use crate::fault::CallFault;
+use crate::leg::Leg;
+use crate::legs::Legs;
+use crate::sums::{call_in, legs_with, units_in, units_of_pool};
+use indexmap::IndexMap;
+use ras_module::{CallKey, EndpointId};
+use std::alloc::{AllocError, Global};
+use std::marker::Model;
+
+/// What an endpoint that left a call has ended.
+#[derive(Clone, Copy, Debug, PartialEq, Eq)]
+pub struct Left {
+    /// The pool and the units of the call, where its last leg went.
+    pub ended: Option<(usize, u32)>,
+}
+
+/// The calls of a zone by their keys. Contracts see a finite map.
+#[derive(Drop)]
+pub struct Calls {
+    calls: IndexMap<CallKey, Call>,
+    most: usize,
+}
+
+impl Model for Calls {
+    ghost use Rattle.std.specs.Coded.{codes};
+    ghost use Rattle.std.specs.FinMap as map;
+    ghost use Rattle.indexmap.specs.IndexMap.{spare};
+    ghost use Rattle.admission.specs.Calls.{CallTable, open_calls_of};
+    ghost use Rattle.admission.specs.Stored.{AreStored};
+
+    ghost Value = { CallTable };
+
+    ghost coded = { Prim.hlevel (codes, map.code) };
+
+    ghost view = { λ t. record {
+      calls = open_calls_of t.calls.entries;
+      most = t.most;
+      room = spare t.calls;
+    } };
+
+    ghost invariant = { λ t. AreStored t.calls t.most };
+}
+
+impl Calls {
+    /// No call, where so many may be open. This takes no memory.
+    pub fn new(alloc: Global, most: usize) -> Self
+        requires some { 1 ≤ most }
+        requires few { most ≤ 20000 }
+        ensures calls { result.calls ≡ map.empty }
+        ensures most { result.most ≡ most }
+    {
+        Calls {
+            calls: IndexMap::new(alloc),
+            most,
+        }
+    }
+
+    /// How many calls are open.
+    pub fn len(&self) -> usize
+        ensures len { result ≡ map.len self.now.calls }
+        ensures sound { IsConsistent self.now }
+    {
+        self.calls.len()
+    }
+
+    /// The call with this key.
+    pub fn get(&self, key: &CallKey) -> Option<&Call>
+        ensures found { option_copied result ≡ map.get self.now.calls key.now }
+        ensures sound { IsConsistent self.now }
+    {
+        self.calls.get(key)
+    }
+
+    /// The leg of this endpoint in the call with this key.
+    pub fn leg(&self, key: &CallKey, endpoint: &EndpointId) -> Option<&Leg>
+        ensures { option_copied result ≡ leg_at self.now.calls key.now endpoint.now }
+    {
+        self.get(key)?.legs.get(endpoint)
+    }
+
+    /// The key of a call with a leg of this endpoint: any of them, and None where there is none.
+    pub fn call_of(&self, endpoint: &EndpointId) -> Option<CallKey>
+        ensures { MatchOption result (IsInNoCall self.now.calls endpoint.now)
+            (λ key. IsSome (leg_at self.now.calls key endpoint.now)) }
+    {
+        call_in(&self.calls, endpoint)
+    }
+
+    /// In how many calls this endpoint has a leg.
+    pub fn legs_of(&self, endpoint: &EndpointId) -> usize
+        ensures { result ≡ legs_of self.now.calls endpoint.now }
+    {
+        legs_with(&self.calls, endpoint)
+    }
+
+    /// The units of all calls: the bandwidth in use.
+    pub fn total(&self) -> u64
+        ensures sum { result ≡ in_use self.now.calls }
+        ensures bound { result < 2 ^ 47 }
+    {
+        units_in(&self.calls)
+    }
+
+    /// The units of the calls of one pool.
+    pub fn total_of(&self, pool: usize) -> u64
+        ensures sum { result ≡ in_use_of self.now.calls pool }
+        ensures bound { result < 2 ^ 47 }
+    {
+        units_of_pool(&self.calls, pool)
+    }
+
+    /// Copies, by rising key.
+    pub fn list(&self) -> Result<CallList, AllocError>
+        ensures { IfOk result (λ list. list ≡ map.entries self.now.calls) }
+    {
+        rising(*self.calls.allocator(), &self.calls)
+    }
+
+    /// Makes room for so many more.
+    pub fn reserve(&mut self, more: usize) -> Result<(), AllocError>
+        ensures calls { self.new.calls ≡ self.old.calls }
+        ensures most { self.new.most ≡ self.old.most }
+        ensures ok { OnOk result (more ≤ self.new.room) }
+        ensures room { self.old.room ≤ self.new.room }
+        ensures succeeds { more ≤ self.old.room → IsOk result }
+    {
+        self.calls.reserve(more)
+    }
+
+    /// Opens a call with its first leg. Nothing is changed where as many are open as may be, and for
+    /// want of memory, which is never where there is room.
+    pub fn open(&mut self, key: CallKey, pool: usize, units: u32, leg: Leg) -> Result<(), CallFault>
+        requires { map.get self.old.calls key ≡ None }
+        ensures ok { OnOk result (Adds self.old self.new
+            (map.insert self.old.calls key (new_call pool units leg))) }
+        ensures full { (result ≡ Err CallFault.Full) ↔ (map.len self.old.calls ≡ self.old.most) }
+        ensures other { map.len self.old.calls ≢ self.old.most
+            → IsOkUnless result CallFault.Memory }
+        ensures reserved { 0 < self.old.room → result ≢ Err CallFault.Memory }
+        ensures err { OnErr result (Becomes self.old self.new self.old.calls) }
+    {
+        if self.calls.len() == self.most {
+            return Err(CallFault::Full);
+        }
+        let call = Call {
+            pool,
+            units,
+            legs: Legs::one(leg),
+        };
+        match self.calls.insert(key, call) {
+            Ok(_) => Ok(()),
+            Err(_) => Err(CallFault::Memory),
+        }
+    }
+
+    /// Adds the second leg of a call, which uses no further units. This takes no memory.
+    pub fn join(&mut self, key: CallKey, leg: Leg) -> Result<(), CallFault>
+        requires { leg_at self.old.calls key leg.endpoint ≡ None }
+        ensures ok { OnOk result (Becomes self.old self.new
+            (update self.old.calls key (with_leg leg))) }
+        ensures joins { IsOk result ↔ (length (legs_in (map.get self.old.calls key)) ≡ 1) }
+        ensures two_legs { (result ≡ Err CallFault.TwoLegs)
+            ↔ (length (legs_in (map.get self.old.calls key)) ≡ 2) }
+        ensures no_call { (result ≡ Err CallFault.NoCall) ↔ (map.get self.old.calls key ≡ None) }
+        ensures err { OnErr result (self.new ≡ self.old) }
+    {
+        let Some(call) = self.get(&key) else {
+            return Err(CallFault::NoCall);
+        };
+        if call.legs.are_two() {
+            return Err(CallFault::TwoLegs);
+        }
+        write_leg(&mut self.calls, &key, leg);
+        Ok(())
+    }
+
+    /// Changes the units of a call. This takes no memory.
+    pub fn set_units(&mut self, key: &CallKey, units: u32) -> Result<(), CallFault>
+        ensures ok { OnOk result (Becomes self.old self.new
+            (update self.old.calls key.now (with_units units))) }
+        ensures changes { IsOk result ↔ IsSome (map.get self.old.calls key.now) }
+        ensures no_call { (result ≡ Err CallFault.NoCall)
+            ↔ (map.get self.old.calls key.now ≡ None) }
+        ensures err { OnErr result (self.new ≡ self.old) }
+    {
+        let Some(_call) = self.get(key) else {
+            return Err(CallFault::NoCall);
+        };
+        write_units(&mut self.calls, key, units);
+        Ok(())
+    }
+
+    /// Takes an endpoint's leg out of a call, which ends with its last leg. This takes no memory.
+    pub fn leave(&mut self, key: &CallKey, endpoint: &EndpointId) -> Result<Left, CallFault>
+        ensures ok { OnOk result (Becomes self.old self.new
+            (after_leave self.old.calls key.now endpoint.now)) }
+        ensures ended { IfOk result (λ left. left.ended
+            ≡ freed_by_leave self.old.calls key.now endpoint.now) }
+        ensures leaves { IsOk result ↔ IsSome (leg_at self.old.calls key.now endpoint.now) }
+        ensures no_call { (result ≡ Err CallFault.NoCall)
+            ↔ (map.get self.old.calls key.now ≡ None) }
+        ensures no_leg { (result ≡ Err CallFault.NoLeg) ↔ (IsSome (map.get self.old.calls key.now)
+            × (leg_at self.old.calls key.now endpoint.now ≡ None)) }
+        ensures err { OnErr result (self.new ≡ self.old) }
+    {
+        let Some(call) = self.get(key) else {
+            return Err(CallFault::NoCall);
+        };
+        if call.legs.get(endpoint).is_none() {
+            return Err(CallFault::NoLeg);
+        }
+        if call.legs.has_other(endpoint) {
+            write_without(&mut self.calls, key, endpoint);
+            return Ok(Left { ended: None });
+        }
+        let ended = Some((call.pool, call.units));
+        self.calls.swap_remove(key);
+        Ok(Left { ended })
+    }
+}
+
+fn write_leg(calls: &mut IndexMap<CallKey, Call>, key: &CallKey, leg: Leg)
+    requires one { length (legs_in (get same_call_key calls.old key.now)) ≡ 1 }
+    requires new { leg_of (legs_in (get same_call_key calls.old key.now)) leg.endpoint ≡ None }
+    ensures { Rewrites (with_leg leg) calls.old calls.new key.now }
+{
+    if let Some(call) = calls.get_mut(key) {
+        call.legs.push(leg);
+    }
+}
+
+fn write_units(calls: &mut IndexMap<CallKey, Call>, key: &CallKey, units: u32)
+    ensures { Rewrites (with_units units) calls.old calls.new key.now }
+{
+    if let Some(call) = calls.get_mut(key) {
+        call.units = units;
+    }
+}
+
+fn write_without(calls: &mut IndexMap<CallKey, Call>, key: &CallKey, endpoint: &EndpointId)
+    requires { IsTrue (has_other (legs_in (get same_call_key calls.old key.now)) endpoint.now) }
+    ensures { Rewrites (with_legs_but endpoint.now) calls.old calls.new key.now }
+{
+    if let Some(call) = calls.get_mut(key) {
+        call.legs.remove(endpoint);
+    }
+}
