@@ -1,6 +1,7 @@
 -- What a run that stops at an event answers.
 use Rattle.std.proofs.Common.{◌≡◌, ℕ, ◌+◌, ◌<◌, List, take, length, Option, Err, add-one}
-use Rattle.ras_core.specs.Machine.{State, most_steps}
+use Rattle.ras_core.specs.State.{State}
+use Rattle.ras_core.specs.Machine.{most_steps}
 use Rattle.script.specs.declared.fault.RunFault.TheVariants.{Memory}
 use Rattle.script.specs.declared.read.Script.{Script}
 use Rattle.script.specs.Runs.{RunsAndPrints, IsRunAnswer}

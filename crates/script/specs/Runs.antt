@@ -4,7 +4,8 @@ use Rattle.std.specs.Io.KnownBytes.{Keeps, Appends}
 use Rattle.ras_core.specs.declared.config.ConfigParts.{ConfigParts}
 use Rattle.ras_core.specs.declared.event.Event.{Event}
 use Rattle.ras_core.specs.declared.outcome.Outcome.{Outcome}
-use Rattle.ras_core.specs.Machine.{State, opening, most_steps}
+use Rattle.ras_core.specs.State.{State, opening}
+use Rattle.ras_core.specs.Machine.{most_steps}
 use Rattle.ras_core.specs.Steps.{RunsOn}
 use Rattle.script.specs.declared.fault.RunFault.{RunFault}
 use Rattle.script.specs.declared.fault.RunFault.TheVariants.{Memory, Closed, Stream}
