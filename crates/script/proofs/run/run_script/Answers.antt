@@ -4,7 +4,7 @@ use Rattle.ras_core.specs.State.{opening}
 use Rattle.ras_core.specs.Machine.{most_steps}
 use Rattle.ras_core.specs.Steps.{RunsOn}
 use Rattle.script.specs.Prints.{outcome_lines}
-use Rattle.script.proofs.Running.{no_memory_at}
+use Rattle.script.proofs.Running.{no_memory_at, closed_at}
 use Rattle.script.proofs.run.run_script.Goals as goal
 
 pub returns-in-Memory : goal.returns-in-Memory
@@ -41,4 +41,5 @@ returns g c =
     let ran : RunsOn (opening script.config) (take before script.events) [] outcomes c.run-ran.new.self = search rules in
     let lines : Appends start end (outcome_lines outcomes) = search rules in
     let closed : c.run-ran.new.self.steps ≡ most_steps = search rules in
-    (c.run-ran.new.self, (below, record { outcomes = outcomes; run = ran; lines = lines }), closed)
+    closed_at script before c.run-ran.new.self start end below
+    (record { outcomes = outcomes; run = ran; lines = lines }) closed
