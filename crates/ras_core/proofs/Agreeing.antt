@@ -1,6 +1,6 @@
 -- How the changes of a zone keep the endpoints and the table of their aliases in agreement.
-use Rattle.std.proofs.Common.{◌≡◌, ℕ, List, [], sym, ◌∙◌, ap, subst, refl, Some, None}
-use Rattle.std.specs.Prelude.{Option, Contains, Result, Ok, IsSome, OnOk, SomeIff}
+use Rattle.std.proofs.Common.{◌≡◌, ℕ, List, sym, ◌∙◌, ap, subst, refl, Some, None}
+use Rattle.std.specs.Prelude.{Option, Contains, Result, Ok, IsSome, OnOk}
 use Rattle.std.specs.FinMap as fin
 use Rattle.std.proofs.lemmas.Cmp.{nat_list_cmp_total}
 use Rattle.std.proofs.lemmas.Map.Lookups.{exact_bytes}

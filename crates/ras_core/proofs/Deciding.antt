@@ -1,6 +1,6 @@
 -- Decisions about requests.
 use Rattle.std.proofs.Common.{◌≡◌, ◌≤◌, ℕ, Bool, true, false, cond, List, [], ◌∷◌, length, sym, ◌∙◌, ap, refl, Some, None, arith}
-use Rattle.std.specs.Prelude.{Option, Result, Ok, Err, IsOk, MatchResult, ◌<◌, filter, if◌then◌else◌}
+use Rattle.std.specs.Prelude.{Result, Ok, Err, IsOk, MatchResult, ◌<◌, filter, if◌then◌else◌}
 use Rattle.std.specs.FinMap as fin
 use Rattle.ras_module.specs.declared.alias.Alias.{Alias}
 use Rattle.ras_module.specs.declared.reply.Reply.{Reply}

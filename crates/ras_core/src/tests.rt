@@ -229,15 +229,13 @@ fn is_answered(
         port: 1719,
     };
     let outcome = zone.step(event_from(alloc, source, bytes, 1_000)?)?;
-    let Some(datagram) = outcome.output else {
-        return Ok(false);
+    let sent = Datagram {
+        to: source,
+        bytes: Octets::from_vec(reply.to_vec(alloc)?),
     };
-    Ok(
-        datagram.to == source
-            && datagram.bytes.as_slice() == reply
-            && outcome.given.is_some() == is_new
-            && zone.endpoints()?.as_slice().len() == endpoints,
-    )
+    let count = zone.endpoints()?.as_slice().len();
+    let is_given = outcome.given.is_some();
+    Ok(outcome.output == Some(sent) && is_given == is_new && count == endpoints)
 }
 
 #[test]

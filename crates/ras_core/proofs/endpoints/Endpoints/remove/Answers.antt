@@ -1,6 +1,6 @@
 use Rattle.std.proofs.Common.{sym, subst}
 use Rattle.std.specs.FinMap as fin
-use Rattle.aliases.specs.Held.{Held, without_holder}
+use Rattle.aliases.specs.Held.{Held}
 use Rattle.registrations.specs.Registry.{Live}
 use Rattle.registrations.specs.Agreement.{Agree}
 use Rattle.registrations.proofs.Agreement.{Agree-remove}

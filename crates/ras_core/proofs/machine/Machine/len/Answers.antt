@@ -1,4 +1,4 @@
-use Rattle.std.proofs.Common.{◌<◌, ◌≤◌, ◌^◌, ℕ, subst, sym}
+use Rattle.std.proofs.Common.{◌<◌, ◌≤◌, ◌^◌, ℕ, subst}
 use Rattle.std.specs.FinMap as map
 use Rattle.ras_core.specs.Soundness.{Sound}
 use Rattle.ras_core.proofs.machine.Machine.len.Goals as goal
