@@ -16,3 +16,6 @@ pub use fault::CallFault;
 pub use leg::Leg;
 pub use legs::Legs;
 pub use table::{Calls, Left};
+
+#[cfg(test)]
+mod tests;
