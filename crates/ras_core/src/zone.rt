@@ -49,8 +49,8 @@ impl Zone {
         Ok(Zone { machine })
     }
 
-    /// One step of the machine: what it answers to the event, of at most 20,000 octets. It is refused as
-    /// Closed exactly where 2^62 steps were made; after a refusal nothing has changed, the clock included.
+    /// One step of the machine: what it answers to the event. It is refused as Closed exactly where 2^62
+    /// steps were made; after a refusal nothing has changed, the clock included.
     pub fn step(&mut self, event: Event) -> Result<Outcome, StepFault>
         ensures step { IfOk result (λ outcome. Step self.old event outcome self.new) }
         ensures closed { (result ≡ Err StepFault.Closed) ↔ (self.old.steps ≡ most_steps) }
