@@ -1,11 +1,10 @@
 -- What an endpoint that leaves a call leaves of it.
-use Rattle.std.proofs.Common.{◌≡◌, ℕ, true, false, List, [], ◌∷◌, sym, ◌∙◌, ap, Some, None}
+use Rattle.std.proofs.Common.{◌≡◌, ℕ, true, false, List, sym, ◌∙◌, ap, Some, None}
 use Rattle.std.specs.Prelude.{Option, is_some, if◌then◌else◌, option_and_then}
 use Rattle.std.specs.FinMap as fin
 use Rattle.ras_module.specs.declared.call_key.CallKey.{CallKey}
 use Rattle.admission.specs.declared.call.Call.{Call}
-use Rattle.admission.specs.declared.leg.Leg.{Leg}
-use Rattle.admission.specs.Legs.{without_leg, has_other}
+use Rattle.admission.specs.Legs.{has_other}
 use Rattle.admission.specs.Stored.{with_legs_but}
 use Rattle.admission.specs.Calls.{OpenCalls, with_legs, rest_of_call, put_or_remove, after_leave, freed_by, freed_by_leave}
 use Rattle.admission.proofs.LegLemmas.{other_left, none_left}

@@ -1,4 +1,3 @@
-pub mod Entries
 pub mod LegLemmas
 pub mod StoredCalls
 pub mod Leaving

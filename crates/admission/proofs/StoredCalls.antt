@@ -1,5 +1,5 @@
 -- What a change of one call does to the stored calls.
-use Rattle.std.proofs.Common.{◌≡◌, ◌≢◌, ℕ, zero, suc, [], ◌∷◌, cond, rules, ◌+◌, ◌-◌, ◌*◌, ◌^◌, ◌<◌, ◌≤◌, List, length, refl, sym, ◌∙◌, ap, subst, Some, None, arith}
+use Rattle.std.proofs.Common.{◌≡◌, ◌≢◌, ℕ, rules, ◌+◌, ◌-◌, ◌*◌, ◌^◌, ◌<◌, ◌≤◌, List, length, refl, sym, ◌∙◌, ap, subst, Some, None, arith}
 use Rattle.std.specs.Prelude.{Option, MatchOption, IsSome, slice_get, Bool, true, false, nat_eq, is_some, if◌then◌else◌}
 use Rattle.std.specs.FinMap as fin
 use Rattle.std.specs.List.{sum_by, find}
@@ -11,9 +11,9 @@ use Rattle.keyed.specs.Places.{AreApart, row_in}
 use Rattle.keyed.proofs.Decide.{some_none, same_some}
 use Rattle.keyed.proofs.Maps as maps
 use Rattle.keyed.proofs.Places.{IsMapOf}
-use Rattle.keyed.proofs.Rows.{IsMapOf-rows}
+use Rattle.keyed.proofs.Rows.{IsMapOf-rows, FindsIn, finds_in}
 use Rattle.keyed.proofs.Values.{total_le}
-use Rattle.ras_module.specs.CallKeys.{same_call_key, call_key_cmp}
+use Rattle.ras_module.specs.CallKeys.{same_call_key}
 use Rattle.ras_module.specs.Same.{call_key_decides}
 use Rattle.ras_module.specs.declared.call_key.CallKey.{CallKey}
 use Rattle.ras_module.proofs.CallKeyOrder.{call_key_cmp_total, call_key_cmp-IsAntisymmetric}
@@ -21,7 +21,7 @@ use Rattle.admission.specs.declared.call.Call.{Call}
 use Rattle.admission.specs.Calls.{OpenCalls, CallTable, EachCall, units_from, has_leg, legs_in, leg_at, IsInNoCall, IsCall, IsConsistent, Becomes, Adds, open_calls_of}
 use Rattle.admission.specs.Legs.{leg_of}
 use Rattle.admission.specs.Stored.{AreStored, Rewrites, key_of}
-use Rattle.admission.proofs.Entries.{value_of, entries_again, AreApart-entries, get_entries, len_entries, total_entries, entries_insert, entries_remove}
+use Rattle.keyed.proofs.Entries.{value_of, entries_again, AreApart-entries, get_entries, len_entries, total_entries, entries_insert, entries_remove}
 
 abbrev pub open_of : {S : Type 0} → IndexMap CallKey Call S → OpenCalls
 open_of calls = open_calls_of calls.entries
@@ -182,25 +182,6 @@ units_below pool call = cases (nat_eq call.pool pool) where
   cases true = omega arith
   cases false = omega arith
 
--- what a search of the entries finds
-abbrev FindsIn : (Call → Bool) → List (CallKey × Call) → Option (CallKey × Call) → Type 0
-FindsIn test es None = (j : ℕ) (e : CallKey × Call) → slice_get es j ≡ Some e → test e.1 ≡ false
-FindsIn test es (Some e) = (i : ℕ) × (slice_get es i ≡ Some e) × (test e.1 ≡ true)
-
-fails_first : (test : Call → Bool) (x : CallKey × Call) (es : List (CallKey × Call)) (w : Option (CallKey × Call)) → test x.1 ≡ false → FindsIn test es w → FindsIn test (x ∷ es) w
-fails_first test x es None fails h = later where
-  later : (j : ℕ) (e : CallKey × Call) → slice_get (x ∷ es) j ≡ Some e → test e.1 ≡ false
-  later zero e there = sym (ap (λ y. test y.1) (same_some x e there)) ∙ fails
-  later (suc j) e there = h j e there
-fails_first test x es (Some e) fails h = (suc h.0, h.1, h.2)
-
-finds_in : (test : Call → Bool) (es : List (CallKey × Call)) → FindsIn test es (find (λ e. test e.1) es)
-finds_in test [] = λ j e there. some_none (sym there)
-finds_in test (x ∷ es) = cases (finds_in test es) (test x.1) refl where
-  cases : FindsIn test es (find (λ e. test e.1) es) → (b : Bool) → test x.1 ≡ b → FindsIn test (x ∷ es) (cond b (Some x) (find (λ e. test e.1) es))
-  cases rest true is = (zero, refl, is)
-  cases rest false is = fails_first test x es (find (λ e. test e.1) es) is rest
-
 pub none_from : {X : Type 0} (w : Option X) → is_some w ≡ false → w ≡ None
 none_from None h = refl
 none_from (Some x) h = absurd (cc h)
@@ -226,8 +207,8 @@ module _ {S : Type 0} (calls : IndexMap CallKey Call S) (most : ℕ) (t : CallTa
   -- the first entry's call with a leg of the endpoint is one, and where there is no such entry there is none
   pub call_found : MatchOption (option_map key_of (find (λ e. has_leg endpoint e.1) calls.entries)) (IsInNoCall t.calls endpoint)
       (λ key. IsSome (leg_at t.calls key endpoint))
-  call_found = cases (find (λ e. has_leg endpoint e.1) calls.entries) (finds_in (has_leg endpoint) calls.entries) where
-    cases : (w : Option (CallKey × Call)) → FindsIn (has_leg endpoint) calls.entries w
+  call_found = cases (find (λ e. has_leg endpoint e.1) calls.entries) (finds_in (λ e. has_leg endpoint e.1) calls.entries) where
+    cases : (w : Option (CallKey × Call)) → FindsIn (λ e. has_leg endpoint e.1) calls.entries w
         → MatchOption (option_map key_of w) (IsInNoCall t.calls endpoint) (λ key. IsSome (leg_at t.calls key endpoint))
     cases None h = no_call h
     cases (Some e) h =

@@ -1,12 +1,14 @@
 -- The calls that are open, as a finite map from their keys.
-use Rattle.std.specs.Prelude.{◌≡◌, ◌≤◌, ◌<◌, ◌+◌, ◌^◌, ℕ, Bool, List, [], ◌∷◌, ◌++◌, Option, Some, None, is_some, nat_eq, if◌then◌else◌, option_and_then, All}
+use Rattle.std.specs.Prelude.{◌≡◌, ◌==◌, ◌≤◌, ◌<◌, ◌+◌, ◌^◌, ℕ, Bool, List, [], ◌∷◌, ◌++◌, Option, Some, None, is_some, nat_eq, if◌then◌else◌, option_and_then, All}
+use Rattle.std.specs.Cmp.Lexicographic.{pointwise}
+use Rattle.std.specs.Ordering.{on, eq_of_both}
 use Rattle.std.specs.FinMap.{FinMap, get, insert, remove, len, from_entries}
 use Rattle.keyed.specs.Maps.{total}
 use Rattle.ras_module.specs.CallKeys.{call_key_cmp}
 use Rattle.ras_module.specs.declared.call_key.CallKey.{CallKey}
 use Rattle.admission.specs.declared.call.Call.{Call}
 use Rattle.admission.specs.declared.leg.Leg.{Leg}
-use Rattle.admission.specs.Legs.{AreLegs, leg_of, without_leg}
+use Rattle.admission.specs.Legs.{AreLegs, leg_of, same_leg, without_leg}
 
 -- what is known of each call
 abbrev pub OpenCalls : Type 0
@@ -21,6 +23,17 @@ pub record CallTable : Type 0 where
 
 abbrev pub open_calls_of : List (CallKey × Call) → OpenCalls
 open_calls_of entries = from_entries entries
+
+-- calls are compared by their pool, their units and their legs
+abbrev pub same_call : Call → Call → Bool
+same_call =
+    eq_of_both (eq_of_both (on (λ call. call.pool) ◌==◌) (on (λ call. call.units) ◌==◌))
+    (on (λ call. call.legs) (pointwise same_leg))
+
+-- and in a list by their key too
+abbrev pub same_entry : CallKey × Call → CallKey × Call → Bool
+same_entry =
+    eq_of_both (on (λ entry. entry.0.octets) (pointwise nat_eq)) (on (λ entry. entry.1) same_call)
 
 -- bandwidth in use: the sum of the units of all calls
 abbrev pub units_of : Call → ℕ

@@ -1,12 +1,20 @@
 -- The legs of a call: the part that each endpoint has in it.
-use Rattle.std.specs.Prelude.{◌≤◌, ℕ, Bool, List, Option, length, filter, not, nat_eq}
+use Rattle.std.specs.Prelude.{◌≤◌, ◌==◌, ℕ, Bool, List, Option, length, filter, not, nat_eq}
 use Rattle.std.specs.List.{find, list_any}
 use Rattle.std.specs.Cmp.Lexicographic.{pointwise}
 use Rattle.keyed.specs.Places.{AreApart, row_in}
+use Rattle.std.specs.Ordering.{on, eq_of_both}
 use Rattle.admission.specs.declared.leg.Leg.{Leg}
 
 abbrev pub endpoint_of : Leg → List ℕ
 endpoint_of leg = leg.endpoint
+
+-- legs are compared by their endpoint, and by the octets and the port of the address that it was
+-- told
+abbrev pub same_leg : Leg → Leg → Bool
+same_leg =
+    eq_of_both (on (λ leg. leg.endpoint) (pointwise nat_eq))
+    (eq_of_both (on (λ leg. leg.told.ip) (pointwise nat_eq)) (on (λ leg. leg.told.port) ◌==◌))
 
 -- a call is between two endpoints, of which one may not have asked for admission yet: one or two
 -- legs, of different endpoints

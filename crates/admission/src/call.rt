@@ -5,7 +5,7 @@ ghost use Rattle.std.specs.Prelude.{◌≡◌};
 use crate::legs::Legs;
 
 /// A call that was admitted.
-#[derive(Drop)]
+#[derive(PartialEq, Eq, Drop)]
 pub struct Call {
     /// The pool that lent its units, by its place.
     pub pool: usize,

@@ -3,7 +3,10 @@
 ghost use Rattle.std.specs.Prelude.{◌≡◌, IfOk};
 ghost use Rattle.std.specs.FinMap as map;
 ghost use Rattle.keyed.specs.Places.{AreApart, row_in};
-ghost use Rattle.admission.specs.Calls.{open_calls_of};
+ghost use Rattle.std.proofs.Common.{rules};
+ghost use Rattle.std.specs.Cmp.Lexicographic.{pointwise};
+ghost use Rattle.std.specs.Cmp.Rules.{comparing};
+ghost use Rattle.admission.specs.Calls.{open_calls_of, same_entry};
 ghost use Rattle.admission.specs.Stored.{key_of};
 
 use crate::call::Call;
@@ -50,6 +53,20 @@ impl CallList {
     {
         &self.items
     }
+}
+
+impl PartialEq for CallList {
+    ghost eq = { pointwise same_entry };
+
+    ghost laws = { Prim.search (comparing, rules) depth 14 };
+
+    fn eq(&self, other: &Self) -> bool {
+        self.as_slice() == other.as_slice()
+    }
+}
+
+impl Eq for CallList {
+    ghost laws = { Prim.search (comparing, rules) depth 14 };
 }
 
 /// Copies of these calls, by rising key.

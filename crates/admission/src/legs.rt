@@ -4,7 +4,9 @@ ghost use Rattle.std.specs.Prelude.{◌≡◌, ◌≤◌, ◌<◌, ◌++◌, ◌
 ghost use Rattle.std.specs.List.{find};
 ghost use Rattle.std.specs.Option.{option_copied};
 ghost use Rattle.std.specs.Cmp.Lexicographic.{pointwise};
-ghost use Rattle.admission.specs.Legs.{AreLegs, leg_of, without_leg, has_other};
+ghost use Rattle.std.proofs.Common.{rules};
+ghost use Rattle.std.specs.Cmp.Rules.{comparing};
+ghost use Rattle.admission.specs.Legs.{AreLegs, leg_of, same_leg, without_leg, has_other};
 
 use crate::leg::Leg;
 use arrayvec::ArrayVec;
@@ -95,6 +97,20 @@ impl Legs {
             items: copies_of(self.items.as_slice()),
         }
     }
+}
+
+impl PartialEq for Legs {
+    ghost eq = { pointwise same_leg };
+
+    ghost laws = { Prim.search (comparing, rules) depth 9 };
+
+    fn eq(&self, other: &Self) -> bool {
+        self.as_slice() == other.as_slice()
+    }
+}
+
+impl Eq for Legs {
+    ghost laws = { Prim.search (comparing, rules) depth 9 };
 }
 
 fn first_leg(leg: Leg) -> ArrayVec<Leg, 2>

@@ -139,6 +139,53 @@ fn a_list_is_by_rising_key(rt: HostRuntime) -> Result<(), Fail> {
     Ok(())
 }
 
+fn call(pool: usize, units: u32, last: u8) -> Result<Call, Fail> {
+    Ok(Call {
+        pool,
+        units,
+        legs: Legs::one(leg(last)?),
+    })
+}
+
+#[test]
+fn calls_are_equal_by_all_that_they_have(rt: HostRuntime) -> Result<(), Fail> {
+    let one = call(1, 1280, FIRST)?;
+    assert!(rt; one == one.copy());
+    assert!(rt; one != call(2, 1280, FIRST)?);
+    assert!(rt; one != call(1, 1281, FIRST)?);
+    assert!(rt; one != call(1, 1280, SECOND)?);
+    Ok(())
+}
+
+#[test]
+fn legs_are_equal_by_endpoint_and_address(rt: HostRuntime) -> Result<(), Fail> {
+    let told_otherwise = Leg {
+        told: leg(SECOND)?.told,
+        ..leg(FIRST)?
+    };
+    assert!(rt; Legs::one(leg(FIRST)?) == Legs::one(leg(FIRST)?));
+    assert!(rt; Legs::one(leg(FIRST)?) != Legs::one(told_otherwise));
+    Ok(())
+}
+
+/// Whether a list equals itself read again, and no list of no call.
+fn is_compared(calls: &Calls, none: CallList) -> Result<bool, Fail> {
+    let one = calls.list()?;
+    let again = calls.list()?;
+    Ok(one == again && one != none)
+}
+
+#[test]
+fn lists_are_equal_by_their_calls(rt: HostRuntime) -> Result<(), Fail> {
+    let none = CallList::from_vec(Vec::new(rt.alloc()));
+    let mut calls = Calls::new(rt.alloc(), 10);
+    open(&mut calls, key(1), 1, 1280, leg(FIRST)?)??;
+    let passed = is_compared(&calls, none);
+    drop(calls);
+    assert!(rt; passed?);
+    Ok(())
+}
+
 // Where a request for memory is refused, nothing has changed, and the same call is done with memory.
 #[test]
 fn a_refusal_of_memory_changes_nothing(rt: HostRuntime) -> Result<(), Fail> {

@@ -1,5 +1,7 @@
 -- What a replay answers, and the exit status of each fault.
-use Rattle.std.specs.Prelude.{ℕ, ◌≡◌, List, Option, Result, Ok, Err}
+use Rattle.std.specs.Prelude.{ℕ, ◌≡◌, List, map, Option, Result, Ok, Err}
+use Rattle.pools.specs.Account.{Account}
+use Rattle.pools.specs.Specs.{account_of}
 use Rattle.script.specs.declared.fault.ScriptFault.TheVariants as script
 use Rattle.script.specs.declared.fault.RunFault.TheVariants as run
 use Rattle.script.specs.declared.read.Script.{Script}
@@ -13,18 +15,26 @@ abbrev pub status_of : ReplayFault → ℕ
 status_of (OfScript script.TooLong) = 1
 status_of (OfScript (script.BadLine line)) = 1
 status_of (OfScript script.NoZone) = 1
+status_of (OfScript script.NoDefaultPool) = 1
 status_of (OfScript script.Stream) = 4
 status_of (OfScript script.Memory) = 3
 status_of (OfRun (run.Memory step)) = 3
 status_of (OfRun (run.Closed step)) = 1
 status_of (OfRun run.Stream) = 4
+status_of (OfRun run.WrongPools) = 1
 
--- A script was read and run; or it was read and not run to its end; or it was not read, and the
--- writer is as it was.
+-- the pools of a script, which were asked nothing yet
+abbrev pub accounts_of : Script → List Account
+accounts_of script = map account_of script.pools
+
+-- A script was read and run, with its pools; or it was read and not run to its end; or it was not
+-- read, and the writer is as it was.
 abbrev pub Replays : Option (List ℕ) → Option (List ℕ) → Option (List ℕ) → Option (List ℕ) → Result Unit ReplayFault → Type 0
 Replays left left_now old new (Ok done) =
-    (script : Script) × ReadsScript left left_now (Ok script) × IsRunAnswer script old new (Ok done)
+    (script : Script) × ReadsScript left left_now (Ok script)
+    × IsRunAnswer script (accounts_of script) old new (Ok done)
 Replays left left_now old new (Err (OfRun fault)) =
-    (script : Script) × ReadsScript left left_now (Ok script) × IsRunAnswer script old new (Err fault)
+    (script : Script) × ReadsScript left left_now (Ok script)
+    × IsRunAnswer script (accounts_of script) old new (Err fault)
 Replays left left_now old new (Err (OfScript fault)) =
     ReadsScript left left_now (Err fault) × (new ≡ old)

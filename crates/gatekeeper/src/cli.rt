@@ -32,9 +32,18 @@ The script (at most 1,048,576 octets; words are parted by spaces, blank lines ar
   set KEY NUMBER               a setting of the zone; KEY is limit, call_limit, time_to_live,
                                endpoints, calls, kept, window, silence, delay, retries, asks,
                                ask_wait or pool_turn
+  pool fixed LIMIT             a pool of bandwidth for calls; LIMIT and all other amounts are in
+                               units of 100 bit/s
+  pool step LIMIT STEP         a pool that lends whole steps of STEP units
+  pool paced LIMIT BURST       a pool that lends at most BURST units between two turns
+  pool .. for A.B.C.D/BITS     a pool for calls that endpoints of this network open
   at MS from ADDRESS HEX       at millisecond MS a datagram comes from ADDRESS, with these octets
 
-Lines of zone and set stand before the first datagram; of repeated ones the last counts.
+Lines of zone, set and pool stand before the first datagram; of repeated lines of zone, or of set
+with one key, the last counts. There are at most 16 pools. A call has its bandwidth from the first
+pool whose network holds the address of the endpoint that opens it; a pool without a network holds
+every address, and the last pool has none. Without a pool line there is one fixed pool of the
+zone's limit.
 For example, a terminal at 10.0.0.5 asks who its gatekeeper is (a GRQ, GatekeeperRequest):
   zone gk 10.0.0.1:1719
   at 0 from 10.0.0.5:1719 00000000060008914A0002000A00000506B70200
@@ -42,6 +51,8 @@ For example, a terminal at 10.0.0.5 asks who its gatekeeper is (a GRQ, Gatekeepe
 The line that is printed says that datagram 1 was served, and what is sent to whom (a GCF,
 GatekeeperConfirm: the gatekeeper is \"gk\" at 10.0.0.1:1719):
   1 served > 10.0.0.5:1719 04800000060008914A0002020067006B000A00000106B7
+
+Where a pool was asked, the line goes on with ` lent K`, ` refused` or ` wait` behind `served`.
 
 A datagram without an answer is `ignored`, and the line says why: `too-long`, `unreadable` or
 `not-served`.

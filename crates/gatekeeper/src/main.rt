@@ -5,6 +5,7 @@ ghost use Rattle.std.specs.Prelude.{◌≡◌};
 ghost use Rattle.gatekeeper.specs.Replays.{status_of};
 
 mod cli;
+mod making;
 mod replay;
 
 use cli::{Choice, chosen};

@@ -3,8 +3,9 @@
 ghost use Rattle.std.specs.Prelude.{◌≡◌};
 ghost use Rattle.gatekeeper.specs.Replays.{status_of, Replays};
 
-use script::{RunFault, ScriptFault, read_script, run_script};
-use std::alloc::Global;
+use crate::making::run_with_pools;
+use script::{RunFault, ScriptFault, read_script};
+use std::alloc::{AllocError, Global};
 use std::io::{Read, Write};
 use thiserror::Error;
 
@@ -27,13 +28,16 @@ impl ReplayFault {
     {
         match self {
             ReplayFault::Script(fault) => match fault {
-                ScriptFault::TooLong | ScriptFault::BadLine(_) | ScriptFault::NoZone => 1,
+                ScriptFault::TooLong
+                | ScriptFault::BadLine(_)
+                | ScriptFault::NoZone
+                | ScriptFault::NoDefaultPool => 1,
                 ScriptFault::Stream => 4,
                 ScriptFault::Memory => 3,
             },
             ReplayFault::Run(fault) => match fault {
                 RunFault::Memory(_) => 3,
-                RunFault::Closed(_) => 1,
+                RunFault::Closed(_) | RunFault::WrongPools => 1,
                 RunFault::Stream => 4,
             },
         }
@@ -51,9 +55,10 @@ pub fn replay<R: Read, W: Write>(
         (W.contents out.old) (W.contents out.new) result }
 {
     match read_script(alloc, input) {
-        Ok(script) => match run_script(alloc, script, out) {
-            Ok(()) => Ok(()),
-            Err(fault) => Err(ReplayFault::Run(fault)),
+        Ok(script) => match run_with_pools(alloc, script, out) {
+            Ok(Ok(())) => Ok(()),
+            Ok(Err(fault)) => Err(ReplayFault::Run(fault)),
+            Err(AllocError) => Err(ReplayFault::Run(RunFault::Memory(0))),
         },
         Err(fault) => Err(ReplayFault::Script(fault)),
     }

@@ -6,3 +6,5 @@ pub mod Places
 pub mod Rows
 pub mod Lists
 pub mod Searches
+pub mod Entries
+pub mod Listed

@@ -63,7 +63,7 @@ impl Loans {
     /// Enters the answer to a request.
     pub fn enter(&mut self, asked: u64, answer: Lend)
         requires may { MayAsk self.old asked }
-        requires answer { IsAnswer self.old asked answer }
+        requires answer { IsAnswer self.old.figures asked answer }
         ensures { self.new ≡ account_after_answer self.old asked answer }
     {
         match answer {

@@ -4,6 +4,7 @@
 mod additions;
 mod address;
 mod alias;
+mod bounds;
 mod call;
 mod decoder;
 mod encoder;
@@ -15,6 +16,7 @@ mod reply;
 mod request;
 mod sequence;
 
+pub use bounds::reply_bounds;
 pub use fault::ReadFault;
 pub use laws::{one_reply, room_is_enough, written_reads_back};
 pub use message::read;

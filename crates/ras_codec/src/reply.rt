@@ -16,8 +16,10 @@ ghost use Rattle.ras_codec.specs.Replies.{admission_confirm_additions, admission
 ghost use Rattle.ras_codec.specs.Replies.{bandwidth_confirm, bandwidth_reject, disengage_confirm};
 ghost use Rattle.ras_codec.specs.Replies.{disengage_reject, info_request, request_in_progress};
 ghost use Rattle.ras_codec.specs.Replies.{components, encoding_of};
+ghost use Rattle.ras_codec.specs.Properties.{ReadsBack};
 ghost use Rattle.ras_module.specs.Rooms.{room_of};
 
+use crate::bounds::reply_bounds;
 use crate::encoder::{
     alias_list, band_width, identifier, null_choice, null_extension, protocol_identifier,
     request_seq_num, root_message, transport_address, zero_octet,
@@ -428,16 +430,21 @@ fn write_components(writer: &mut BitWriter, reply: &Reply)
     }
 }
 
-/// Writes a reply behind what is there. It fails only for want of memory, and not where there is
-/// room for
-/// `reply.room()` more octets.
+/// Writes a reply behind what is there, in no more than `reply.room()` octets, from which the reply
+/// is read again. It fails only for want of memory, and not where there is room for `reply.room()`
+/// more octets.
+#[tactic(auto, using(crate::proofs::Rooms::room_enough, crate::proofs::RepliesRead::reads_back))]
 pub fn write_into(reply: &Reply, octets: &mut Vec<u8>) -> Result<(), AllocError>
     ensures ok { OnOk result (octets.new.items ≡ octets.old.items ++ encoding_of reply.now) }
     ensures err { OnErr result (octets.new.items ≡ octets.old.items) }
     ensures err_capacity { OnErr result (vec_capacity octets.new ≡ vec_capacity octets.old) }
     ensures succeeds { vec_len octets.old + room_of reply.now ≤ vec_capacity octets.old
         → IsOk result }
+    ensures room { length (encoding_of reply.now) ≤ room_of reply.now }
+    ensures most { length (encoding_of reply.now) ≤ 20000 }
+    ensures reads_back { ReadsBack reply.now }
 {
+    reply_bounds(reply);
     octets.reserve(reply.room())?;
     let empty = Vec::new(*octets.allocator());
     let mut writer = BitWriter::new(mem::replace(octets, empty));

@@ -1,6 +1,6 @@
 -- How the changes of a zone keep the endpoints and the table of their aliases in agreement.
 use Rattle.std.proofs.Common.{◌≡◌, ℕ, List, sym, ◌∙◌, ap, subst, refl, Some, None}
-use Rattle.std.specs.Prelude.{Option, Contains, Result, Ok, IsSome, OnOk}
+use Rattle.std.specs.Prelude.{Option, Contains, Result, Ok, Err, IsSome, IfOk, OnOk}
 use Rattle.std.specs.FinMap as fin
 use Rattle.std.proofs.lemmas.Cmp.{nat_list_cmp_total}
 use Rattle.std.proofs.lemmas.Map.Lookups.{exact_bytes}
@@ -17,7 +17,8 @@ use Rattle.registrations.proofs.Consistent.{IsAt-found}
 use Rattle.registrations.proofs.Agreement.{Agree-insert, Agree-rewrite, Agree-update, conflicts_are, free_for_new, free_for_old}
 use Rattle.ras_core.specs.declared.registering.Entry.{Entry}
 use Rattle.ras_core.specs.State.{heard_now}
-use Rattle.ras_core.specs.Changes.{Roll, IsAddable, IsRewritable}
+use Rattle.ras_core.specs.Parts.{Roll}
+use Rattle.ras_core.specs.Changes.{IsAddable, IsRewritable}
 
 -- what nobody holds is held by no other
 pub free_of_others : (held : Held) (alias : Alias) (id : List ℕ) → fin.get held alias ≡ None → IsHeldByAnother held alias id → ⊥
@@ -57,6 +58,14 @@ module _ (roll : Roll) (held : Held) (agree : Agree roll.live held) where
 -- what holds where a call succeeded
 pub on_ok : {A B P : Type 0} (r : Result A B) (x : A) → r ≡ Ok x → OnOk r P → P
 on_ok {A} {B} {P} r x is h = subst (λ (w : Result A B). OnOk w P) is h
+
+pub if_ok : {A B : Type 0} (P : A → Type 0) (r : Result A B) (x : A) → r ≡ Ok x → IfOk r P → P x
+if_ok {A} {B} P r x is h = subst (λ (w : Result A B). IfOk w P) is h
+
+pub if_ok_with : {A B : Type 0} (P Q : A → Type 0) (r : Result A B) → IfOk r P
+    → ((x : A) → P x → Q x) → IfOk r Q
+if_ok_with P Q (Ok x) h f = f x h
+if_ok_with P Q (Err e) h f = tt
 
 pub is_there : {A : Type 0} (w : Option A) (x : A) → w ≡ Some x → IsSome w
 is_there w x is = subst (λ w. IsSome w) (sym is) refl

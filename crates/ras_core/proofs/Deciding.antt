@@ -8,10 +8,12 @@ use Rattle.ras_module.specs.declared.reason.RegistrationRejectReason.TheVariants
 use Rattle.registrations.specs.declared.registration.Registration.{Registration}
 use Rattle.registrations.specs.Registry.{IsConsistent}
 use Rattle.ras_core.specs.declared.registering.Registering.{Registering}
-use Rattle.ras_core.specs.declared.change.Change.TheVariants.{Renewal}
+use Rattle.ras_core.specs.declared.change.Change.TheVariants.{Endpoint}
+use Rattle.ras_core.specs.declared.change.EndpointChange.TheVariants.{Renewal}
 use Rattle.ras_core.specs.State.{State}
 use Rattle.ras_core.specs.Registering.{keep_alive, named, has_moved, confirmation, deadline, rejection}
-use Rattle.ras_core.specs.Changes.{Decides, served}
+use Rattle.ras_core.specs.Changes.{Decides, resolved, served}
+use Rattle.ras_core.specs.Plans.{Settled}
 use Rattle.ras_core.proofs.Agreeing.{is_there}
 
 pub length-filter : (p : Alias → Bool) (xs : List Alias) → length (filter p xs) ≤ length xs
@@ -31,15 +33,15 @@ fits (Err many) list h bound = absurd (omega (arith, h.1))
 pub Decides-renewal : (z : State) (now : ℕ) (q : Registering) (id : List ℕ) (r : Registration) (reply : Reply) (until : ℕ) → IsConsistent z.live
     → q.endpoint ≡ Some id → fin.get z.live id ≡ Some r → has_moved r q.ras ≡ false
     → reply ≡ confirmation z q r.call_signal r.aliases r.identifier → until ≡ deadline z now q
-    → Decides z now (λ _. keep_alive z now q (named z q.endpoint)) (record { reply = reply; given = None; change = Renewal r.identifier until })
+    → Decides z now (keep_alive z now q (named z q.endpoint)) (record { reply = reply; given = None; change = Endpoint (Renewal r.identifier until) })
 Decides-renewal z now q id r reply until sound names there stays reply_is until_is = record {
   unused = tt;
-  possible = is_there (fin.get z.live r.identifier) r (ap (fin.get z.live) (sound.own id r there) ∙ there);
-  is = ap (keep_alive z now q) (ap (named z) names ∙ there)
-      ∙ (ap (λ b. if b then rejection z q FullRegistrationRequired else Some (served z now (record {
+  possible = (is_there (fin.get z.live r.identifier) r (ap (fin.get z.live) (sound.own id r there) ∙ there), tt);
+  is = ap (λ plan. resolved plan None) (ap (keep_alive z now q) (ap (named z) names ∙ there)
+      ∙ ap (λ b. if b then rejection z q FullRegistrationRequired else Settled (served z now (record {
         reply = confirmation z q r.call_signal r.aliases r.identifier;
         given = None;
-        change = Renewal r.identifier (deadline z now q);
-      }))) stays
-      ∙ (λ i. Some (served z now (record { reply = sym reply_is i; given = None; change = Renewal r.identifier (sym until_is i) }))));
+        change = Endpoint (Renewal r.identifier (deadline z now q));
+      }))) stays)
+      ∙ (λ i. Some (served z now (record { reply = sym reply_is i; given = None; change = Endpoint (Renewal r.identifier (sym until_is i)) })));
 }

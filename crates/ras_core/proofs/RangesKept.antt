@@ -26,6 +26,9 @@ pub record Limits (parts : ConfigParts) : Type 0 where
   pub some_time : 1 ≤ parts.time_to_live
   pub time : parts.time_to_live ≤ 4294967295
   pub endpoints : parts.endpoints ≤ 20000
+  pub call_limit : parts.call_limit ≤ 4294967295
+  pub some_calls : 1 ≤ parts.calls
+  pub calls : parts.calls ≤ 20000
 
 pub limits : (parts : ConfigParts) → range_fault parts ≡ None → Limits parts
 unfolding range_fault
@@ -34,10 +37,14 @@ limits parts h =
     let call_limit = passes (is_outside 1 4294967295 parts.call_limit) (codes "zone.call_limit") _ limit.1 in
     let time = passes (is_outside 1 4294967295 parts.time_to_live) (codes "zone.time_to_live") _ call_limit.1 in
     let endpoints = passes (is_outside 1 20000 parts.endpoints) (codes "zone.endpoints") _ time.1 in
+    let calls = passes (is_outside 1 20000 parts.calls) (codes "zone.calls") _ endpoints.1 in
     record {
       some_time = (inside 1 4294967295 parts.time_to_live time.0).0;
       time = (inside 1 4294967295 parts.time_to_live time.0).1;
       endpoints = (inside 1 20000 parts.endpoints endpoints.0).1;
+      call_limit = (inside 1 4294967295 parts.call_limit call_limit.0).1;
+      some_calls = (inside 1 20000 parts.calls calls.0).0;
+      calls = (inside 1 20000 parts.calls calls.0).1;
     }
 
 pub is_time : (seconds : ℕ) (o : Option ℕ) → SomeIff o (0 < seconds) seconds → 1 ≤ seconds → IsSome o

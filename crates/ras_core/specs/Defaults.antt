@@ -1,10 +1,11 @@
--- The settings of a zone of which nothing but its name and its address is set.
-use Rattle.std.specs.Prelude.{ℕ, List}
+-- The settings of a zone of which nothing but its name, its address and its pools' networks is set.
+use Rattle.std.specs.Prelude.{ℕ, List, Option}
 use Rattle.ras_module.specs.declared.address.Address.{Address}
 use Rattle.ras_core.specs.declared.config.ConfigParts.{ConfigParts}
+use Rattle.ras_core.specs.declared.network.Network.{Network}
 
-abbrev pub default_parts : List ℕ → Address → ConfigParts
-default_parts identifier address = record {
+abbrev pub default_parts : List ℕ → Address → List (Option Network) → ConfigParts
+default_parts identifier address networks = record {
   identifier = identifier;
   address = address;
   limit = 100000;
@@ -20,4 +21,5 @@ default_parts identifier address = record {
   asks = 3;
   ask_wait = 5000;
   pool_turn = 1000;
+  networks = networks;
 }

@@ -1,8 +1,10 @@
 -- The ranges of a zone's settings, and what is answered where one is left.
-use Rattle.std.specs.Prelude.{ℕ, ◌≡◌, Bool, ◌||◌, nat_lt, List, Option, Some, None, Result, Ok, Err, codes, if◌then◌else◌}
+use Rattle.std.specs.List.{list_any}
+use Rattle.std.specs.Prelude.{ℕ, ◌≡◌, Bool, true, false, ◌||◌, nat_lt, List, Option, Some, None, Result, Ok, Err, codes, if◌then◌else◌}
 use Rattle.ras_core.specs.declared.config.ConfigParts.{ConfigParts}
 use Rattle.ras_core.specs.declared.config.ConfigFault.{ConfigFault}
-use Rattle.ras_core.specs.declared.config.ConfigFault.TheVariants.{OutOfRange}
+use Rattle.ras_core.specs.declared.config.ConfigFault.TheVariants.{OutOfRange, NoDefaultPool}
+use Rattle.ras_core.specs.Networks.{has_default, is_too_long}
 
 abbrev pub is_outside : ℕ → ℕ → ℕ → Bool
 is_outside low high number = nat_lt number low || nat_lt high number
@@ -23,9 +25,23 @@ range_fault parts =
     else if is_outside 1 16 parts.asks then Some (codes "zone.asks")
     else if is_outside 1 3600000 parts.ask_wait then Some (codes "zone.ask_wait")
     else if is_outside 1 86400000 parts.pool_turn then Some (codes "zone.pool_turn")
+    else if list_any is_too_long parts.networks then Some (codes "pool.network")
     else None
 
--- the settings are those of the configuration, or the fault names the first key out of range
+-- each number is in its range, and the last pool serves every address
+pub record IsConfig (parts : ConfigParts) : Type 0 where
+  pub ranges : range_fault parts ≡ None
+  pub default_pool : has_default parts.networks ≡ true
+
+-- The settings are those of the configuration; or the fault names the first key out of range; or,
+-- where there is none, there is no pool that serves every address at the end.
 abbrev pub IsConfigAnswer : ConfigParts → Result ConfigParts ConfigFault → Type 0
-IsConfigAnswer parts (Ok config) = (config ≡ parts) × (range_fault parts ≡ None)
+IsConfigAnswer parts (Ok config) = (config ≡ parts) × IsConfig parts
 IsConfigAnswer parts (Err (OutOfRange key)) = range_fault parts ≡ Some key.now
+IsConfigAnswer parts (Err NoDefaultPool) =
+    (range_fault parts ≡ None) × (has_default parts.networks ≡ false)
+
+-- the numbers of the faults
+abbrev pub config_fault_number : ConfigFault → ℕ
+config_fault_number (OutOfRange key) = 1
+config_fault_number NoDefaultPool = 2

@@ -16,7 +16,8 @@ use Rattle.registrations.specs.Registry.{at_address, with_deadline, after_rewrit
 use Rattle.registrations.specs.Agreement.{registered_elsewhere}
 use Rattle.ras_core.specs.declared.registering.Registering.{Registering}
 use Rattle.ras_core.specs.declared.registering.Entry.{Entry}
-use Rattle.ras_core.specs.State.{State, Served, unchanged, with_live, heard_now}
+use Rattle.ras_core.specs.State.{State, with_live, heard_now}
+use Rattle.ras_core.specs.Plans.{Served, Plan, Settled, Naming, unchanged}
 use Rattle.ras_core.specs.Discovery.{is_foreign}
 
 -- the time to live that is granted, in seconds: what was asked, but no more than the zone's
@@ -28,8 +29,8 @@ granted z (Some asked) = min asked z.config.time_to_live
 abbrev pub deadline : State → ℕ → Registering → ℕ
 deadline z now q = now + 1000 * granted z q.time_to_live
 
-abbrev pub rejection : State → Registering → RegistrationRejectReason → Option Served
-rejection z q reason = Some (unchanged z (Rrj q.seq reason))
+abbrev pub rejection : State → Registering → RegistrationRejectReason → Plan
+rejection z q reason = Settled (unchanged z (Rrj q.seq reason))
 
 abbrev pub confirmation : State → Registering → Address → List Alias → List ℕ → Reply
 confirmation z q call_signal aliases id =
@@ -46,14 +47,13 @@ has_moved r None = false
 has_moved r (Some ras) = not (same_address ras r.ras)
 
 -- keepAlive: the time to live is granted anew to an endpoint that is registered and has not moved
-abbrev pub keep_alive : State → ℕ → Registering → Option Registration → Option Served
+abbrev pub keep_alive : State → ℕ → Registering → Option Registration → Plan
 keep_alive z now q None = rejection z q FullRegistrationRequired
 keep_alive z now q (Some r) =
     if has_moved r q.ras
     then rejection z q FullRegistrationRequired
-    else Some (record {
+    else Settled (record {
       reply = confirmation z q r.call_signal r.aliases r.identifier;
-      given = None;
       zone = with_live z (update z.live r.identifier (with_deadline (deadline z now q)));
     })
 
@@ -61,7 +61,6 @@ keep_alive z now q (Some r) =
 abbrev pub refreshment : State → ℕ → Registering → Entry → Registration → Served
 refreshment z now q e r = record {
   reply = confirmation z q e.call_signal e.aliases r.identifier;
-  given = None;
   zone = with_live z (heard_now now r.identifier
       (update z.live r.identifier (after_rewrite e.ras e.aliases (deadline z now q))));
 }
@@ -78,44 +77,39 @@ new_registration z now q e id = record {
   asked = 0;
 }
 
--- an endpoint registers under the identifier that is handed out; nothing comes of it where none is
-abbrev pub addition : State → ℕ → Registering → Entry → Option (List ℕ) → Option Served
-addition z now q e None = None
-addition z now q e (Some id) = Some (record {
+-- an endpoint registers under the identifier that is handed out
+abbrev pub addition : State → ℕ → Registering → Entry → List ℕ → Served
+addition z now q e id = record {
   reply = confirmation z q e.call_signal e.aliases id;
-  given = Some id;
   zone = with_live z (insert z.live id (new_registration z now q e id));
-})
+}
 
 -- an endpoint whose address is registered, or a new one, for which there has to be a place
-abbrev pub entering : State → ℕ → Registering → Entry → Option Registration → Option (List ℕ)
-    → Option Served
-entering z now q e (Some r) given = Some (refreshment z now q e r)
-entering z now q e None given =
+abbrev pub entering : State → ℕ → Registering → Entry → Option Registration → Plan
+entering z now q e (Some r) = Settled (refreshment z now q e r)
+entering z now q e None =
     if len z.live == z.config.endpoints
     then rejection z q ResourceUnavailable
-    else addition z now q e given
+    else Naming (addition z now q e)
 
 -- where some of the aliases are held by endpoints with another call signal address, those are told
-abbrev pub unless_held : State → ℕ → Registering → Entry → List Alias → Option (List ℕ)
-    → Option Served
-unless_held z now q e [] given = entering z now q e (at_address z.live e.call_signal) given
-unless_held z now q e (alias ∷ held) given = rejection z q (DuplicateAlias (alias ∷ held))
+abbrev pub unless_held : State → ℕ → Registering → Entry → List Alias → Plan
+unless_held z now q e [] = entering z now q e (at_address z.live e.call_signal)
+unless_held z now q e (alias ∷ held) = rejection z q (DuplicateAlias (alias ∷ held))
 
 -- a full registration, with these addresses and distinct aliases
-abbrev pub full : State → ℕ → Registering → Option Address → Option Address → List Alias
-    → Option (List ℕ) → Option Served
-full z now q None ras aliases given = rejection z q InvalidCallSignalAddress
-full z now q (Some call_signal) None aliases given = rejection z q InvalidRasAddress
-full z now q (Some call_signal) (Some ras) aliases given =
+abbrev pub full : State → ℕ → Registering → Option Address → Option Address → List Alias → Plan
+full z now q None ras aliases = rejection z q InvalidCallSignalAddress
+full z now q (Some call_signal) None aliases = rejection z q InvalidRasAddress
+full z now q (Some call_signal) (Some ras) aliases =
     if nat_lt 32 (length aliases)
     then rejection z q ResourceUnavailable
     else unless_held z now q (record { call_signal = call_signal; ras = ras; aliases = aliases })
-    (registered_elsewhere z.live call_signal aliases) given
+    (registered_elsewhere z.live call_signal aliases)
 
 -- an RRQ
-abbrev pub registration : State → ℕ → Registering → Option (List ℕ) → Option Served
-registration z now q given =
+abbrev pub registration : State → ℕ → Registering → Plan
+registration z now q =
     if is_foreign z q.gatekeeper then rejection z q DiscoveryRequired
     else if q.keep_alive then keep_alive z now q (named z q.endpoint)
-    else full z now q q.call_signal q.ras (without_doubles q.aliases) given
+    else full z now q q.call_signal q.ras (without_doubles q.aliases)

@@ -1,17 +1,19 @@
 //! What is set for a zone.
 
-ghost use Rattle.std.specs.Prelude.{◌≡◌, ◌≤◌, ◌<◌, None};
+ghost use Rattle.std.specs.Prelude.{◌≡◌, ◌≤◌, ◌<◌, ◌^◌, None};
 ghost use Rattle.std.specs.Option.{option_copied};
-ghost use Rattle.ras_core.specs.Ranges.{range_fault, is_outside, IsConfigAnswer};
+ghost use Rattle.ras_core.specs.Ranges.{config_fault_number, is_outside, range_fault};
+ghost use Rattle.ras_core.specs.Ranges.{IsConfig, IsConfigAnswer};
 ghost use Rattle.ras_core.specs.Defaults.{default_parts};
 
+use crate::network::Networks;
 use ras_module::{Address, Name, TimeToLive};
 use std::marker::Model;
 use thiserror::Error;
 
 /// The settings of a zone, before their ranges are tested. Bandwidth is in units of 100 bit/s, for both
 /// directions of a call; times are milliseconds, but for `time_to_live`.
-#[derive(Clone, Copy)]
+#[derive(Drop)]
 pub struct ConfigParts {
     /// The GatekeeperIdentifier of the zone.
     pub identifier: Name,
@@ -43,12 +45,16 @@ pub struct ConfigParts {
     pub ask_wait: u64,
     /// How long it is from one turn of the pools to the next: 1 to 86400000.
     pub pool_turn: u64,
+    /// The networks of the pools, in their order: the calls of the endpoints of a network are served
+    /// by the first pool that has it. The last pool has none, and serves all others.
+    pub networks: Networks,
 }
 
 impl ConfigParts {
-    /// The settings of a zone of which nothing but its name and address is set.
-    pub fn new(identifier: Name, address: Address) -> Self
-        ensures { result ≡ default_parts identifier address }
+    /// The settings of a zone of which nothing but its name, its address and the networks of its
+    /// pools is set.
+    pub fn new(identifier: Name, address: Address, networks: Networks) -> Self
+        ensures { result ≡ default_parts identifier address networks }
     {
         ConfigParts {
             identifier,
@@ -66,6 +72,7 @@ impl ConfigParts {
             asks: 3,
             ask_wait: 5_000,
             pool_turn: 1_000,
+            networks,
         }
     }
 }
@@ -76,37 +83,38 @@ pub enum ConfigFault {
     /// The number under this key is outside its range.
     #[error("{0} is outside its range")]
     OutOfRange(&'static str),
+    /// There is no pool, or the last one has a network, so that some calls have no pool.
+    #[error("no default pool: the last pool has to serve every network")]
+    NoDefaultPool,
 }
 
 impl ConfigFault {
     /// The number of the fault.
     pub fn number(&self) -> u8
-        ensures { result ≡ 1 }
+        ensures { result ≡ config_fault_number self.now }
     {
         match self {
             ConfigFault::OutOfRange(_) => 1,
+            ConfigFault::NoDefaultPool => 2,
         }
     }
 }
 
 /// The settings of a zone, each within its range. Contracts see the settings.
-#[derive(Clone, Copy)]
+#[derive(Drop)]
 pub struct Config {
     parts: ConfigParts,
 }
 
 impl Model for Config {
-    ghost use Rattle.std.specs.Prelude.{◌≡◌, None};
     ghost use Rattle.ras_core.specs.declared.config.ConfigParts.{ConfigParts};
-    ghost use Rattle.ras_core.specs.Ranges.{range_fault};
+    ghost use Rattle.ras_core.specs.Ranges.{IsConfig};
 
     ghost Value = { ConfigParts };
 
     ghost view = { λ c. c.parts };
 
-    ghost invariant = { λ c. range_fault c.parts ≡ None };
-
-    ghost inverse = { λ p. record { parts = p } };
+    ghost invariant = { λ c. IsConfig c.parts };
 }
 
 fn is_outside(low: u64, high: u64, number: u64) -> bool
@@ -146,29 +154,44 @@ fn range_fault(parts: &ConfigParts) -> Option<&'static str>
         Some("zone.ask_wait")
     } else if is_outside(1, 86_400_000, parts.pool_turn) {
         Some("zone.pool_turn")
+    } else if parts.networks.are_too_long() {
+        Some("pool.network")
     } else {
         None
     }
 }
 
 impl Config {
-    /// These settings, where each number is in its range; else the first key, in the order of the fields,
-    /// whose number isn't.
+    /// These settings, where each number is in its range and the last pool serves every network. Else
+    /// the first key, in the order of the fields, whose number is out of range; else that there is no
+    /// default pool.
     pub fn new(parts: ConfigParts) -> Result<Self, ConfigFault>
         ensures { IsConfigAnswer parts result }
     {
-        match range_fault(&parts) {
-            Some(key) => Err(ConfigFault::OutOfRange(key)),
-            None => Ok(Config { parts }),
+        if let Some(key) = range_fault(&parts) {
+            return Err(ConfigFault::OutOfRange(key));
         }
+        if !parts.networks.have_default() {
+            return Err(ConfigFault::NoDefaultPool);
+        }
+        Ok(Config { parts })
     }
 
     /// The settings.
     pub fn parts(&self) -> &ConfigParts
         ensures same { result.now ≡ self.now }
-        ensures ranges { range_fault self.now ≡ None }
+        ensures ranges { IsConfig self.now }
     {
         &self.parts
+    }
+
+    /// The settings, to be changed. This takes no memory.
+    pub fn into_parts(self) -> ConfigParts
+        ensures same { result ≡ self }
+        ensures ranges { IsConfig self }
+    {
+        let Config { parts } = self;
+        parts
     }
 
     /// The time to live of the zone.
@@ -184,5 +207,22 @@ impl Config {
         ensures few { result ≤ 20000 }
     {
         self.parts.endpoints as usize
+    }
+
+    /// How many calls there may be.
+    pub(crate) fn calls(&self) -> usize
+        ensures same { result ≡ self.now.calls }
+        ensures some { 1 ≤ result }
+        ensures few { result ≤ 20000 }
+    {
+        self.parts.calls as usize
+    }
+
+    /// The bandwidth of one call.
+    pub(crate) fn call_limit(&self) -> u32
+        ensures same { result ≡ self.now.call_limit }
+        ensures few { result < 2 ^ 32 }
+    {
+        self.parts.call_limit as u32
     }
 }

@@ -7,10 +7,11 @@ ghost use Rattle.keyed.specs.Maps.{update};
 ghost use Rattle.registrations.specs.Registry.{at_address, IsConsistent, IsListOf, IsUnused, with_deadline};
 ghost use Rattle.registrations.specs.Agreement.{registered_elsewhere};
 ghost use Rattle.ras_core.specs.State.{heard_now};
-ghost use Rattle.ras_core.specs.Changes.{IsAddable, IsPossible, IsRewritable, after_change};
+ghost use Rattle.ras_core.specs.Admission.{registered_with, translation};
+ghost use Rattle.ras_core.specs.Changes.{IsAddable, IsEndpointChange, IsRewritable, after_endpoint_change};
 ghost use Rattle.ras_core.specs.Soundness.{HaveAliasesApart};
 
-use crate::change::Change;
+use crate::change::EndpointChange;
 use crate::moment::Moment;
 use crate::registering::Entry;
 use aliases::AliasTable;
@@ -30,7 +31,7 @@ impl Model for Endpoints {
     ghost use Rattle.std.specs.Coded.{codes};
     ghost use Rattle.std.specs.FinMap as map;
     ghost use Rattle.registrations.specs.Agreement.{Agree};
-    ghost use Rattle.ras_core.specs.Changes.{Roll};
+    ghost use Rattle.ras_core.specs.Parts.{Roll};
 
     ghost Value = { Roll };
 
@@ -86,6 +87,26 @@ impl Endpoints {
         self.aliases.conflicts(aliases, address)
     }
 
+    /// The call signal address of whom the first of the aliases names that is registered, else the
+    /// other address.
+    pub fn translate(&self, aliases: &[Alias], other: Option<Address>) -> Option<Address>
+        ensures { result ≡ translation self.now.live aliases.now other }
+    {
+        for alias in aliases {
+            if let Some(r) = self.registered_with(alias) {
+                return Some(r.call_signal);
+            }
+        }
+        other
+    }
+
+    /// The endpoint that is registered with an alias.
+    fn registered_with(&self, alias: &Alias) -> Option<&Registration>
+        ensures { option_copied result ≡ registered_with self.now.live alias.now }
+    {
+        self.registrations.get(self.aliases.holder(alias)?)
+    }
+
     /// An identifier that may be handed out.
     pub fn unused(&self) -> EndpointId
         ensures { IsUnused self.now.live [] result }
@@ -111,18 +132,20 @@ impl Endpoints {
     }
 
     /// Makes a change. All that may want memory comes first.
-    pub fn apply(&mut self, now: Moment, change: Change) -> Result<(), AllocError>
-        requires { IsPossible self.old change }
-        ensures live { OnOk result (self.new.live ≡ after_change now change self.old.live) }
+    pub fn apply(&mut self, now: Moment, change: EndpointChange) -> Result<(), AllocError>
+        requires { IsEndpointChange self.old change }
+        ensures live { OnOk result (self.new.live
+            ≡ after_endpoint_change now change self.old.live) }
         ensures most { self.new.most ≡ self.old.most }
         ensures err { OnErr result (self.new ≡ self.old) }
     {
         match change {
-            Change::Nothing => {}
-            Change::Renewal(id, deadline) => self.renew(&id, deadline),
-            Change::Rewriting(id, entry, deadline) => self.rewrite(now, id, entry, deadline)?,
-            Change::Addition(registration) => self.add(registration)?,
-            Change::Removal(id) => self.remove(&id),
+            EndpointChange::Renewal(id, deadline) => self.renew(&id, deadline),
+            EndpointChange::Rewriting(id, entry, deadline) => self.rewrite(
+                now, id, entry, deadline,
+            )?,
+            EndpointChange::Addition(registration) => self.add(registration)?,
+            EndpointChange::Removal(id) => self.remove(&id),
         }
         Ok(())
     }
@@ -144,7 +167,7 @@ impl Endpoints {
     ) -> Result<(), AllocError>
         requires { IsRewritable self.old id entry }
         ensures live { OnOk result (self.new.live
-            ≡ after_change now (Change.Rewriting id entry deadline) self.old.live) }
+            ≡ after_endpoint_change now (EndpointChange.Rewriting id entry deadline) self.old.live) }
         ensures most { self.new.most ≡ self.old.most }
         ensures err { OnErr result (self.new ≡ self.old) }
     {

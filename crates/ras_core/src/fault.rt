@@ -6,6 +6,9 @@ use thiserror::Error;
 /// Why a zone isn't made.
 #[derive(Clone, Copy, Debug, PartialEq, Eq, Error)]
 pub enum NewFault {
+    /// There is another number of pools than of networks.
+    #[error("there have to be as many pools as networks")]
+    WrongPools = 1,
     #[error("out of memory")]
     Memory = 2,
 }

@@ -2,23 +2,36 @@
 //! duties; ITU-T H.225.0, RAS). Nothing here waits, prints or reads a clock: moments are handed in.
 #![tactic(auto)]
 
+mod admitting;
+mod bandwidth;
+mod bandwidth_change;
+mod calling;
 mod change;
 mod config;
+mod discovery;
+mod disengagement;
 mod endpoints;
 mod event;
 mod fault;
 mod machine;
 mod moment;
+mod network;
 mod outcome;
 mod registering;
+mod registration;
+mod serving;
+mod unregistration;
 mod zone;
 
 pub use config::{Config, ConfigFault, ConfigParts};
 pub use event::Event;
 pub use fault::{NewFault, StepFault};
 pub use moment::Moment;
+pub use network::{Network, Networks};
 pub use outcome::{Datagram, IgnoredCause, Note, Outcome};
 pub use zone::Zone;
 
+#[cfg(test)]
+mod call_tests;
 #[cfg(test)]
 mod tests;

@@ -1,5 +1,8 @@
 //! What a step answers.
 
+ghost use Rattle.std.specs.Prelude.{◌≡◌, None, Some};
+
+use pools::Lend;
 use ras_module::{EndpointId, Octets, Source};
 
 /// Octets that go to an address.
@@ -29,11 +32,48 @@ pub enum Note {
     Ignored(IgnoredCause),
 }
 
-/// What a step did: what is sent, of at most 20,000 octets, what happened, and the identifier
-/// that was handed out to a new endpoint.
+/// What a step did: what the pool answered that was asked, what is sent, what happened, and the
+/// identifier that was handed out to a new endpoint.
 #[derive(PartialEq, Eq, Drop)]
 pub struct Outcome {
+    pub answer: Option<Lend>,
     pub output: Option<Datagram>,
     pub note: Note,
     pub given: Option<EndpointId>,
+}
+
+impl Outcome {
+    /// A datagram was ignored.
+    pub(crate) fn ignored(cause: IgnoredCause) -> Self
+        ensures { result ≡ record {
+          answer = None;
+          output = None;
+          note = Note.Ignored cause;
+          given = None;
+        } }
+    {
+        Outcome {
+            answer: None,
+            output: None,
+            note: Note::Ignored(cause),
+            given: None,
+        }
+    }
+
+    /// A request was served.
+    pub(crate) fn served(output: Datagram, given: Option<EndpointId>, answer: Option<Lend>) -> Self
+        ensures { result ≡ record {
+          answer = answer;
+          output = Some output;
+          note = Note.Served;
+          given = given;
+        } }
+    {
+        Outcome {
+            answer,
+            output: Some(output),
+            note: Note::Served,
+            given,
+        }
+    }
 }

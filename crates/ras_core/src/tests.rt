@@ -1,4 +1,5 @@
 use crate::*;
+use pools::{FixedPool, PoolSet};
 use ras_module::{Address, Name, Octets, Source};
 use std::alloc::Global;
 use std::test::Fail;
@@ -98,23 +99,42 @@ const ENDPOINT: Source = Address {
     port: 1719,
 };
 
-fn parts() -> Result<ConfigParts, Fail> {
+/// The settings of a zone with one pool, which serves every address.
+fn parts(alloc: Global) -> Result<ConfigParts, Fail> {
     let identifier = Name::new(&[103, 107]).ok_or("a name")?;
-    Ok(ConfigParts::new(identifier, GATEKEEPER))
+    let mut networks = Vec::new(alloc);
+    networks.push(None)?;
+    Ok(ConfigParts::new(identifier, GATEKEEPER, Networks::from_vec(networks)))
 }
 
-fn zone(alloc: Global) -> Result<Zone, Fail> {
-    let Ok(config) = Config::new(parts()?) else {
-        return Err(Fail::from("the defaults are in their ranges"));
+fn config(parts: ConfigParts) -> Result<Config, Fail> {
+    match Config::new(parts) {
+        Ok(config) => Ok(config),
+        Err(_) => Err(Fail::from("the settings are in their ranges")),
+    }
+}
+
+/// A zone of 3,000 units, of which a call may have 2,000, over a pool of 2,500.
+pub(crate) fn zone(alloc: Global) -> Result<Zone<FixedPool>, Fail> {
+    let mut parts = parts(alloc)?;
+    parts.limit = 3_000;
+    parts.call_limit = 2_000;
+    let mut pools = Vec::new(alloc);
+    pools.push(FixedPool::new(2_500))?;
+    let Ok(set) = PoolSet::new(pools) else {
+        return Err(Fail::from("one idle pool"));
     };
-    Ok(Zone::new(alloc, config)?)
+    match Zone::new(alloc, config(parts)?, set) {
+        Ok(zone) => Ok(zone),
+        Err(_) => Err(Fail::from("as many pools as networks")),
+    }
 }
 
 fn event(alloc: Global, bytes: &[u8], milliseconds: u64) -> Result<Event, Fail> {
     event_from(alloc, ENDPOINT, bytes, milliseconds)
 }
 
-fn event_from(
+pub(crate) fn event_from(
     alloc: Global,
     source: Source,
     bytes: &[u8],
@@ -127,6 +147,7 @@ fn event_from(
 
 fn sent(alloc: Global, bytes: &[u8]) -> Result<Outcome, Fail> {
     Ok(Outcome {
+        answer: None,
         output: Some(Datagram {
             to: ENDPOINT,
             bytes: Octets::from_vec(bytes.to_vec(alloc)?),
@@ -136,41 +157,80 @@ fn sent(alloc: Global, bytes: &[u8]) -> Result<Outcome, Fail> {
     })
 }
 
+// A zone that is dropped at each of many exits makes a test costly to prove, so what is asked of a zone
+// stands in functions that borrow it.
+
+/// Whether the datagram is answered with these octets.
+fn is_told(
+    alloc: Global,
+    zone: &mut Zone<FixedPool>,
+    bytes: &[u8],
+    reply: &[u8],
+) -> Result<bool, Fail> {
+    let outcome = zone.step(event(alloc, bytes, 0)?)?;
+    Ok(outcome == sent(alloc, reply)?)
+}
+
+/// Whether the gatekeeper is told to who asks for none, and another one isn't it.
+fn is_discovered(alloc: Global, zone: &mut Zone<FixedPool>) -> Result<bool, Fail> {
+    Ok(is_told(alloc, zone, &GRQ, &GCF)? && is_told(alloc, zone, &GRQ_FOR_XX, &GRJ)?)
+}
+
 #[test]
 fn discovery_is_confirmed_or_rejected(rt: HostRuntime) -> Result<(), Fail> {
-    let mut zone = zone(rt.alloc())?;
-    let confirmed = zone.step(event(rt.alloc(), &GRQ, 0)?)?;
-    assert!(rt; confirmed == sent(rt.alloc(), &GCF)?);
-    let rejected = zone.step(event(rt.alloc(), &GRQ_FOR_XX, 0)?)?;
-    assert!(rt; rejected == sent(rt.alloc(), &GRJ)?);
+    let alloc = rt.alloc();
+    let mut zone = zone(alloc)?;
+    let passed = is_discovered(alloc, &mut zone);
+    drop(zone);
+    assert!(rt; passed?);
     Ok(())
+}
+
+/// A GatekeeperRequest, one that is cut short, a message that isn't served, and one that is too long.
+fn four_events(alloc: Global) -> Result<Vec<Event>, Fail> {
+    let mut events = Vec::new(alloc);
+    events.push(event(alloc, &GRQ, 40)?)?;
+    events.push(event(alloc, &GRQ[..19], 30)?)?;
+    events.push(event(alloc, &[0x48], 20)?)?;
+    events.push(event(alloc, &[0; 4097], 10)?)?;
+    Ok(events)
+}
+
+/// Whether the outcome is that the datagram was ignored for this cause.
+fn is_ignored(outcome: &Outcome, cause: IgnoredCause) -> bool {
+    outcome.output.is_none() && outcome.note == Note::Ignored(cause)
+}
+
+/// Whether these are the outcomes of the four events.
+fn are_four(alloc: Global, outcomes: &[Outcome]) -> Result<bool, Fail> {
+    let [first, cut, other, long] = outcomes else {
+        return Ok(false);
+    };
+    Ok(
+        *first == sent(alloc, &GCF)?
+            && is_ignored(cut, IgnoredCause::Unreadable)
+            && is_ignored(other, IgnoredCause::NotServed)
+            && is_ignored(long, IgnoredCause::TooLong),
+    )
+}
+
+/// Whether a run over the four events leaves the zone four steps on, at the latest moment.
+fn runs_on(alloc: Global, zone: &mut Zone<FixedPool>) -> Result<bool, Fail> {
+    let events = four_events(alloc)?;
+    let mut outcomes = Vec::new(alloc);
+    let is_run = zone.run(&events, &mut outcomes).is_ok();
+    let is_late = Some(zone.clock()) == Moment::new(40);
+    Ok(is_run && are_four(alloc, &outcomes)? && zone.steps() == 4 && is_late)
 }
 
 #[test]
 fn a_run_appends_an_outcome_for_each_event(rt: HostRuntime) -> Result<(), Fail> {
     let mut zone = zone(rt.alloc())?;
-    let mut events = Vec::new(rt.alloc());
-    events.push(event(rt.alloc(), &GRQ, 40)?)?;
-    events.push(event(rt.alloc(), &GRQ[..19], 30)?)?;
-    events.push(event(rt.alloc(), &[0x48], 20)?)?;
-    events.push(event(rt.alloc(), &[0; 4097], 10)?)?;
-    let mut outcomes = Vec::new(rt.alloc());
-    let ran = zone.run(&events, &mut outcomes);
-    assert!(rt; ran.is_ok());
-    let causes = [
-        IgnoredCause::Unreadable,
-        IgnoredCause::NotServed,
-        IgnoredCause::TooLong,
-    ];
-    assert_eq!(rt; outcomes.len(), 4);
-    assert!(rt; outcomes[0] == sent(rt.alloc(), &GCF)?);
-    for (outcome, cause) in outcomes[1..].iter().zip(causes) {
-        assert!(rt; outcome.output.is_none());
-        assert_eq!(rt; outcome.note, Note::Ignored(cause));
-    }
-    assert_eq!(rt; zone.steps(), 4);
-    assert!(rt; Some(zone.clock()) == Moment::new(40));
-    assert!(rt; !zone.is_closed());
+    let passed = runs_on(rt.alloc(), &mut zone);
+    let is_closed = zone.is_closed();
+    drop(zone);
+    assert!(rt; passed?);
+    assert!(rt; !is_closed);
     Ok(())
 }
 
@@ -179,6 +239,7 @@ fn is_judged(parts: ConfigParts, key: &str) -> bool {
     match Config::new(parts) {
         Ok(_) => key.is_empty(),
         Err(ConfigFault::OutOfRange(named)) => named == key,
+        Err(ConfigFault::NoDefaultPool) => false,
     }
 }
 
@@ -194,7 +255,7 @@ fn a_key_out_of_its_range_is_named(rt: HostRuntime) -> Result<(), Fail> {
         (1, 1, 1, 0, "zone.pool_turn"),
     ];
     for (limit, calls, asks, pool_turn, key) in cases {
-        let mut parts = parts()?;
+        let mut parts = parts(rt.alloc())?;
         parts.limit = limit;
         parts.calls = calls;
         parts.asks = asks;
@@ -217,7 +278,7 @@ fn moments_end_below_2_to_the_53(rt: HostRuntime) -> Result<(), Fail> {
 /// endpoints.
 fn is_answered(
     alloc: Global,
-    zone: &mut Zone,
+    zone: &mut Zone<FixedPool>,
     last: u8,
     bytes: &[u8],
     reply: &[u8],
@@ -238,34 +299,80 @@ fn is_answered(
     Ok(outcome.output == Some(sent) && is_given == is_new && count == endpoints)
 }
 
-#[test]
-fn endpoints_come_stay_and_go(rt: HostRuntime) -> Result<(), Fail> {
-    let alloc = rt.alloc();
-    let mut zone = zone(alloc)?;
-    assert!(rt; is_answered(alloc, &mut zone, 9, &KEEP_ALIVE, &FULL_REQUIRED, false, 0)?);
-    assert!(rt; is_answered(alloc, &mut zone, 5, &RRQ, &RCF, true, 1)?);
-    assert!(rt; is_answered(alloc, &mut zone, 6, &OTHER_RRQ, &OTHER_RCF, true, 2)?);
-    assert!(rt;
-        is_answered(
-            alloc,
-            &mut zone,
-            7,
-            &DUPLICATE_RRQ,
-            &DUPLICATE_RRJ,
-            false,
-            2
-        )?
-    );
-    assert!(rt; is_answered(alloc, &mut zone, 5, &RRQ, &RCF, false, 2)?);
-    assert!(rt; is_answered(alloc, &mut zone, 5, &URQ, &UCF, false, 1)?);
-    assert!(rt; is_answered(alloc, &mut zone, 5, &RRQ, &RCF, true, 2)?);
+/// Whether endpoints register, are told of duplicates, leave and come again.
+fn come_and_go(alloc: Global, zone: &mut Zone<FixedPool>) -> Result<bool, Fail> {
+    Ok(
+        is_answered(alloc, zone, 9, &KEEP_ALIVE, &FULL_REQUIRED, false, 0)?
+            && is_answered(alloc, zone, 5, &RRQ, &RCF, true, 1)?
+            && is_answered(alloc, zone, 6, &OTHER_RRQ, &OTHER_RCF, true, 2)?
+            && is_answered(alloc, zone, 7, &DUPLICATE_RRQ, &DUPLICATE_RRJ, false, 2)?
+            && is_answered(alloc, zone, 5, &RRQ, &RCF, false, 2)?
+            && is_answered(alloc, zone, 5, &URQ, &UCF, false, 1)?
+            && is_answered(alloc, zone, 5, &RRQ, &RCF, true, 2)?
+            && are_listed(zone)?,
+    )
+}
+
+/// Whether 0001 and 0002 are registered, the first with what it was granted at moment 1,000.
+fn are_listed(zone: &Zone<FixedPool>) -> Result<bool, Fail> {
     let endpoints = zone.endpoints()?;
     let [first, second] = endpoints.as_slice() else {
-        return Err(Fail::from("two endpoints"));
+        return Ok(false);
     };
-    assert!(rt; first.identifier.as_slice() == [48, 48, 48, 49].as_slice());
-    assert!(rt; second.identifier.as_slice() == [48, 48, 48, 50].as_slice());
-    assert_eq!(rt; first.deadline, 61_000);
-    assert_eq!(rt; first.heard, 1_000);
+    let is_first = first.identifier.as_slice() == [48, 48, 48, 49].as_slice();
+    let is_second = second.identifier.as_slice() == [48, 48, 48, 50].as_slice();
+    Ok(is_first && is_second && first.deadline == 61_000 && first.heard == 1_000)
+}
+
+#[test]
+fn endpoints_come_stay_and_go(rt: HostRuntime) -> Result<(), Fail> {
+    let mut zone = zone(rt.alloc())?;
+    let passed = come_and_go(rt.alloc(), &mut zone);
+    drop(zone);
+    assert!(rt; passed?);
+    Ok(())
+}
+
+/// Whether a zone over one pool is made with these networks.
+fn is_made(alloc: Global, networks: &[Option<Network>]) -> Result<bool, Fail> {
+    let mut parts = parts(alloc)?;
+    parts.networks = Networks::from_vec(networks.to_vec(alloc)?);
+    let mut pools = Vec::new(alloc);
+    pools.push(FixedPool::new(2_500))?;
+    let Ok(set) = PoolSet::new(pools) else {
+        return Err(Fail::from("one idle pool"));
+    };
+    match Zone::new(alloc, config(parts)?, set) {
+        Ok(_) => Ok(true),
+        Err((set, fault)) => {
+            let is_back = set.len() == 1 && set.figures(0).limit == 2_500;
+            drop(set);
+            if is_back && fault == NewFault::WrongPools {
+                Ok(false)
+            } else {
+                Err(Fail::from("the pools come back, as WrongPools"))
+            }
+        }
+    }
+}
+
+#[test]
+fn a_zone_has_a_pool_for_each_network(rt: HostRuntime) -> Result<(), Fail> {
+    let alloc = rt.alloc();
+    let office = Network {
+        ip: [10, 1, 0, 0],
+        bits: 16,
+    };
+    assert!(rt; is_made(alloc, &[None])?);
+    assert!(rt; !is_made(alloc, &[Some(office), None])?);
+    assert!(rt; office.holds([10, 1, 255, 1]));
+    assert!(rt; !office.holds([10, 2, 0, 1]));
+    let mut parts = parts(alloc)?;
+    let mut networks = Vec::new(alloc);
+    networks.push(Some(office))?;
+    parts.networks = Networks::from_vec(networks);
+    let refused = Config::new(parts);
+    assert!(rt; matches!(refused, Err(ConfigFault::NoDefaultPool)));
+    assert_eq!(rt; ConfigFault::NoDefaultPool.number(), 2);
     Ok(())
 }

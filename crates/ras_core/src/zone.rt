@@ -1,10 +1,14 @@
 //! The zone.
 
-ghost use Rattle.std.specs.Prelude.{◌≡◌, ◌<◌, ◌≤◌, ◌↔◌, IfOk, OnOk, OnErr, IfErr, IsTrue, take, length, vec_len, vec_capacity, ◌++◌, ◌∷◌, []};
+ghost use Rattle.std.specs.Prelude.{◌≡◌, ◌≢◌, ◌<◌, ◌≤◌, ◌↔◌, All, map, Err, IfOk, IsOk, OnOk, OnErr, IfErr, IsTrue, take, length, vec_len, vec_capacity, ◌++◌, ◌∷◌, []};
+ghost use Rattle.std.specs.FinMap as fin;
 ghost use Rattle.registrations.specs.Registry.{IsListOf};
+ghost use Rattle.admission.specs.Calls.{in_use};
+ghost use Rattle.pools.specs.Account.{is_idle};
 ghost use Rattle.ras_core.specs.State.{opening};
-ghost use Rattle.ras_core.specs.Machine.{most_steps};
-ghost use Rattle.ras_core.specs.Steps.{Step, RunsOn, HasFewOctets};
+ghost use Rattle.ras_core.specs.Pools.{figures_of, figures_without_loans, lasts_of};
+ghost use Rattle.ras_core.specs.Machine.{course, most_steps};
+ghost use Rattle.ras_core.specs.Steps.{HasFewOctets, RunsOn, Step, ask_in, lasts_after};
 ghost use Rattle.ras_core.specs.Soundness.{Sound};
 
 use crate::config::Config;
@@ -13,58 +17,82 @@ use crate::fault::{NewFault, StepFault};
 use crate::machine::Machine;
 use crate::moment::Moment;
 use crate::outcome::Outcome;
+use admission::CallList;
+use pools::{Pool, PoolSet};
 use registrations::RegistrationList;
 use std::alloc::{AllocError, Global};
 use std::marker::Model;
 
-/// The zone of one gatekeeper. Contracts see its state, which is always sound.
+/// The zone of one gatekeeper, with the pools from which its calls have their bandwidth. Contracts see
+/// its state, which is always sound, and each pool's last request with its answer.
 #[derive(Drop)]
-pub struct Zone {
-    machine: Machine,
+pub struct Zone<P: Pool> {
+    machine: Machine<P>,
 }
 
-impl Model for Zone {
+impl<P: Pool> Model for Zone<P> {
     ghost use Rattle.std.specs.Coded.{codes};
     ghost use Rattle.std.specs.FinMap as map;
-    ghost use Rattle.ras_core.specs.State.{State};
+    ghost use Rattle.ras_core.specs.State.{Running};
     ghost use Rattle.ras_core.specs.Soundness.{Sound};
 
-    ghost Value = { State };
+    ghost Value = { Running };
 
     ghost coded = { Prim.hlevel (codes, map.code) };
 
     ghost view = { λ z. z.machine };
 
-    ghost invariant = { λ z. Sound z.machine };
+    ghost invariant = { λ z. Sound z.machine.state };
 }
 
-impl Zone {
-    /// A zone in which no step was made. Its clock stands at 0.
-    pub fn new(alloc: Global, config: Config) -> Result<Self, NewFault>
-        ensures opening { IfOk result (λ zone. zone ≡ opening config) }
-        ensures sound { IfOk result Sound }
+impl<P: Pool> Zone<P> {
+    /// A zone in which no step was made, with pools that have nothing lent and counts below 2^62 each,
+    /// as `PoolSet::new` gives them. Its clock stands at 0. It is refused as WrongPools exactly where
+    /// there is another number of pools than of networks; the pools then come back.
+    pub fn new(
+        alloc: Global,
+        config: Config,
+        pools: PoolSet<P>,
+    ) -> Result<Self, (PoolSet<P>, NewFault)>
+        requires { All (λ a. IsTrue (is_idle a)) pools }
+        ensures opening { IfOk result (λ zone. zone.state ≡ opening config (figures_of pools)) }
+        ensures lasts { IfOk result (λ zone. zone.lasts ≡ lasts_of pools) }
+        ensures sound { IfOk result (λ zone. Sound zone.state) }
+        ensures wrong { (result ≡ Err (pools, NewFault.WrongPools))
+            ↔ (length pools ≢ length config.networks) }
+        ensures opens { length pools ≡ length config.networks → IsOk result }
+        ensures handed_back { IfErr result (λ fault. fault.0 ≡ pools) }
     {
-        let machine = Machine::new(alloc, config);
+        if pools.len() != config.parts().networks.as_slice().len() {
+            return Err((pools, NewFault::WrongPools));
+        }
+        let machine = Machine::new(alloc, config, pools);
         let _sound = machine.len();
         Ok(Zone { machine })
     }
 
     /// One step of the machine: what it answers to the event. It is refused as Closed exactly where 2^62
-    /// steps were made; after a refusal nothing has changed, the clock included.
+    /// steps were made; after a refusal nothing has changed, the clock and the pools included.
     pub fn step(&mut self, event: Event) -> Result<Outcome, StepFault>
-        ensures step { IfOk result (λ outcome. Step self.old event outcome self.new) }
-        ensures closed { (result ≡ Err StepFault.Closed) ↔ (self.old.steps ≡ most_steps) }
+        ensures step { IfOk result (λ outcome. Step self.old.state event outcome self.new.state) }
+        ensures lasts { IfOk result (λ outcome. self.new.lasts
+            ≡ lasts_after self.old.lasts (ask_in (course self.old.state event)) outcome.answer) }
+        ensures few { IfOk result (λ outcome. HasFewOctets outcome.output) }
+        ensures closed { (result ≡ Err StepFault.Closed) ↔ (self.old.state.steps ≡ most_steps) }
         ensures err { OnErr result (self.new ≡ self.old) }
-        ensures sound { Sound self.new }
+        ensures sound { Sound self.new.state }
     {
         self.step_at(&event)
     }
 
     fn step_at(&mut self, event: &Event) -> Result<Outcome, StepFault>
-        ensures step { IfOk result (λ outcome. Step self.old event.now outcome self.new) }
-        ensures closed { (result ≡ Err StepFault.Closed) ↔ (self.old.steps ≡ most_steps) }
+        ensures step { IfOk result (λ outcome. Step self.old.state event.now outcome self.new.state) }
+        ensures lasts { IfOk result (λ outcome. self.new.lasts
+            ≡ lasts_after self.old.lasts (ask_in (course self.old.state event.now)) outcome.answer) }
+        ensures few { IfOk result (λ outcome. HasFewOctets outcome.output) }
+        ensures closed { (result ≡ Err StepFault.Closed) ↔ (self.old.state.steps ≡ most_steps) }
         ensures err { OnErr result (self.new ≡ self.old) }
-        ensures sound { Sound self.new }
+        ensures sound { Sound self.new.state }
     {
         let outcome = self.machine.step(event);
         let _sound = self.machine.len();
@@ -74,28 +102,54 @@ impl Zone {
     /// The endpoints that are registered, by rising identifier: character by character, a prefix
     /// before what it begins.
     pub fn endpoints(&self) -> Result<RegistrationList, AllocError>
-        ensures { IfOk result (IsListOf self.now.live) }
+        ensures { IfOk result (IsListOf self.now.state.live) }
     {
         self.machine.list()
     }
 
+    /// The calls that are open, by rising key.
+    pub fn calls(&self) -> Result<CallList, AllocError>
+        ensures { IfOk result (λ list. list ≡ fin.entries self.now.state.calls) }
+    {
+        self.machine.calls()
+    }
+
+    /// The bandwidth in use: the units of all calls, of 100 bit/s each.
+    pub fn in_use(&self) -> u64
+        ensures sum { result ≡ in_use self.now.state.calls }
+        ensures limit { result ≤ self.now.state.config.limit }
+    {
+        self.machine.in_use()
+    }
+
+    /// Ends the zone. Its pools come back in their order, with nothing lent; their limits, counts and
+    /// last answers stay.
+    pub fn close(self) -> Vec<P>
+        ensures figures { figures_of (map P.account result.items)
+            ≡ figures_without_loans self.state.pools }
+        ensures lasts { lasts_of (map P.account result.items) ≡ self.lasts }
+    {
+        let Zone { machine } = self;
+        machine.close()
+    }
+
     /// The clock: the latest moment of an event so far.
     pub fn clock(&self) -> Moment
-        ensures { result ≡ self.now.clock }
+        ensures { result ≡ self.now.state.clock }
     {
         self.machine.clock()
     }
 
     /// How many steps were made.
     pub fn steps(&self) -> u64
-        ensures { result ≡ self.now.steps }
+        ensures { result ≡ self.now.state.steps }
     {
         self.machine.steps()
     }
 
     /// Whether no further step is made.
     pub fn is_closed(&self) -> bool
-        ensures { IsTrue result ↔ (self.now.steps ≡ most_steps) }
+        ensures { IsTrue result ↔ (self.now.state.steps ≡ most_steps) }
     {
         self.machine.is_closed()
     }
@@ -108,11 +162,11 @@ impl Zone {
         events: &[Event],
         outcomes: &mut Vec<Outcome>,
     ) -> Result<(), (usize, StepFault)>
-        ensures ok { OnOk result (RunsOn self.old events.now outcomes.old.items outcomes.new.items self.new) }
+        ensures ok { OnOk result (RunsOn self.old.state events.now outcomes.old.items outcomes.new.items self.new.state) }
         ensures index { IfErr result (λ fault. fault.0 < length events.now) }
-        ensures err { IfErr result (λ fault. RunsOn self.old (take fault.0 events.now) outcomes.old.items outcomes.new.items self.new) }
-        ensures closed { IfErr result (λ fault. (fault.1 ≡ StepFault.Closed) ↔ (self.new.steps ≡ most_steps)) }
-        ensures sound { Sound self.new }
+        ensures err { IfErr result (λ fault. RunsOn self.old.state (take fault.0 events.now) outcomes.old.items outcomes.new.items self.new.state) }
+        ensures closed { IfErr result (λ fault. (fault.1 ≡ StepFault.Closed) ↔ (self.new.state.steps ≡ most_steps)) }
+        ensures sound { Sound self.new.state }
     {
         let _ = &self.machine;
         for (i, event) in events.iter().enumerate() {

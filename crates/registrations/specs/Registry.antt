@@ -15,12 +15,13 @@ use Rattle.registrations.specs.declared.registration.Registration.{Registration}
 abbrev pub Live : Type 0
 Live = FinMap (slice_cmp nat_cmp) Registration
 
--- with the most that there may be, and how many more can be added so that no memory is taken for
--- them
+-- with the most that there may be, how many more can be added so that no memory is taken for them,
+-- and the order in which they are numbered
 pub record Registry : Type 0 where
   pub live : Live
   pub most : ℕ
   pub room : ℕ
+  pub order : List Registration
 
 abbrev pub identifier_of : Registration → List ℕ
 identifier_of r = r.identifier
@@ -41,6 +42,11 @@ IsListOf live list = entries_of list ≡ entries live
 -- the endpoint with this call signal address
 abbrev pub at_address : Live → Address → Option Registration
 at_address live address = find (λ r. same_address r.call_signal address) (values live)
+
+-- all registrations are numbered, each once
+pub record IsNumbered (t : Registry) : Type 0 where
+  pub all : live_of t.order ≡ t.live
+  pub once : places.AreApart identifier_of (places.row_in t.order)
 
 -- an identifier that may be handed out: no registration has it, it is none of those that are taken,
 -- and it has 1 to 128 characters (H.225.0, EndpointIdentifier)

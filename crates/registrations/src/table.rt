@@ -8,7 +8,7 @@ ghost use Rattle.std.specs.FinMap as map;
 ghost use Rattle.keyed.specs.Maps.{update};
 ghost use Rattle.keyed.specs.Places.{IsPlaceOf};
 ghost use Rattle.ras_module.specs.Addresses.{same_address};
-ghost use Rattle.registrations.specs.Registry.{at_address, IsUnused, IsListOf, IsConsistent, Becomes, Adds, live_of, identifier_of, with_identifier, with_deadline, after_rewrite, after_hear, after_ask, after_calm};
+ghost use Rattle.registrations.specs.Registry.{at_address, IsUnused, IsListOf, IsConsistent, IsNumbered, Becomes, Adds, live_of, identifier_of, with_identifier, with_deadline, after_rewrite, after_hear, after_ask, after_calm};
 
 use crate::fault::AddFault;
 use crate::fresh::unused_from;
@@ -45,6 +45,7 @@ impl Model for Registrations {
       live = live_of t.items.items;
       most = t.most;
       room = vec_capacity t.items - vec_len t.items;
+      order = t.items.items;
     } };
 
     ghost invariant = { λ t. IsTable t.items.items t.most t.lowest };
@@ -69,6 +70,7 @@ impl Registrations {
         ensures len { result ≡ map.len self.now.live }
         ensures few { map.len self.now.live ≤ self.now.most }
         ensures sound { IsConsistent self.now.live }
+        ensures numbered { IsNumbered self.now }
     {
         self.items.len()
     }
@@ -103,6 +105,7 @@ impl Registrations {
     /// One registration for each `i` below `len`, and each of them once while the table stands as it
     /// is.
     pub fn nth(&self, i: usize) -> Option<&Registration>
+        ensures nth { option_copied result ≡ slice_get self.now.order i }
         ensures some { IsSome result ↔ (i < map.len self.now.live) }
         ensures live { IfSome result (λ r. map.get self.now.live r.now.identifier ≡ Some r.now) }
     {

@@ -1,14 +1,17 @@
 -- A configuration stays in its ranges where a number in its range is set.
 use Rattle.std.proofs.Common.{◌≡◌, ℕ, suc, zero, ◌≤◌, Bool, true, false, Option, Some, None, Result}
 use Rattle.std.proofs.Common.{Ok, Err, List, [], ◌∷◌, set, if◌then◌else◌, refl, sym, subst, codes}
-use Rattle.std.proofs.Common.{arith}
+use Rattle.std.proofs.Common.{arith, Bor}
 use Rattle.std.proofs.lemmas.Bool.Decides.{nat_tests}
+use Rattle.std.specs.List.{list_any}
 use Rattle.ras_module.specs.declared.address.Address.{Address}
 use Rattle.ras_core.specs.declared.config.ConfigParts.{ConfigParts}
 use Rattle.ras_core.specs.declared.config.ConfigFault.{ConfigFault}
-use Rattle.ras_core.specs.declared.config.ConfigFault.TheVariants.{OutOfRange}
+use Rattle.ras_core.specs.declared.config.ConfigFault.TheVariants.{OutOfRange, NoDefaultPool}
+use Rattle.ras_core.specs.declared.network.Network.{Network}
 use Rattle.ras_core.specs.Defaults.{default_parts}
-use Rattle.ras_core.specs.Ranges.{range_fault, is_outside, IsConfigAnswer}
+use Rattle.ras_core.specs.Networks.{has_default, is_too_long}
+use Rattle.ras_core.specs.Ranges.{range_fault, is_outside, IsConfig, IsConfigAnswer}
 use Rattle.script.specs.declared.key.Key.{Key}
 use Rattle.script.specs.declared.key.Key.TheVariants.{Limit, CallLimit, TimeToLive, Endpoints}
 use Rattle.script.specs.declared.key.Key.TheVariants.{Calls, Kept, Window, Silence, Delay, Retries}
@@ -35,6 +38,7 @@ tests_of parts =
     (is_outside 1 (most_of Asks) parts.asks, codes "zone.asks") ∷
     (is_outside 1 (most_of AskWait) parts.ask_wait, codes "zone.ask_wait") ∷
     (is_outside 1 (most_of PoolTurn) parts.pool_turn, codes "zone.pool_turn") ∷
+    (list_any is_too_long parts.networks, codes "pool.network") ∷
     []
 
 others_pass : (test : Bool) (key : List ℕ) (rest : Option (List ℕ))
@@ -64,7 +68,7 @@ one_set parts i key least most number low high e =
     let inside : is_outside least most number ≡ false = grind (arith, nat_tests) in
     subst (λ (test : Bool). first_fault (set (tests_of parts) i (test, key)) ≡ None) (sym inside) (passes_with (tests_of parts) i key e)
 
-pub stays_in_range : (parts : ConfigParts) (key : Key) (number : ℕ) → 1 ≤ number
+stays_in_range : (parts : ConfigParts) (key : Key) (number : ℕ) → 1 ≤ number
     → number ≤ most_of key → range_fault parts ≡ None
     → range_fault (with_number parts key number) ≡ None
 unfolding range_fault
@@ -82,13 +86,49 @@ stays_in_range parts Asks number low high e = one_set parts 10 (codes "zone.asks
 stays_in_range parts AskWait number low high e = one_set parts 11 (codes "zone.ask_wait") 1 (most_of AskWait) number low high e
 stays_in_range parts PoolTurn number low high e = one_set parts 12 (codes "zone.pool_turn") 1 (most_of PoolTurn) number low high e
 
-pub defaults_in_range : (name : List ℕ) (address : Address)
-    → range_fault (default_parts name address) ≡ None
+-- settings leave the networks
+networks_stay : (parts : ConfigParts) (key : Key) (number : ℕ)
+    → (with_number parts key number).networks ≡ parts.networks
+networks_stay parts Limit number = refl
+networks_stay parts CallLimit number = refl
+networks_stay parts TimeToLive number = refl
+networks_stay parts Endpoints number = refl
+networks_stay parts Calls number = refl
+networks_stay parts Kept number = refl
+networks_stay parts Window number = refl
+networks_stay parts Silence number = refl
+networks_stay parts Delay number = refl
+networks_stay parts Retries number = refl
+networks_stay parts Asks number = refl
+networks_stay parts AskWait number = refl
+networks_stay parts PoolTurn number = refl
+
+pub stays_config : (parts : ConfigParts) (key : Key) (number : ℕ) → 1 ≤ number
+    → number ≤ most_of key → IsConfig parts
+    → IsConfig (with_number parts key number)
+stays_config parts key number low high is = record {
+  ranges = stays_in_range parts key number low high is.ranges;
+  default_pool = subst (λ (networks : List (Option Network)). has_default networks ≡ true)
+      (sym (networks_stay parts key number)) is.default_pool;
+}
+
+pub defaults_in_range : (name : List ℕ) (address : Address) (networks : List (Option Network))
+    → list_any is_too_long networks ≡ false
+    → range_fault (default_parts name address networks) ≡ None
 unfolding range_fault
-defaults_in_range name address = refl
+defaults_in_range name address networks bits = rw bits refl
+
+-- settings in their ranges are refused for want of a default pool alone
+pub no_range_fault : (parts : ConfigParts) (answer : Result ConfigParts ConfigFault) (key : Bor (List ℕ))
+    → IsConfigAnswer parts answer
+    → answer ≡ Err (OutOfRange key) → range_fault parts ≡ None → ⊥
+no_range_fault parts (Ok config) key is e inside = absurd (cc e)
+no_range_fault parts (Err (OutOfRange other)) key is e inside = absurd (cc (is, inside))
+no_range_fault parts (Err NoDefaultPool) key is e inside = absurd (cc e)
 
 pub no_config_fault : (parts : ConfigParts) (answer : Result ConfigParts ConfigFault) (fault : ConfigFault)
     → IsConfigAnswer parts answer
-    → answer ≡ Err fault → range_fault parts ≡ None → ⊥
+    → answer ≡ Err fault → IsConfig parts → ⊥
 no_config_fault parts (Ok config) fault is e inside = absurd (cc e)
-no_config_fault parts (Err (OutOfRange key)) fault is e inside = absurd (cc (is, inside))
+no_config_fault parts (Err (OutOfRange key)) fault is e inside = absurd (cc (is, inside.ranges))
+no_config_fault parts (Err NoDefaultPool) fault is e inside = absurd (cc (is.1, inside.default_pool))

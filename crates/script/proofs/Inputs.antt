@@ -1,19 +1,22 @@
 -- What is read of an input is what a script is read of.
-use Rattle.std.proofs.Common.{◌≡◌, ℕ, ◌≤◌, true, false, Option, Some, None, Result, Ok, Err, List}
+use Rattle.std.proofs.Common.{◌≡◌, ℕ, ◌≤◌, Bool, if◌then◌else◌, true, false, Option, Some, None, Result, Ok, Err, List}
 use Rattle.std.proofs.Common.{length, refl, subst, map, arith, nat_lt}
 use Rattle.std.proofs.lemmas.Bool.Decides.{nat_tests}
 use Rattle.std.specs.Io.KnownBytes.{Consumes, IsAtEnd}
 use Rattle.ras_module.specs.declared.address.Address.{Address}
 use Rattle.ras_core.specs.declared.event.Event.{Event}
+use Rattle.ras_core.specs.Networks.{has_default}
 use Rattle.script.specs.declared.fault.ScriptFault.{ScriptFault}
-use Rattle.script.specs.declared.fault.ScriptFault.TheVariants.{TooLong, BadLine, NoZone, Stream}
-use Rattle.script.specs.declared.fault.ScriptFault.TheVariants.{Memory}
+use Rattle.script.specs.declared.fault.ScriptFault.TheVariants.{TooLong, BadLine, NoZone}
+use Rattle.script.specs.declared.fault.ScriptFault.TheVariants.{NoDefaultPool, Stream, Memory}
 use Rattle.script.specs.declared.key.Key.{Key}
 use Rattle.script.specs.declared.read.Script.{Script}
+use Rattle.script.specs.Pools.{PoolEntry, networks_of}
 use Rattle.script.specs.Said.{Said}
 use Rattle.script.specs.Words.{lines_of}
 use Rattle.script.specs.Lines.{line_of}
-use Rattle.script.specs.Scripts.{script_from, script_unless, in_place, said_by, bad_line, script_of}
+use Rattle.script.specs.Scripts.{script_from, script_with, script_unless, in_place, said_by, bad_line}
+use Rattle.script.specs.Scripts.{script_of, parts_of}
 use Rattle.script.specs.Scripts.{GivesUnlessStopped}
 use Rattle.script.specs.Reads.{ConsumesAtMost, ConsumesExactly, IsInputFault, IsAtEndIfRead}
 use Rattle.script.specs.Reads.{ReadsScript}
@@ -24,20 +27,26 @@ too_long text e =
     let large : nat_lt 1048576 (length text) ≡ true = grind (arith, nat_tests) in
     rw large refl
 
-never_from : (place : Option (List ℕ × Address)) (settings : List (Key × ℕ)) (events : List Event)
-    → script_from place settings events ≡ Err TooLong → ⊥
-never_from None settings events e = absurd (cc e)
-never_from (Some zone) settings events e = absurd (cc e)
+never_if : (is_default : Bool) (script : Script)
+    → (if is_default then Ok script else Err NoDefaultPool) ≡ Err TooLong → ⊥
+never_if true script e = absurd (cc e)
+never_if false script e = absurd (cc e)
+
+never_from : (place : Option (List ℕ × Address)) (settings : List (Key × ℕ)) (pools : List PoolEntry) (events : List Event)
+    → script_from place settings pools events ≡ Err TooLong → ⊥
+never_from None settings pools events e = absurd (cc e)
+never_from (Some zone) settings pools events e =
+    never_if (has_default (networks_of pools)) (script_with (parts_of zone (networks_of pools) settings) pools events) e
 
 never_long : (bad : Option ℕ) (said : Said) → script_unless bad said ≡ Err TooLong → ⊥
 never_long (Some bad) said e = absurd (cc e)
-never_long None said e = never_from said.zone said.settings said.events e
+never_long None said e = never_from said.zone said.settings said.pools said.events e
 
 not_long : (text : List ℕ) → length text ≤ 1048576 → script_of text ≡ Err TooLong → ⊥
 unfolding script_of
 not_long text few e =
     let small : nat_lt 1048576 (length text) ≡ false = grind (arith, nat_tests) in
-    let lines = in_place (map line_of (lines_of text)) in
+    let lines = in_place 0 (map line_of (lines_of text)) in
     never_long (bad_line lines) (said_by lines) (rw small at e)
 
 ends : (answer : Result Script ScriptFault) (left : Option (List ℕ)) → IsAtEnd left
@@ -46,6 +55,7 @@ ends (Ok script) left e = e
 ends (Err TooLong) left e = tt
 ends (Err (BadLine line)) left e = e
 ends (Err NoZone) left e = e
+ends (Err NoDefaultPool) left e = e
 ends (Err Stream) left e = tt
 ends (Err Memory) left e = tt
 
@@ -76,6 +86,7 @@ fault_answer old new TooLong kind long most =
     }
 fault_answer old new (BadLine line) kind long most = absurd kind
 fault_answer old new NoZone kind long most = absurd kind
+fault_answer old new NoDefaultPool kind long most = absurd kind
 fault_answer old new Stream kind long most = record {
   text = most.octets;
   taken = most.taken;

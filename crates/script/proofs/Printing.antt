@@ -51,9 +51,9 @@ pub output_flat : (mark address space octets : List ℕ)
     → mark ++ (address ++ (space ++ octets)) ≡ mark ++ address ++ space ++ octets
 output_flat mark address space octets = sym (simp append_assoc)
 
-pub line_flat : (number space note output end : List ℕ)
-    → (number ++ (space ++ note)) ++ (output ++ end) ≡ number ++ space ++ note ++ output ++ end
-line_flat number space note output end =
-    let left : (number ++ (space ++ note)) ++ (output ++ end) ≡ number ++ (space ++ (note ++ (output ++ end))) = simp append_assoc in
-    let right : number ++ space ++ note ++ output ++ end ≡ number ++ (space ++ (note ++ (output ++ end))) = simp append_assoc in
+pub line_flat : (number space note answer output end : List ℕ)
+    → (number ++ (space ++ note)) ++ (answer ++ (output ++ end)) ≡ number ++ space ++ note ++ answer ++ output ++ end
+line_flat number space note answer output end =
+    let left : (number ++ (space ++ note)) ++ (answer ++ (output ++ end)) ≡ number ++ (space ++ (note ++ (answer ++ (output ++ end)))) = simp append_assoc in
+    let right : number ++ space ++ note ++ answer ++ output ++ end ≡ number ++ (space ++ (note ++ (answer ++ (output ++ end)))) = simp append_assoc in
     left ∙ sym right

@@ -7,6 +7,7 @@ use Rattle.std.specs.Char.{is_ascii_digit}
 use Rattle.std.specs.Str.{chars, is_utf8}
 use Rattle.std.specs.Str.Parse.{digits_value}
 use Rattle.hex.specs.Hex.{decode_of}
+use Rattle.ras_core.specs.declared.network.Network.{Network}
 use Rattle.ras_module.specs.declared.address.Address.{Address}
 use Rattle.script.specs.Words.{front_part, rest_part}
 
@@ -36,6 +37,20 @@ address_of word =
       d ← number_of 0 255 (front_part 58 behind_c)
       port ← number_of 0 65535 (rest_part 58 behind_c)
       Some (record { ip = a ∷ b ∷ c ∷ d ∷ []; port = port })
+
+-- `A.B.C.D/BITS`
+abbrev pub network_of : List ℕ → Option Network
+network_of word =
+    let behind_a = rest_part 46 word in
+    let behind_b = rest_part 46 behind_a in
+    let behind_c = rest_part 46 behind_b in
+    do
+      a ← number_of 0 255 (front_part 46 word)
+      b ← number_of 0 255 (front_part 46 behind_a)
+      c ← number_of 0 255 (front_part 46 behind_b)
+      d ← number_of 0 255 (front_part 47 behind_c)
+      bits ← number_of 0 32 (rest_part 47 behind_c)
+      Some (record { ip = a ∷ b ∷ c ∷ d ∷ []; bits = bits })
 
 -- 1 to 128 characters of 16 bits each, in UTF-8
 abbrev pub name_of : List ℕ → Option (List ℕ)

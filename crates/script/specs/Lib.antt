@@ -1,6 +1,7 @@
 pub mod Words
 pub mod Fields
 pub mod Settings
+pub mod Pools
 pub mod Lines
 pub mod Said
 pub mod Scripts

@@ -3,10 +3,11 @@ use Rattle.std.specs.Prelude.{ℕ, ◌-◌, ◌^◌, List, [], ◌∷◌, Option
 use Rattle.std.specs.Str.{bytes_eq}
 use Rattle.ras_core.specs.declared.event.Event.TheVariants.{Datagram}
 use Rattle.script.specs.declared.line.Line.{Line}
-use Rattle.script.specs.declared.line.Line.TheVariants.{Blank, Zone, Set, At}
+use Rattle.script.specs.declared.line.Line.TheVariants.{Blank, Zone, Set, Pool, At}
 use Rattle.script.specs.Words.{words_of}
 use Rattle.script.specs.Fields.{◌>>=◌, number_of, address_of, name_of, octets_of}
 use Rattle.script.specs.Settings.{setting_of}
+use Rattle.script.specs.Pools.{pool_of}
 
 -- `NAME ADDRESS`
 abbrev pub zone_line : List (List ℕ) → Option Line
@@ -22,6 +23,12 @@ set_line (key ∷ number ∷ []) = do
   setting ← setting_of key number
   Some (Set setting)
 set_line other = None
+
+-- a kind of pool with its numbers, and perhaps a network
+abbrev pub pool_line : List (List ℕ) → Option Line
+pool_line words = do
+  pool ← pool_of words
+  Some (Pool pool)
 
 -- a datagram of these octets comes from this address, at a moment below 2^53
 abbrev pub datagram_of : List ℕ → List ℕ → List ℕ → Option Line
@@ -48,6 +55,7 @@ line_of_words [] = Some Blank
 line_of_words (kind ∷ words) =
     if bytes_eq kind (codes "zone") then zone_line words
     else if bytes_eq kind (codes "set") then set_line words
+    else if bytes_eq kind (codes "pool") then pool_line words
     else if bytes_eq kind (codes "at") then at_line words
     else None
 

@@ -2,6 +2,8 @@
 use Rattle.std.specs.Prelude.{ℕ, ◌+◌, List, [], ◌∷◌, ◌++◌, slice_index, Option, Some, None, codes}
 use Rattle.std.specs.Fmt.{decimal}
 use Rattle.hex.specs.Hex.{encode_upper}
+use Rattle.pools.specs.declared.interface.Lend.{Lend}
+use Rattle.pools.specs.declared.interface.Lend.TheVariants.{Lent, Refused, Wait}
 use Rattle.ras_module.specs.declared.address.Address.{Address}
 use Rattle.ras_core.specs.declared.outcome.Datagram.{Datagram}
 use Rattle.ras_core.specs.declared.outcome.IgnoredCause.TheVariants.{TooLong, Unreadable, NotServed}
@@ -15,6 +17,13 @@ note_text Served = codes "served"
 note_text (Ignored TooLong) = codes "ignored too-long"
 note_text (Ignored Unreadable) = codes "ignored unreadable"
 note_text (Ignored NotServed) = codes "ignored not-served"
+
+-- what the pool answered, where one was asked; units are of 100 bit/s
+abbrev pub answer_text : Option Lend → List ℕ
+answer_text None = []
+answer_text (Some (Lent units)) = codes " lent " ++ decimal units
+answer_text (Some Refused) = codes " refused"
+answer_text (Some Wait) = codes " wait"
 
 -- `A.B.C.D:PORT`
 abbrev pub address_text : Address → List ℕ
@@ -31,10 +40,11 @@ output_text None = []
 output_text (Some datagram) =
     codes " > " ++ address_text datagram.to ++ codes " " ++ encode_upper datagram.bytes
 
--- the line of the outcome of an event with this number: `N NOTE` and the output
+-- the line of the outcome of an event with this number: `N NOTE`, the pool's answer and the output
 abbrev pub outcome_line : ℕ → Outcome → List ℕ
 outcome_line number outcome =
-    decimal number ++ codes " " ++ note_text outcome.note ++ output_text outcome.output ++ codes "\n"
+    decimal number ++ codes " " ++ note_text outcome.note
+    ++ answer_text outcome.answer ++ output_text outcome.output ++ codes "\n"
 
 abbrev pub outcome_lines_from : ℕ → List Outcome → List ℕ
 outcome_lines_from number [] = []

@@ -2,8 +2,8 @@
 use Rattle.std.specs.Prelude.{ℕ, ◌≡◌, ◌≤◌, List, length, Option, Result, Ok, Err}
 use Rattle.std.specs.Io.KnownBytes.{Consumes, IsAtEnd}
 use Rattle.script.specs.declared.fault.ScriptFault.{ScriptFault}
-use Rattle.script.specs.declared.fault.ScriptFault.TheVariants.{TooLong, BadLine, NoZone, Stream}
-use Rattle.script.specs.declared.fault.ScriptFault.TheVariants.{Memory}
+use Rattle.script.specs.declared.fault.ScriptFault.TheVariants.{TooLong, BadLine, NoZone}
+use Rattle.script.specs.declared.fault.ScriptFault.TheVariants.{NoDefaultPool, Stream, Memory}
 use Rattle.script.specs.declared.read.Script.{Script}
 use Rattle.script.specs.Scripts.{script_of, GivesUnlessStopped}
 
@@ -12,6 +12,7 @@ abbrev pub IsInputFault : ScriptFault → Type 0
 IsInputFault TooLong = Unit {0}
 IsInputFault (BadLine line) = ⊥
 IsInputFault NoZone = ⊥
+IsInputFault NoDefaultPool = ⊥
 IsInputFault Stream = Unit {0}
 IsInputFault Memory = Unit {0}
 
@@ -31,6 +32,7 @@ abbrev pub IsAtEndIfRead : Result Script ScriptFault → Option (List ℕ) → T
 IsAtEndIfRead (Ok script) left = IsAtEnd left
 IsAtEndIfRead (Err (BadLine line)) left = IsAtEnd left
 IsAtEndIfRead (Err NoZone) left = IsAtEnd left
+IsAtEndIfRead (Err NoDefaultPool) left = IsAtEnd left
 IsAtEndIfRead (Err TooLong) left = Unit {0}
 IsAtEndIfRead (Err Stream) left = Unit {0}
 IsAtEndIfRead (Err Memory) left = Unit {0}

@@ -7,7 +7,8 @@ use crate::number::number_of;
 use crate::parts::parted;
 use ras_module::Address;
 
-fn octet_of(word: &[u8]) -> Option<u8>
+/// The octet that a word writes, from 0 to 255.
+pub fn octet_of(word: &[u8]) -> Option<u8>
     ensures { result ≡ number_of 0 255 word.now }
 {
     match number_of(0, 255, word) {

@@ -1,23 +1,29 @@
 //! What the lines of a script have said so far.
 
-ghost use Rattle.std.specs.Prelude.{◌≡◌, IfOk, IsTrue, ◌↔◌, OnOk, None, []};
+ghost use Rattle.std.specs.Prelude.{◌≡◌, IsTrue, ◌↔◌, OnOk, None, []};
 ghost use Rattle.script.specs.Said.{Said, with_line, MayFollow};
-ghost use Rattle.script.specs.Scripts.{script_from, parts_of};
+ghost use Rattle.script.specs.Scripts.{script_from, GivesUnlessStopped};
 
 use crate::fault::ScriptFault;
 use crate::line::Line;
+use crate::making::{config_of, networks_of, specs_of, with_settings};
+use crate::pool::PoolLine;
 use crate::read::{Events, Script};
 use crate::setting::Setting;
-use ras_core::{Config, ConfigParts, Event};
+use ras_core::Event;
 use ras_module::{Address, Name};
 use std::alloc::{AllocError, Global};
 use std::marker::Model;
 
-/// The zone, the settings and the events of the lines so far.
+/// The pools that a zone has at most.
+const MOST_POOLS: usize = 16;
+
+/// The zone, the settings, the pools and the events of the lines so far.
 #[derive(Drop)]
 pub struct Draft {
     zone: Option<(Name, Address)>,
     settings: Vec<Setting>,
+    pools: Vec<PoolLine>,
     events: Vec<Event>,
 }
 
@@ -26,28 +32,36 @@ impl Model for Draft {
 
     ghost Value = { Said };
 
-    ghost view = { λ d. record { zone = d.zone; settings = d.settings.items; events = d.events.items } };
+    ghost view = { λ d. record {
+      zone = d.zone;
+      settings = d.settings.items;
+      pools = d.pools.items;
+      events = d.events.items;
+    } };
 }
 
 impl Draft {
     /// What no line has said.
     pub fn new(alloc: Global) -> Draft
-        ensures { result ≡ record { zone = None; settings = []; events = [] } }
+        ensures { result ≡ record { zone = None; settings = []; pools = []; events = [] } }
     {
         Draft {
             zone: None,
             settings: Vec::new(alloc),
+            pools: Vec::new(alloc),
             events: Vec::new(alloc),
         }
     }
 
-    /// Whether this line may come next: behind an event no line names the zone or sets something.
+    /// Whether this line may come next: behind an event no line names the zone, sets something or
+    /// has a pool, and there are at most 16 pools.
     pub fn takes(&self, line: &Line) -> bool
-        ensures { IsTrue result ↔ MayFollow self.now.events line.now }
+        ensures { IsTrue result ↔ MayFollow self.now line.now }
     {
         match line {
             Line::Blank | Line::At(_) => true,
             Line::Zone(..) | Line::Set(_) => self.events.is_empty(),
+            Line::Pool(_) => self.events.is_empty() && self.pools.len() < MOST_POOLS,
         }
     }
 
@@ -59,40 +73,35 @@ impl Draft {
             Line::Blank => {}
             Line::Zone(name, address) => self.zone = Some((name, address)),
             Line::Set(setting) => self.settings.push(setting)?,
+            Line::Pool(pool) => self.pools.push(pool)?,
             Line::At(event) => self.events.push(event)?,
         }
         Ok(())
     }
 
     /// The script that the lines make.
-    pub fn into_script(self) -> Result<Script, ScriptFault>
-        ensures { result ≡ script_from self.zone self.settings self.events }
+    pub fn into_script(self, alloc: Global) -> Result<Script, ScriptFault>
+        ensures { GivesUnlessStopped
+            (script_from self.zone self.settings self.pools self.events) result }
     {
         let Draft {
             zone,
             settings,
+            pools,
             events,
         } = self;
         let Some((name, address)) = zone else {
             return Err(ScriptFault::NoZone);
         };
+        let Some(config) = config_of(name, address, networks_of(alloc, &pools)?) else {
+            return Err(ScriptFault::NoDefaultPool);
+        };
+        let config = with_settings(config, &settings);
+        let pools = specs_of(alloc, config.parts().limit, &pools)?;
         Ok(Script {
-            config: config_of(name, address, &settings),
+            config,
+            pools,
             events: Events::from_vec(events),
         })
     }
-}
-
-/// The configuration of a zone in which these settings are made, in order.
-fn config_of(name: Name, address: Address, settings: &[Setting]) -> Config
-    ensures { result ≡ parts_of (name, address) settings.now }
-{
-    let mut config = match Config::new(ConfigParts::new(name, address)) {
-        Ok(config) => config,
-        Err(_) => unreachable!(),
-    };
-    for setting in settings {
-        config = setting.apply(&config);
-    }
-    config
 }

@@ -7,7 +7,7 @@ use std::alloc::AllocError;
 use std::fmt;
 use thiserror::Error;
 
-/// Why a script isn't read. Of the first three, the first that applies to the whole script is
+/// Why a script isn't read. Of the first four, the first that applies to the whole script is
 /// answered.
 #[derive(Clone, Copy, Debug, PartialEq, Eq, Error)]
 pub enum ScriptFault {
@@ -20,6 +20,9 @@ pub enum ScriptFault {
     /// Each line is understood, and none names the zone.
     #[error("no zone")]
     NoZone,
+    /// The zone is named, and the last pool has a network, so that some calls have no pool.
+    #[error("no default pool")]
+    NoDefaultPool,
     /// A read failed.
     #[error("stream failed")]
     Stream,
@@ -36,6 +39,7 @@ impl ScriptFault {
             ScriptFault::TooLong => 1,
             ScriptFault::BadLine(_) => 2,
             ScriptFault::NoZone => 3,
+            ScriptFault::NoDefaultPool => 4,
             ScriptFault::Stream => 5,
             ScriptFault::Memory => 6,
         }
@@ -66,6 +70,9 @@ pub enum RunFault {
     /// A write failed.
     #[error("stream failed")]
     Stream,
+    /// The pools are not as many as the script's, or one of them is not idle; nothing was written.
+    #[error("wrong pools")]
+    WrongPools,
 }
 
 impl RunFault {
@@ -77,6 +84,7 @@ impl RunFault {
             RunFault::Memory(_) => 1,
             RunFault::Closed(_) => 2,
             RunFault::Stream => 3,
+            RunFault::WrongPools => 4,
         }
     }
 }

@@ -2,12 +2,13 @@
 
 ghost use Rattle.std.specs.Prelude.{◌≡◌, ◌-◌, ◌^◌, IfOk};
 ghost use Rattle.script.specs.Fields.{number_of, octets_of};
-ghost use Rattle.script.specs.Lines.{zone_line, set_line, event_of, at_line, line_of};
+ghost use Rattle.script.specs.Lines.{zone_line, set_line, pool_line, event_of, at_line, line_of};
 
 use crate::address::address_of;
 use crate::name::name_of;
 use crate::number::number_of;
 use crate::parts::{Words, is_word};
+use crate::pool::PoolLine;
 use crate::setting::Setting;
 use hex::FromHexError;
 use ras_core::{Event, Moment};
@@ -23,6 +24,8 @@ pub enum Line {
     Zone(Name, Address),
     /// This is set.
     Set(Setting),
+    /// The zone has this pool.
+    Pool(PoolLine),
     /// This happens.
     At(Event),
 }
@@ -47,6 +50,12 @@ fn set_line(mut words: Words) -> Option<Line>
         Some(_) => None,
         None => Some(Line::Set(Setting::new(key, number)?)),
     }
+}
+
+fn pool_line(words: Words) -> Option<Line>
+    ensures { result ≡ pool_line words.entry }
+{
+    Some(Line::Pool(PoolLine::new(words)?))
 }
 
 /// The octets that a word writes as pairs of hexadecimal digits.
@@ -124,6 +133,8 @@ pub fn line_of(alloc: Global, line: &[u8]) -> Result<Option<Line>, AllocError>
         Ok(zone_line(words))
     } else if is_word(kind, "set") {
         Ok(set_line(words))
+    } else if is_word(kind, "pool") {
+        Ok(pool_line(words))
     } else if is_word(kind, "at") {
         at_line(alloc, words)
     } else {

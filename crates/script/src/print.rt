@@ -3,9 +3,10 @@
 ghost use Rattle.std.specs.Prelude.{◌≡◌, ◌+◌, ◌<◌, ◌^◌, OnOk, slice_index};
 ghost use Rattle.std.specs.Io.KnownBytes.{Appends};
 ghost use Rattle.hex.specs.Hex.{encode_upper, upper_digits};
-ghost use Rattle.script.specs.Prints.{note_text, address_text, output_text, outcome_line};
-ghost use Rattle.script.specs.Prints.{outcome_lines};
+ghost use Rattle.script.specs.Prints.{note_text, answer_text, address_text, output_text};
+ghost use Rattle.script.specs.Prints.{outcome_line, outcome_lines};
 
+use pools::Lend;
 use ras_core::{Datagram, IgnoredCause, Note, Outcome};
 use ras_module::Address;
 use std::io;
@@ -48,6 +49,18 @@ fn write_address<W: Write>(address: &Address, out: &mut W) -> io::Result<()>
     write!(out, "{a}.{b}.{c}.{d}:{}", address.port)
 }
 
+fn write_answer<W: Write>(answer: &Option<Lend>, out: &mut W) -> io::Result<()>
+    ensures { OnOk result (Appends (W.contents out.old) (W.contents out.new)
+        (answer_text answer.now)) }
+{
+    match answer {
+        None => Ok(()),
+        Some(Lend::Lent(units)) => write!(out, " lent {units}"),
+        Some(Lend::Refused) => out.write_all(b" refused"),
+        Some(Lend::Wait) => out.write_all(b" wait"),
+    }
+}
+
 fn write_output<W: Write>(output: &Option<Datagram>, out: &mut W) -> io::Result<()>
     ensures { OnOk result (Appends (W.contents out.old) (W.contents out.new)
         (output_text output.now)) }
@@ -68,6 +81,7 @@ fn write_outcome<W: Write>(number: usize, outcome: &Outcome, out: &mut W) -> io:
         (outcome_line number outcome.now)) }
 {
     write!(out, "{number} {}", note_text(outcome.note))?;
+    write_answer(&outcome.answer, out)?;
     write_output(&outcome.output, out)?;
     out.write_all(b"\n")
 }

@@ -9,6 +9,7 @@ use crate::fault::ScriptFault;
 use crate::input::read_whole;
 use crate::line::line_of;
 use crate::parts::parted;
+use pools::PoolSpecs;
 use ras_core::{Config, Event};
 use std::alloc::Global;
 use std::io::Read;
@@ -53,10 +54,12 @@ impl Events {
     }
 }
 
-/// A script: the configuration of its zone, and the events that come to it.
+/// A script: the configuration of its zone, the pools that it is to have, one for each network of
+/// the configuration, and the events that come to it.
 #[derive(Drop)]
 pub struct Script {
     pub config: Config,
+    pub pools: PoolSpecs,
     pub events: Events,
 }
 
@@ -80,7 +83,7 @@ fn script_of(alloc: Global, text: &[u8]) -> Result<Script, ScriptFault>
         }
         draft.add(line)?;
     }
-    draft.into_script()
+    draft.into_script(alloc)
 }
 
 /// Reads the script that an input is, to the input's end. Lines are counted from 1, the blank ones

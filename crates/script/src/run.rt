@@ -1,23 +1,55 @@
 //! Running a script.
 
-ghost use Rattle.std.specs.Prelude.{◌≡◌};
-ghost use Rattle.script.specs.Runs.{IsRunAnswer};
+ghost use Rattle.std.specs.Prelude.{◌≡◌, ◌↔◌, ◌⊎◌, map, Err, IfErr, IfOk, true, false};
+ghost use Rattle.script.specs.Runs.{IsRunAnswer, are_pools_of, start_of};
 
 use crate::fault::RunFault;
 use crate::print::write_outcomes;
 use crate::read::Script;
-use ras_core::{StepFault, Zone};
+use pools::{Pool, PoolSet};
+use ras_core::{Config, NewFault, StepFault, Zone};
 use std::alloc::Global;
 use std::io::Write;
 
-/// Runs the events of a script on its zone, one after the other, and writes a line for each outcome.
-/// Where an event can't be run, the lines of those before it are written. The writer is flushed.
-pub fn run_script<W: Write>(alloc: Global, script: Script, out: &mut W) -> Result<(), RunFault>
-    ensures { IsRunAnswer script (W.contents out.old) (W.contents out.new) result }
+/// The zone of a script before its first event.
+fn zone_of<P: Pool>(alloc: Global, config: Config, pools: Vec<P>) -> Result<Zone<P>, RunFault>
+    ensures start { IfOk result
+        (λ zone. zone.state ≡ start_of config (map P.account pools.items)) }
+    ensures pools { IfOk result (λ _. are_pools_of config (map P.account pools.items) ≡ true) }
+    ensures wrong { IfErr result (λ fault. ((fault ≡ RunFault.WrongPools)
+        × (are_pools_of config (map P.account pools.items) ≡ false))
+        ⊎ ((fault ≡ RunFault.Memory 0)
+        × (are_pools_of config (map P.account pools.items) ≡ true))) }
 {
-    let Script { config, events } = script;
-    let Ok(mut zone) = Zone::new(alloc, config) else {
-        return Err(RunFault::Memory(0));
+    let Ok(pools) = PoolSet::new(pools) else {
+        return Err(RunFault::WrongPools);
+    };
+    match Zone::new(alloc, config, pools) {
+        Ok(zone) => Ok(zone),
+        Err((_, NewFault::WrongPools)) => Err(RunFault::WrongPools),
+        Err((_, NewFault::Memory)) => Err(RunFault::Memory(0)),
+    }
+}
+
+/// Runs the events of a script on its zone, one after the other, and writes a line for each
+/// outcome. The pools are those of the script, in its order: as many, and each of them idle, and
+/// else they are refused before anything is written. Where an event can't be run, the lines of those
+/// before it are written. The writer is flushed.
+pub fn run_script<P: Pool, W: Write>(
+    alloc: Global,
+    script: Script,
+    pools: Vec<P>,
+    out: &mut W,
+) -> Result<(), RunFault>
+    ensures answer { IsRunAnswer script (map P.account pools.items)
+        (W.contents out.old) (W.contents out.new) result }
+    ensures wrong { (result ≡ Err RunFault.WrongPools)
+        ↔ (are_pools_of script.config (map P.account pools.items) ≡ false) }
+{
+    let Script { config, events, .. } = script;
+    let mut zone = match zone_of(alloc, config, pools) {
+        Ok(zone) => zone,
+        Err(fault) => return Err(fault),
     };
     let mut outcomes = Vec::new(alloc);
     let ran = zone.run(events.as_slice(), &mut outcomes);

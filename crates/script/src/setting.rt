@@ -39,10 +39,10 @@ impl Setting {
     }
 
     /// The configuration in which this is set.
-    pub fn apply(&self, config: &Config) -> Config
-        ensures { result ≡ with_number config.now self.now.0 self.now.1 }
+    pub fn apply(&self, config: Config) -> Config
+        ensures { result ≡ with_number config self.now.0 self.now.1 }
     {
-        let mut parts = *config.parts();
+        let mut parts = config.into_parts();
         self.key.set(&mut parts, self.number);
         match Config::new(parts) {
             Ok(config) => config,

@@ -1,6 +1,7 @@
 use crate::print::write_outcomes;
 use crate::{RunFault, ScriptFault, read_script, run_script};
-use ras_core::{Datagram, Event, IgnoredCause, Note, Outcome};
+use pools::{FixedPool, Lend, Pool, PoolSpec, StepPool};
+use ras_core::{Datagram, Event, IgnoredCause, Network, Note, Outcome};
 use ras_module::{Address, Octets};
 use std::alloc::Global;
 use std::io;
@@ -13,7 +14,7 @@ fn fault_of(alloc: Global, text: &[u8]) -> Option<ScriptFault> {
 
 #[test]
 fn the_first_bad_line_is_named(rt: HostRuntime) {
-    let bad_lines: [&[u8]; 31] = [
+    let bad_lines: [&[u8]; 44] = [
         b"zone",
         b"zone gk",
         b"zone gk 10.0.0.1:1719 x",
@@ -44,7 +45,20 @@ fn the_first_bad_line_is_named(rt: HostRuntime) {
         b"at 0 from 10.0.0.5:1719 00 00",
         b"at 0 from",
         b"turn 0",
-        b"pool fixed 2500",
+        b"pool",
+        b"pool fixed",
+        b"pool fixed 1000000000001",
+        b"pool fixed 2500 64",
+        b"pool fixed 2500 for",
+        b"pool fixed 2500 for 10.1.0.0",
+        b"pool fixed 2500 for 10.1.0.0/33",
+        b"pool fixed 2500 for 10.1.0/16",
+        b"pool fixed 2500 on 10.1.0.0/16",
+        b"pool fixed 2500 for 10.1.0.0/16 x",
+        b"pool step 2500",
+        b"pool step 2500 0",
+        b"pool paced 2500 4294967296",
+        b"pool slow 2500",
     ];
     for line in bad_lines {
         assert_eq!(rt;
@@ -57,7 +71,7 @@ fn the_first_bad_line_is_named(rt: HostRuntime) {
 
 #[test]
 fn faults_come_in_their_order(rt: HostRuntime) {
-    let scripts: [(&[u8], ScriptFault); 8] = [
+    let scripts: [(&[u8], ScriptFault); 12] = [
         (b"", ScriptFault::NoZone),
         (b"\n  \n", ScriptFault::NoZone),
         (b"at 0 from 10.0.0.5:1719", ScriptFault::NoZone),
@@ -74,6 +88,19 @@ fn faults_come_in_their_order(rt: HostRuntime) {
         (
             b"at 0 from 10.0.0.5:1719\n\nzone gk 10.0.0.1:1719\n",
             ScriptFault::BadLine(3),
+        ),
+        (
+            b"zone gk 10.0.0.1:1719\nat 0 from 10.0.0.5:1719\npool fixed 1\n",
+            ScriptFault::BadLine(3),
+        ),
+        (b"pool fixed 1 for 10.1.0.0/16\n", ScriptFault::NoZone),
+        (
+            b"pool fixed 1 for 10.1.0.0/16\nzone gk 10.0.0.1:1719\nx\n",
+            ScriptFault::BadLine(3),
+        ),
+        (
+            b"zone gk 10.0.0.1:1719\npool fixed 1\npool fixed 1 for 10.1.0.0/16\n",
+            ScriptFault::NoDefaultPool,
         ),
     ];
     for (script, fault) in scripts {
@@ -172,6 +199,7 @@ fn each_setting_has_its_key(rt: HostRuntime) -> Result<(), Fail> {
 
 fn ignored(cause: IgnoredCause) -> Outcome {
     Outcome {
+        answer: None,
         output: None,
         note: Note::Ignored(cause),
         given: None,
@@ -182,6 +210,7 @@ fn ignored(cause: IgnoredCause) -> Outcome {
 fn each_outcome_has_its_line(rt: HostRuntime) -> Result<(), Fail> {
     let mut outcomes = Vec::new(rt.alloc());
     outcomes.push(Outcome {
+        answer: None,
         output: Some(Datagram {
             to: Address {
                 ip: [10, 0, 0, 255],
@@ -195,10 +224,18 @@ fn each_outcome_has_its_line(rt: HostRuntime) -> Result<(), Fail> {
     outcomes.push(ignored(IgnoredCause::TooLong))?;
     outcomes.push(ignored(IgnoredCause::Unreadable))?;
     outcomes.push(ignored(IgnoredCause::NotServed))?;
+    for answer in [Lend::Lent(1280), Lend::Refused, Lend::Wait] {
+        outcomes.push(Outcome {
+            answer: Some(answer),
+            output: None,
+            note: Note::Served,
+            given: None,
+        })?;
+    }
     let mut out = Vec::new(rt.alloc());
     write_outcomes(&outcomes, &mut out)?;
     let lines = b"1 served > 10.0.0.255:1719 0480AF\n2 ignored too-long\n3 ignored unreadable\n\
-        4 ignored not-served\n";
+        4 ignored not-served\n5 served lent 1280\n6 served refused\n7 served wait\n";
     assert_eq!(rt; out.as_slice(), lines.as_slice());
     Ok(())
 }
@@ -213,9 +250,95 @@ fn a_script_is_run(rt: HostRuntime) -> Result<(), Fail> {
     text.extend_from_slice(b"\nat 0 from 10.0.0.5:1719 80\n")?;
     let script = read_script(rt.alloc(), &mut text.as_slice())?;
     let mut out = Vec::new(rt.alloc());
-    run_script(rt.alloc(), script, &mut out)?;
+    let mut pools = Vec::new(rt.alloc());
+    pools.push(FixedPool::new(100_000))?;
+    run_script(rt.alloc(), script, pools, &mut out)?;
     let lines = b"1 ignored unreadable\n2 ignored too-long\n3 ignored not-served\n";
     assert_eq!(rt; out.as_slice(), lines.as_slice());
+    Ok(())
+}
+
+#[test]
+fn pool_lines_describe_the_pools(rt: HostRuntime) -> Result<(), Fail> {
+    let mut input: &[u8] = b"zone gk 10.0.0.1:1719\npool fixed 0 for 10.1.0.0/16\n\
+        pool step 1000000000000 64 for 10.2.0.1/32\npool paced 2500 4294967295\n";
+    let script = read_script(rt.alloc(), &mut input)?;
+    let specs = script.pools.as_slice();
+    assert_eq!(rt; specs.len(), 3);
+    assert!(rt; matches!(specs[0], PoolSpec::Fixed { limit: 0 }));
+    let PoolSpec::Step { limit, step } = specs[1] else {
+        panic!(rt; "the second is a step pool");
+    };
+    assert_eq!(rt; (limit, step.get()), (1_000_000_000_000, 64));
+    let PoolSpec::Paced { limit, burst } = specs[2] else {
+        panic!(rt; "the third is a paced pool");
+    };
+    assert_eq!(rt; (limit, burst.get()), (2500, 4_294_967_295));
+    let networks = script.config.parts().networks.as_slice();
+    assert_eq!(rt; networks.len(), 3);
+    let first = Network {
+        ip: [10, 1, 0, 0],
+        bits: 16,
+    };
+    assert!(rt; networks[0] == Some(first));
+    assert!(rt; networks[2].is_none());
+    Ok(())
+}
+
+#[test]
+fn without_a_pool_line_there_is_a_fixed_pool_of_the_limit(rt: HostRuntime) -> Result<(), Fail> {
+    let mut input: &[u8] = b"zone gk 10.0.0.1:1719\nset limit 3000\n";
+    let script = read_script(rt.alloc(), &mut input)?;
+    let specs = script.pools.as_slice();
+    assert_eq!(rt; specs.len(), 1);
+    assert!(rt; matches!(specs[0], PoolSpec::Fixed { limit: 3000 }));
+    assert!(rt; script.config.parts().networks.as_slice()[0].is_none());
+    Ok(())
+}
+
+#[test]
+fn a_zone_has_at_most_16_pools(rt: HostRuntime) -> Result<(), Fail> {
+    for (count, fault) in [(16, None), (17, Some(ScriptFault::BadLine(18)))] {
+        let mut script = Vec::new(rt.alloc());
+        script.extend_from_slice(b"zone gk 10.0.0.1:1719\n")?;
+        for _ in 0..count {
+            script.extend_from_slice(b"pool fixed 1\n")?;
+        }
+        assert_eq!(rt; fault_of(rt.alloc(), &script), fault, "{count}");
+    }
+    Ok(())
+}
+
+/// What is answered to a run of one event with these pools, and how many octets are written.
+fn answer_with<P: Pool>(alloc: Global, pools: Vec<P>) -> Option<(Result<(), RunFault>, usize)> {
+    let mut input: &[u8] = b"zone gk 10.0.0.1:1719\nat 0 from 10.0.0.5:1719 80\n";
+    let Ok(script) = read_script(alloc, &mut input) else {
+        return None;
+    };
+    let mut out = Vec::new(alloc);
+    let answer = run_script(alloc, script, pools, &mut out);
+    Some((answer, out.len()))
+}
+
+#[test]
+fn wrong_pools_are_refused_before_anything_is_written(rt: HostRuntime) -> Result<(), Fail> {
+    let alloc = rt.alloc();
+    let refused = Some((Err(RunFault::WrongPools), 0));
+    for count in [0, 2] {
+        let mut pools: Vec<Box<dyn Pool + Send>> = Vec::new(alloc);
+        for _ in 0..count {
+            pools.push(Box::new(alloc, FixedPool::new(1))?)?;
+        }
+        assert_eq!(rt; answer_with(alloc, pools), refused, "{count}");
+    }
+    let mut busy = FixedPool::new(10);
+    assert_eq!(rt; busy.lend(1), Lend::Lent(1));
+    let mut pools: Vec<Box<dyn Pool + Send>> = Vec::new(alloc);
+    pools.push(Box::new(alloc, busy)?)?;
+    assert_eq!(rt; answer_with(alloc, pools), refused);
+    let mut pools: Vec<Box<dyn Pool + Send>> = Vec::new(alloc);
+    pools.push(Box::new(alloc, StepPool::new(10, 2))?)?;
+    assert_eq!(rt; answer_with(alloc, pools), Some((Ok(()), 21)));
     Ok(())
 }
 
@@ -277,8 +400,10 @@ fn a_stream_that_fails_is_told(rt: HostRuntime) -> Result<(), Fail> {
     for flushes in [true, false] {
         let script = read_script(rt.alloc(), &mut text.as_slice())?;
         let mut out = Full { writes: 0, flushes };
+        let mut pools = Vec::new(rt.alloc());
+        pools.push(FixedPool::new(100_000))?;
         assert_eq!(rt;
-            run_script(rt.alloc(), script, &mut out),
+            run_script(rt.alloc(), script, pools, &mut out),
             Err(RunFault::Stream)
         );
     }
@@ -291,6 +416,7 @@ fn faults_have_numbers_and_texts(rt: HostRuntime) -> Result<(), Fail> {
         (ScriptFault::TooLong, 1, "input too long"),
         (ScriptFault::BadLine(7), 2, "line 7: not understood"),
         (ScriptFault::NoZone, 3, "no zone"),
+        (ScriptFault::NoDefaultPool, 4, "no default pool"),
         (ScriptFault::Stream, 5, "stream failed"),
         (ScriptFault::Memory, 6, "out of memory"),
     ] {
@@ -302,6 +428,7 @@ fn faults_have_numbers_and_texts(rt: HostRuntime) -> Result<(), Fail> {
         (RunFault::Memory(3), 1, "step 3: out of memory"),
         (RunFault::Closed(4), 2, "step 4: closed"),
         (RunFault::Stream, 3, "stream failed"),
+        (RunFault::WrongPools, 4, "wrong pools"),
     ] {
         assert_eq!(rt; fault.number(), number);
         assert_eq!(rt; format!(in rt.alloc(); "{fault}")?.as_str(), text);

@@ -1,9 +1,9 @@
 //! Replies: octets that were written by hand from the standards.
 
-use crate::write_into;
+use crate::{reply_bounds, write_into};
 use ras_module::{
     Address, AdmissionRejectReason, Alias, AliasList, BandRejectReason, BmpString, Delay,
-    DialledDigits, DisengageRejectReason, EndpointId, GatekeeperRejectReason, Name,
+    DialledDigits, DisengageRejectReason, EndpointId, GatekeeperRejectReason, H323Id, Name,
     RegistrationRejectReason, Reply, ReplyAliases, RequestSeqNum, TimeToLive, UnregRejectReason,
 };
 use std::alloc::{AllocError, Global};
@@ -218,5 +218,36 @@ fn an_info_request_and_a_delay(rt: HostRuntime) -> Result<(), Fail> {
         delay: Delay::new(500).unwrap(),
     };
     assert!(rt; is_written(rt.alloc(), &wait, &RIP)?);
+    Ok(())
+}
+
+/// A confirm with as many aliases as a reply may have, each of its texts and numbers at its greatest.
+fn longest_confirm(alloc: Global) -> Result<Reply, Fail> {
+    let mut list = AliasList::new(alloc);
+    for _ in 0..ReplyAliases::MOST {
+        list.push(Alias::H323Id(H323Id::new(&[0xFFFF; 256]).unwrap()))?;
+    }
+    let Ok(aliases) = ReplyAliases::new(list) else {
+        return Err(Fail::from("a reply may have 32 aliases"));
+    };
+    Ok(Reply::Rcf {
+        seq: seq(65535),
+        call_signal: endpoint_address(255),
+        aliases,
+        gatekeeper: Name::new(&[0xFFFF; 128]).unwrap(),
+        endpoint: EndpointId::new(BmpString::new(&[0xFFFF; 128]).unwrap()),
+        granted: TimeToLive::new(4_294_967_295).unwrap(),
+    })
+}
+
+// 19 octets up to the call signal address, one for the count of the aliases, 514 for each of them
+// (its choice, its length, 256 characters), 257 for each identifier, and 10 for the additions.
+#[test]
+fn the_longest_reply(rt: HostRuntime) -> Result<(), Fail> {
+    let reply = longest_confirm(rt.alloc())?;
+    reply_bounds(&reply);
+    let mut octets = Vec::new(rt.alloc());
+    write_into(&reply, &mut octets)?;
+    assert_eq!(rt; octets.len(), 19 + 1 + 32 * 514 + 2 * 257 + 10);
     Ok(())
 }

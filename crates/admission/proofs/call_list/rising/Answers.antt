@@ -4,10 +4,9 @@ use Rattle.std.specs.List.Sorted.{IsPermutation, IsSortedByKey}
 use Rattle.std.proofs.lemmas.Fn.{always_returns_same}
 use Rattle.keyed.proofs.Lists.{sorted_rows}
 use Rattle.ras_module.specs.CallKeys.{call_key_cmp}
-use Rattle.ras_module.specs.Same.{call_key_decides}
 use Rattle.ras_module.proofs.CallKeyOrder.{call_key_cmp_total, call_key_cmp-IsAntisymmetric}
 use Rattle.admission.specs.Calls.{open_calls_of}
-use Rattle.admission.proofs.Entries.{key_of, value_of, entries_again}
+use Rattle.keyed.proofs.Entries.{key_of, value_of, entries_again}
 use Rattle.admission.proofs.call_list.rising.Goals as goal
 
 pub returns : goal.returns

@@ -1,9 +1,11 @@
-use Rattle.std.proofs.Common.{◌≡◌, ◌+◌, ◌∙◌, subst, sym, ap, arith, rules, length, ◌<◌}
+use Rattle.std.proofs.Common.{◌≡◌, ◌+◌, ◌∙◌, subst, sym, ap, arith, rules, length, ◌<◌, Result}
 use Rattle.std.proofs.lemmas.Bool.Decides.{nat_tests}
 use Rattle.script.specs.Said.{Said, MayFollow}
-use Rattle.script.specs.Scripts.{script_of}
+use Rattle.script.specs.Scripts.{script_of, GivesUnlessStopped}
+use Rattle.script.specs.declared.fault.ScriptFault.{ScriptFault}
+use Rattle.script.specs.declared.read.Script.{Script}
 use Rattle.script.proofs.Reading.{answer_from, readings, first_answer, last_answer, answer_more}
-use Rattle.script.proofs.Reading.{unread_line, misplaced_line, gives_same}
+use Rattle.script.proofs.Reading.{unread_line, misplaced_line}
 use Rattle.script.proofs.Parting.{rest_shorter}
 use Rattle.script.proofs.read.script_of.Goals as goal
 
@@ -21,14 +23,14 @@ returns-in_default c =
 
 pub returns-then-not-takes : goal.returns-then-not-takes
 returns-then-not-takes c =
-    let not_so : ¬ (MayFollow c.loop-rest.draft.events c.in-Some.line) = λ may. absurd (cc (c.takes.ensures.1 may, c.if-not-takes.true)) in
+    let not_so : ¬ (MayFollow c.loop-rest.draft c.in-Some.line) = λ may. absurd (cc (c.takes.ensures.1 may, c.if-not-takes.true)) in
     c.loop-rest.invariant.answer ∙ misplaced_line (c.loop-rest.number + 1) c.loop-rest.draft c.loop-rest.rest.now
     c.parted.result.0.now c.parted.result.1.now c.in-Some.line c.parted.ensures.front c.parted.ensures.rest
     (sym c.in_ok-line.ensures ∙ c.in-Some.is) not_so
 
 pub loop-rest-preserved : goal.loop-rest-preserved
 loop-rest-preserved c =
-    let may : MayFollow c.loop-rest.draft.events c.in-Some.line = c.takes.ensures.0 (search rules) in
+    let may : MayFollow c.loop-rest.draft c.in-Some.line = c.takes.ensures.0 (search rules) in
     let some : 0 < length c.loop-rest.rest.now = grind (arith, nat_tests) in
     let shorter : length c.parted.result.1.now < length c.loop-rest.rest.now =
     rw c.parted.ensures.rest (rest_shorter 10 c.loop-rest.rest.now some) in
@@ -43,5 +45,6 @@ loop-rest-preserved c =
 pub returns : goal.returns
 returns c =
     let none : length c.loop-rest.rest.now ≡ 0 = grind (arith, nat_tests) in
-    gives_same (script_of c.args.text.now) c.into_script.result
-    (c.loop-rest.invariant.answer ∙ last_answer (c.loop-rest.number + 1) c.loop-rest.draft c.loop-rest.rest.now none ∙ sym c.into_script.ensures)
+    subst (λ (answer : Result Script ScriptFault). GivesUnlessStopped answer c.into_script.result)
+    (sym (c.loop-rest.invariant.answer ∙ last_answer (c.loop-rest.number + 1) c.loop-rest.draft c.loop-rest.rest.now none))
+    c.into_script.ensures

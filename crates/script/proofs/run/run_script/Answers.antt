@@ -1,46 +1,50 @@
-use Rattle.std.proofs.Common.{rules, ◌<◌, [], take, length}
+use Rattle.std.proofs.Common.{rules, ◌<◌, [], take, length, map}
 use Rattle.std.specs.Io.KnownBytes.{Appends}
-use Rattle.ras_core.specs.State.{opening}
 use Rattle.ras_core.specs.Steps.{RunsOn}
 use Rattle.script.specs.Prints.{outcome_lines}
+use Rattle.script.specs.Runs.{start_of}
 use Rattle.script.proofs.Running.{no_memory_at, closed_at}
 use Rattle.script.proofs.run.run_script.Goals as goal
 
-pub returns-in-Memory : goal.returns-in-Memory
-returns-in-Memory g c =
+pub returns-in-Memory-clause-answer : goal.returns-in-Memory-clause-answer
+returns-in-Memory-clause-answer g c =
     let script = c.args.script in
-    let before = c.in-Err.before in
+    let before = c.in-Err-ran.before in
+    let first = start_of script.config (map g.P.Pool.account c.args.pools.items) in
     let start = g.W.Write.contents c.args.out.now in
     let end = g.W.Write.contents c.flush.new.self in
     let outcomes = c.run-ran.new.outcomes.items in
+    let after = c.run-ran.new.self.state in
     let below : before < length script.events = search rules in
-    let ran : RunsOn (opening script.config) (take before script.events) [] outcomes c.run-ran.new.self = search rules in
+    let ran : RunsOn first (take before script.events) [] outcomes after = search rules in
     let lines : Appends start end (outcome_lines outcomes) = search rules in
-    no_memory_at script before c.run-ran.new.self start end below
-    (record { outcomes = outcomes; run = ran; lines = lines }) (λ e. absurd (cc (c.in-Err.ensures.closed.1 e, c.in-Memory.is)))
+    no_memory_at first script.events before after start end below
+    (record { outcomes = outcomes; run = ran; lines = lines }) (λ e. absurd (cc (c.in-Err-ran.ensures.closed.1 e, c.in-Memory.is)))
 
-pub returns-in-Ok-ran : goal.returns-in-Ok-ran
-returns-in-Ok-ran g c =
+pub returns-in-Ok-ran-clause-answer : goal.returns-in-Ok-ran-clause-answer
+returns-in-Ok-ran-clause-answer g c =
     let script = c.args.script in
+    let first = start_of script.config (map g.P.Pool.account c.args.pools.items) in
     let start = g.W.Write.contents c.args.out.now in
     let end = g.W.Write.contents c.flush.new.self in
     let outcomes = c.run-ran.new.outcomes.items in
-    let ran : RunsOn (opening script.config) script.events [] outcomes c.run-ran.new.self =
-    search rules in
+    let after = c.run-ran.new.self.state in
+    let ran : RunsOn first script.events [] outcomes after = search rules in
     let lines : Appends start end (outcome_lines outcomes) = search rules in
-    (c.run-ran.new.self, record { outcomes = outcomes; run = ran; lines = lines })
+    (after, record { outcomes = outcomes; run = ran; lines = lines })
 
-pub returns : goal.returns
-returns g c =
+pub returns-clause-answer : goal.returns-clause-answer
+returns-clause-answer g c =
     let script = c.args.script in
-    let before = c.in-Err.before in
+    let before = c.in-Err-ran.before in
+    let first = start_of script.config (map g.P.Pool.account c.args.pools.items) in
     let start = g.W.Write.contents c.args.out.now in
     let end = g.W.Write.contents c.flush.new.self in
     let outcomes = c.run-ran.new.outcomes.items in
+    let after = c.run-ran.new.self.state in
     let below : before < length script.events = search rules in
-    let ran : RunsOn (opening script.config) (take before script.events) [] outcomes
-    c.run-ran.new.self = search rules in
+    let ran : RunsOn first (take before script.events) [] outcomes after = search rules in
     let lines : Appends start end (outcome_lines outcomes) = search rules in
-    closed_at script before c.run-ran.new.self start end below
+    closed_at first script.events before after start end below
     (record { outcomes = outcomes; run = ran; lines = lines })
-    (c.in-Err.ensures.closed.0 c.in-Closed.is)
+    (c.in-Err-ran.ensures.closed.0 c.in-Closed.is)

@@ -1,5 +1,4 @@
-use Rattle.std.proofs.Common.{◌≡◌, ap, sym, ◌∙◌, arith, length}
-use Rattle.std.specs.Prelude.{Some}
+use Rattle.std.proofs.Common.{◌≡◌, ap, sym, ◌∙◌, length}
 use Rattle.std.specs.FinMap as map
 use Rattle.std.specs.HashMap as hash
 use Rattle.ras_module.specs.CallKeys.{same_call_key}

@@ -4,7 +4,7 @@ use Rattle.ras_core.proofs.Deciding.{fits, length-filter}
 use Rattle.ras_core.proofs.machine.Machine.conflicts.Goals as goal
 
 pub unwrap-requires : goal.unwrap-requires
-unwrap-requires c =
+unwrap-requires g c =
     let aliases = c.as_slice.result.now in
     let elsewhere = is_registered_elsewhere c.self.inside.endpoints.live c.args.address in
     fits c.new.result c.in_ok-held.held c.new.ensures

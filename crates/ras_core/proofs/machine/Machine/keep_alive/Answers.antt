@@ -1,20 +1,20 @@
 use Rattle.std.proofs.Common.{◌∙◌, sym, ap, subst}
 use Rattle.std.specs.FinMap as fin
 use Rattle.registrations.specs.Registry.{IsConsistent}
-use Rattle.ras_core.specs.State.{State}
+use Rattle.ras_core.specs.State.{Running}
 use Rattle.ras_core.specs.Registering.{confirmation}
 use Rattle.ras_core.proofs.Deciding.{Decides-renewal}
 use Rattle.ras_core.proofs.machine.Machine.keep_alive.Goals as goal
 
 pub returns : goal.returns
-returns c =
-    let z = c.args.self.now in
+returns g c =
+    let z = c.args.self.now.state in
     let q = c.args.q.now in
     let r = c.in-Some-get.r.now in
     Decides-renewal z c.args.now q c.in-Some.id r c.confirmation.result c.deadline.result
-    (subst (λ (z : State). IsConsistent z.live) c.self.view_is c.get.ensures.sound)
+    (subst (λ (m : Running). IsConsistent m.state.live) c.self.view_is c.get.ensures.sound)
     c.in-Some.is
-    (sym (c.in-Some-get.ensures.found ∙ ap (λ (z : State). fin.get z.live c.in-Some.id) c.self.view_is))
+    (sym (c.in-Some-get.ensures.found ∙ ap (λ (m : Running). fin.get m.state.live c.in-Some.id) c.self.view_is))
     (sym c.if-has_moved.ensures)
     (c.confirmation.ensures ∙ ap (λ xs. confirmation z q r.call_signal xs r.identifier) c.in_ok-copy.ensures)
     c.deadline.ensures

@@ -1,6 +1,6 @@
-use Rattle.std.proofs.Common.{ap, subst, arith}
+use Rattle.std.proofs.Common.{ap, subst, refl, arith}
 use Rattle.std.specs.FinMap as map
-use Rattle.registrations.specs.Registry.{Registry, IsConsistent}
+use Rattle.registrations.specs.Registry.{Registry, IsConsistent, IsNumbered}
 use Rattle.registrations.proofs.Rows.{len_live, IsConsistent-rows}
 use Rattle.registrations.proofs.table.Registrations.len.Goals as goal
 
@@ -18,3 +18,7 @@ pub returns-clause-sound : goal.returns-clause-sound
 returns-clause-sound c =
     subst (λ (t : Registry). IsConsistent t.live) c.self.view_is
     (IsConsistent-rows c.self.inside.items.items c.self.inside.most c.self.inside.lowest c.self.invariant)
+
+pub returns-clause-numbered : goal.returns-clause-numbered
+returns-clause-numbered c =
+    subst IsNumbered c.self.view_is (record { all = refl; once = c.self.invariant.ids })

@@ -1,5 +1,5 @@
-use Rattle.std.proofs.Common.{◌≡◌, ap, sym, subst, arith}
-use Rattle.std.specs.Prelude.{Option, Some, IfSome}
+use Rattle.std.proofs.Common.{◌≡◌, ap, sym, subst, ◌∙◌, arith}
+use Rattle.std.specs.Prelude.{Option, Some, IfSome, slice_get}
 use Rattle.std.specs.FinMap as map
 use Rattle.registrations.specs.declared.registration.Registration.{Registration}
 use Rattle.registrations.proofs.Rows.{len_live, placed_live, if_copied, some_placed, placed_some}
@@ -24,3 +24,8 @@ returns-clause-live c =
     (λ (r : Registration). map.get c.args.self.now.live r.identifier ≡ Some r)
     (subst (λ (w : Option Registration). IfSome w (λ r. map.get c.args.self.now.live r.identifier ≡ Some r)) (sym read)
     (placed_live i.items.items i.most i.lowest c.self.invariant c.args.self.now.live (ap (λ t. t.live) c.self.view_is) c.args.i))
+
+pub returns-clause-nth : goal.returns-clause-nth
+returns-clause-nth c =
+    rw c.deref.ensures.value at c.row_at_place.ensures
+    ∙ ap (λ t. slice_get t.order c.args.i) c.self.view_is

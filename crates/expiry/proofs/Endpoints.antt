@@ -1,0 +1,137 @@
+-- What is due of the endpoints, and what a search through them says of it.
+use Rattle.std.proofs.Common.{◌≡◌, ℕ, ◌<◌, List, length, refl, sym, ◌∙◌, ap, subst, cond, Some, None, Option, Bool, true, false, nat_eq, arith}
+use Rattle.std.specs.Prelude.{slice_get, IsTrue}
+use Rattle.std.specs.Option.{IsSomeAnd}
+use Rattle.std.specs.FinMap as fin
+use Rattle.std.proofs.lemmas.Bool.Decides.{Decides-eqb}
+use Rattle.std.proofs.lemmas.Cmp.{nat_list_cmp_total}
+use Rattle.std.proofs.lemmas.Map.Lookups.{exact_bytes}
+use Rattle.std.proofs.lemmas.Option.{slice_get_within}
+use Rattle.keyed.proofs.Decide.{some_none, same_some, by_place}
+use Rattle.keyed.proofs.Rows.{IsMapOf-rows, len_rows}
+use Rattle.admission.specs.Calls.{OpenCalls, legs_of}
+use Rattle.registrations.specs.Registry.{Live, Registry, IsConsistent, IsNumbered, identifier_of}
+use Rattle.registrations.specs.declared.registration.Registration.{Registration}
+use Rattle.expiry.specs.Due.{IsInCall, IsLiveAnd, is_to_be_asked, is_silent}
+use Rattle.expiry.specs.Searched.{item_of, IsEndpointItem, IsNoEndpointDue}
+use Rattle.expiry.specs.declared.times.Times.{Times}
+use Rattle.expiry.specs.declared.due_item.DueItem.{DueItem}
+use Rattle.expiry.specs.declared.due_item.DueItem.TheVariants.{RegistrationOver, Interrogate, Silent, Retry, KeptOver, PoolTurn}
+
+-- an endpoint that is registered and passes a test
+pub live_and : (test : Registration → Bool) (live : Live) (id : List ℕ) (r : Registration)
+    → fin.get live id ≡ Some r → test r ≡ true → IsLiveAnd test live id
+live_and test live id r there passes =
+    subst (λ (w : Option Registration). IsSomeAnd w (λ r. IsTrue (test r))) (sym there) passes
+
+the_live : (test : Registration → Bool) (live : Live) (id : List ℕ) → IsLiveAnd test live id
+    → (r : Registration) × (fin.get live id ≡ Some r) × (test r ≡ true)
+the_live test live id h = cases (fin.get live id) refl h where
+  cases : (w : Option Registration) → fin.get live id ≡ w → IsSomeAnd w (λ r. IsTrue (test r))
+      → (r : Registration) × (fin.get live id ≡ Some r) × (test r ≡ true)
+  cases None is h = absurd h
+  cases (Some r) is h = (r, is, h)
+
+-- none passes where all are later
+pub none_live : (test : Registration → Bool) (live : Live) (id : List ℕ)
+    → ((r : Registration) → fin.get live id ≡ Some r → test r ≡ false)
+    → IsLiveAnd test live id → ⊥
+none_live test live id none h =
+    let r = the_live test live id h in
+    cc (r.2, none r.0 r.1)
+
+module _ (now : ℕ) (times : Times) (calls : OpenCalls) where
+  -- what the search answers for a registration is due
+  pub item_is_due : (live : Live) (r : Registration) (item : DueItem)
+      → fin.get live r.identifier ≡ Some r → item_of now times calls r ≡ Some item
+      → IsEndpointItem now times live calls item
+  item_is_due live r item there is =
+      cases (nat_eq (legs_of calls r.identifier) 0) refl (is_to_be_asked times now r) refl
+      (is_silent times now r) refl is where
+        in_call : nat_eq (legs_of calls r.identifier) 0 ≡ false → IsInCall calls r.identifier
+        in_call h = by_place (legs_of calls r.identifier) 0 (IsInCall calls r.identifier)
+            (λ e. absurd (cc (h, (Decides-eqb (legs_of calls r.identifier) 0).1 e)))
+            (λ differ. omega (arith, differ))
+
+        cases : (b : Bool) → nat_eq (legs_of calls r.identifier) 0 ≡ b
+            → (a : Bool) → is_to_be_asked times now r ≡ a
+            → (s : Bool) → is_silent times now r ≡ s
+            → cond b None (cond a (Some (Interrogate r.identifier))
+            (cond s (Some (Silent r.identifier)) None)) ≡ Some item
+            → IsEndpointItem now times live calls item
+        cases true h a p s q e = some_none (sym e)
+        cases false h true p s q e =
+            subst (IsEndpointItem now times live calls) (same_some _ item e)
+            (in_call h, live_and (is_to_be_asked times now) live r.identifier r there p)
+        cases false h false p true q e =
+            subst (IsEndpointItem now times live calls) (same_some _ item e)
+            (in_call h, live_and (is_silent times now) live r.identifier r there q)
+        cases false h false p false q e = some_none (sym e)
+
+  -- where it answers nothing, neither test passes of an endpoint in a call
+  nothing_asked : (r : Registration) → item_of now times calls r ≡ None
+      → IsInCall calls r.identifier → is_to_be_asked times now r ≡ true → ⊥
+  nothing_asked r none in_call asked =
+      cases (nat_eq (legs_of calls r.identifier) 0) refl (is_to_be_asked times now r) asked none
+    where
+      cases : (b : Bool) → nat_eq (legs_of calls r.identifier) 0 ≡ b
+          → (a : Bool) → a ≡ true
+          → cond b None (cond a (Some (Interrogate r.identifier))
+          (cond (is_silent times now r) (Some (Silent r.identifier)) None)) ≡ None
+          → ⊥
+      cases true h a p e =
+          omega (arith, in_call, (Decides-eqb (legs_of calls r.identifier) 0).0 h)
+      cases false h true p e = some_none e
+      cases false h false p e = cc p
+
+  nothing_silent : (r : Registration) → item_of now times calls r ≡ None
+      → IsInCall calls r.identifier → is_silent times now r ≡ true → ⊥
+  nothing_silent r none in_call silent =
+      cases (nat_eq (legs_of calls r.identifier) 0) refl (is_to_be_asked times now r)
+      (is_silent times now r) silent none where
+        cases : (b : Bool) → nat_eq (legs_of calls r.identifier) 0 ≡ b
+            → (a : Bool) → (s : Bool) → s ≡ true
+            → cond b None (cond a (Some (Interrogate r.identifier))
+            (cond s (Some (Silent r.identifier)) None)) ≡ None
+            → ⊥
+        cases true h a s q e =
+            omega (arith, in_call, (Decides-eqb (legs_of calls r.identifier) 0).0 h)
+        cases false h true s q e = some_none e
+        cases false h false true q e = some_none e
+        cases false h false false q e = cc q
+
+  -- a search through all registrations that found nothing: nothing is due of any
+  pub none_due : (t : Registry) (end : ℕ) → IsNumbered t → IsConsistent t.live
+      → end ≡ fin.len t.live
+      → ((j : ℕ) (r : Registration) → j < end → slice_get t.order j ≡ Some r
+      → item_of now times calls r ≡ None)
+      → IsNoEndpointDue now times t.live calls
+  none_due t end numbered sound all none = due where
+    len : fin.len t.live ≡ length t.order
+    len = sym (ap fin.len numbered.all)
+        ∙ len_rows nat_list_cmp_total exact_bytes identifier_of (λ r. r) t.order numbered.once
+
+    nothing : (id : List ℕ) (r : Registration) → fin.get t.live id ≡ Some r
+        → item_of now times calls r ≡ None
+    nothing id r there =
+        let at = (IsMapOf-rows nat_list_cmp_total exact_bytes identifier_of (λ r. r) t.order
+        numbered.once).stands id r (ap (λ m. fin.get m id) numbered.all ∙ there) in
+        let below = slice_get_within t.order at.0 at.1 at.2.there in
+        subst (λ (r : Registration). item_of now times calls r ≡ None) at.2.value_is
+        (none at.0 at.1 (omega (arith, below, len, all)) at.2.there)
+
+    in_own_call : (id : List ℕ) (r : Registration) → fin.get t.live id ≡ Some r
+        → IsInCall calls id → IsInCall calls r.identifier
+    in_own_call id r there in_call = subst (IsInCall calls) (sym (sound.own id r there)) in_call
+
+    due : (item : DueItem) → IsEndpointItem now times t.live calls item → ⊥
+    due (RegistrationOver id) h = h
+    due (Interrogate id) h =
+        let r = the_live (is_to_be_asked times now) t.live id h.1 in
+        nothing_asked r.0 (nothing id r.0 r.1) (in_own_call id r.0 r.1 h.0) r.2
+    due (Silent id) h =
+        let r = the_live (is_silent times now) t.live id h.1 in
+        nothing_silent r.0 (nothing id r.0 r.1) (in_own_call id r.0 r.1 h.0) r.2
+    due (Retry born) h = h
+    due (KeptOver born) h = h
+    due PoolTurn h = h

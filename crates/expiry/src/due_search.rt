@@ -1,0 +1,104 @@
+//! The search for what is due.
+
+ghost use Rattle.std.specs.Prelude.{◌≡◌, ◌+◌, nat_le, MatchOption};
+ghost use Rattle.expiry.specs.Due.{IsDue, IsNothingDue, is_to_be_asked, is_silent};
+ghost use Rattle.expiry.specs.Searched.{item_of, IsNoEndpointDue, IsEndpointItem};
+
+use crate::due_item::DueItem;
+use crate::times::Times;
+use admission::Calls;
+use kept_replies::Kept;
+use registrations::{Registration, Registrations};
+
+/// Something that is due now, where the pools' next turn is at the moment `next_turn`: any of what
+/// is due, and None exactly where nothing is. Moments are in milliseconds. This takes no memory.
+pub fn due(
+    registrations: &Registrations,
+    calls: &Calls,
+    kept: &Kept,
+    now: u64,
+    next_turn: u64,
+    times: &Times,
+) -> Option<DueItem>
+    ensures { MatchOption result
+        (IsNothingDue now next_turn times.now registrations.now.live calls.now.calls kept.now.kept)
+        (IsDue now next_turn times.now registrations.now.live calls.now.calls kept.now.kept) }
+{
+    if let Some(registration) = registrations.over(now) {
+        return Some(DueItem::RegistrationOver(registration.identifier));
+    }
+    if let Some(item) = endpoint_due(registrations, calls, now, times) {
+        return Some(item);
+    }
+    if let Some(born) = kept.retry(now) {
+        return Some(DueItem::Retry(born));
+    }
+    if let Some(born) = kept.over(now) {
+        return Some(DueItem::KeptOver(born));
+    }
+    if next_turn <= now {
+        return Some(DueItem::PoolTurn);
+    }
+    None
+}
+
+/// What is due of an endpoint in a call, of any that something is due of.
+fn endpoint_due(
+    registrations: &Registrations,
+    calls: &Calls,
+    now: u64,
+    times: &Times,
+) -> Option<DueItem>
+    ensures { MatchOption result
+        (IsNoEndpointDue now times.now registrations.now.live calls.now.calls)
+        (IsEndpointItem now times.now registrations.now.live calls.now.calls) }
+{
+    for i in 0..registrations.len() {
+        if let Some(registration) = registrations.nth(i) {
+            if let Some(item) = item_of(registration, calls, now, times) {
+                return Some(item);
+            }
+        }
+    }
+    None
+}
+
+/// What is due of this endpoint as it takes part in a call.
+fn item_of(registration: &Registration, calls: &Calls, now: u64, times: &Times) -> Option<DueItem>
+    ensures { result ≡ item_of now times.now calls.now.calls registration.now }
+{
+    if calls.legs_of(&registration.identifier) == 0 {
+        return None;
+    }
+    if is_to_be_asked(registration, now, times) {
+        return Some(DueItem::Interrogate(registration.identifier));
+    }
+    if is_silent(registration, now, times) {
+        return Some(DueItem::Silent(registration.identifier));
+    }
+    None
+}
+
+/// Whether an endpoint in a call is to be asked for a sign of life.
+fn is_to_be_asked(registration: &Registration, now: u64, times: &Times) -> bool
+    ensures { result ≡ is_to_be_asked times.now now registration.now }
+{
+    if registration.tries == 0 {
+        return has_passed(registration.heard, times.silence, now);
+    }
+    registration.tries < times.asks && has_passed(registration.asked, times.ask_wait, now)
+}
+
+/// Whether an endpoint in a call was asked as often as it is, and gave no sign of life.
+fn is_silent(registration: &Registration, now: u64, times: &Times) -> bool
+    ensures { result ≡ is_silent times.now now registration.now }
+{
+    registration.tries == times.asks && has_passed(registration.asked, times.ask_wait, now)
+}
+
+/// Whether so much time has passed since a moment.
+const fn has_passed(since: u64, wait: u64, now: u64) -> bool
+    ensures { result ≡ nat_le (since + wait) now }
+{
+    since <= now && wait <= now - since
+}

@@ -1,0 +1,14 @@
+//! What is due at a moment: registrations that are over, endpoints in calls that are silent,
+//! requests that wait, kept replies that are over, and the pools' turn.
+#![tactic(auto)]
+
+mod due_item;
+mod due_search;
+mod times;
+
+pub use due_item::DueItem;
+pub use due_search::due;
+pub use times::Times;
+
+#[cfg(test)]
+mod tests;

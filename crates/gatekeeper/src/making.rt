@@ -1,0 +1,90 @@
+//! Making the pools of a script, and running it with them.
+
+ghost use Rattle.std.specs.Prelude.{◌≡◌, map, IfOk, IsTrue, OnErr};
+ghost use Rattle.pools.specs.Account.{opening_account};
+ghost use Rattle.pools.specs.Specs.{account_of};
+ghost use Rattle.script.specs.Runs.{IsRunAnswer};
+ghost use Rattle.gatekeeper.specs.Replays.{accounts_of};
+
+use pools::{FixedPool, PacedPool, Pool, PoolSpec, StepPool};
+use script::{RunFault, Script, run_script};
+use std::alloc::{AllocError, Global};
+use std::io::Write;
+
+fn limit_of(spec: &PoolSpec) -> u64
+    ensures { account_of spec.now ≡ opening_account result }
+{
+    match spec {
+        PoolSpec::Fixed { limit } => *limit,
+        PoolSpec::Step { limit, step: _ } => *limit,
+        PoolSpec::Paced { limit, burst: _ } => *limit,
+    }
+}
+
+/// Whether a pool has the limit of its description, and was asked nothing yet.
+fn is_new<P: Pool>(pool: &P, spec: &PoolSpec) -> bool
+    ensures { IsTrue result → P.account pool.now ≡ account_of spec.now }
+{
+    pool.limit() == limit_of(spec)
+        && pool.lent() == 0
+        && pool.refusals() == 0
+        && pool.waits() == 0
+        && pool.last().is_none()
+}
+
+/// Whether these are the pools that are described, in order, and were asked nothing yet.
+fn are_new<P: Pool>(pools: &[P], specs: &[PoolSpec]) -> bool
+    ensures { IsTrue result → map P.account pools.now ≡ map account_of specs.now }
+{
+    if pools.len() != specs.len() {
+        return false;
+    }
+    for (i, spec) in specs.iter().enumerate() {
+        if !is_new(&pools[i], spec) {
+            return false;
+        }
+    }
+    true
+}
+
+/// Runs a script with the pools that were made for it, once it is seen that they are its pools.
+fn run_made<P: Pool, W: Write>(
+    alloc: Global,
+    script: Script,
+    pools: Vec<P>,
+    out: &mut W,
+) -> Result<(), RunFault>
+    ensures { IsRunAnswer script (accounts_of script)
+        (W.contents out.old) (W.contents out.new) result }
+{
+    if !are_new(&pools, script.pools.as_slice()) {
+        return Err(RunFault::WrongPools);
+    }
+    run_script(alloc, script, pools, out)
+}
+
+/// Makes the pools of a script, each in a box, and runs it; nothing is written where there is no
+/// memory for the pools.
+pub fn run_with_pools<W: Write>(
+    alloc: Global,
+    script: Script,
+    out: &mut W,
+) -> Result<Result<(), RunFault>, AllocError>
+    ensures run { IfOk result (λ run. IsRunAnswer script (accounts_of script)
+        (W.contents out.old) (W.contents out.new) run) }
+    ensures err { OnErr result (W.contents out.new ≡ W.contents out.old) }
+{
+    let mut pools: Vec<Box<dyn Pool + Send>> = Vec::new(alloc);
+    for spec in script.pools.as_slice() {
+        match *spec {
+            PoolSpec::Fixed { limit } => pools.push(Box::new(alloc, FixedPool::new(limit))?)?,
+            PoolSpec::Step { limit, step } => {
+                pools.push(Box::new(alloc, StepPool::new(limit, u64::from(step.get())))?)?;
+            }
+            PoolSpec::Paced { limit, burst } => {
+                pools.push(Box::new(alloc, PacedPool::new(limit, u64::from(burst.get())))?)?;
+            }
+        }
+    }
+    Ok(run_made(alloc, script, pools, out))
+}

@@ -1,0 +1,4 @@
+pub mod KeyOrder
+pub mod StoredKept
+pub mod Births
+pub mod Named

@@ -1,0 +1,20 @@
+use Rattle.std.proofs.Common.{refl}
+use Rattle.std.specs.FinMap as map
+use Rattle.kept_replies.specs.Kept.{finished}
+use Rattle.kept_replies.proofs.StoredKept.{some_entry, AreStored-rewrite, Becomes-rewrite}
+use Rattle.kept_replies.proofs.table.Kept.finish.Goals as goal
+
+pub invariant_of-self : goal.invariant_of-self
+invariant_of-self c =
+    let i = c.self.inside in
+    let entry = some_entry (map.get c.args.self.now.kept c.args.key.now) c.requires in
+    AreStored-rewrite i.rows c.write_done.new.rows c.args.key.now i.most c.args.self.now
+    c.self.view_is (finished c.args.reply c.args.until) c.write_done.ensures entry.0 entry.1
+    c.self.invariant refl (λ h. tt)
+
+pub returns : goal.returns
+returns c =
+    let i = c.self.inside in
+    let entry = some_entry (map.get c.args.self.now.kept c.args.key.now) c.requires in
+    Becomes-rewrite i.rows c.write_done.new.rows c.args.key.now i.most c.args.self.now
+    c.self.view_is (finished c.args.reply c.args.until) c.write_done.ensures entry.0 entry.1

@@ -1,0 +1,5 @@
+use Rattle.kept_replies.proofs.StoredKept.{AreStored-empty}
+use Rattle.kept_replies.proofs.table.Kept.new.Goals as goal
+
+pub invariant_of-result : goal.invariant_of-result
+invariant_of-result c = AreStored-empty c.new.result c.args.most c.new.ensures.empty c.requires.few

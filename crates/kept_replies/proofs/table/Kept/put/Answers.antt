@@ -1,0 +1,23 @@
+use Rattle.std.proofs.Common.{ap, sym, ◌∙◌, arith}
+use Rattle.kept_replies.proofs.StoredKept.{stored_get, AreStored-write, Adds-put}
+use Rattle.kept_replies.proofs.table.Kept.put.Goals as goal
+
+pub write_entry-requires : goal.write_entry-requires
+write_entry-requires c none =
+    let i = c.self.inside in
+    let get = stored_get i.rows i.rows i.most c.args.self.now c.self.invariant c.self.view_is
+    c.args.key in
+    omega (arith, c.requires.room (sym get ∙ none), ap (λ t. t.room) c.self.view_is)
+
+pub invariant_of-self : goal.invariant_of-self
+invariant_of-self c =
+    let i = c.self.inside in
+    AreStored-write i.rows c.write_entry.new.rows i.most c.args.self.now c.self.invariant
+    c.self.view_is c.args.key c.args.entry c.write_entry.ensures c.requires.few c.requires.birth
+    c.requires.entry
+
+pub returns : goal.returns
+returns c =
+    let i = c.self.inside in
+    Adds-put i.rows c.write_entry.new.rows c.args.key i.most c.args.self.now c.self.view_is
+    c.args.entry c.write_entry.ensures.updates c.write_entry.ensures.room

@@ -1,0 +1,59 @@
+-- How what is kept is stored.
+use Rattle.std.specs.Prelude.{◌≡◌, ◌≤◌, ◌+◌, ℕ, Bool, false, List, Option, Some, None, length, nat_eq, is_some, IfSome, if◌then◌else◌}
+use Rattle.std.specs.List.{filter_map}
+use Rattle.std.specs.Cmp.Lexicographic.{pointwise}
+use Rattle.indexmap.specs.IndexMap.{IndexMap, get, spare, IsUnique, Updates}
+use Rattle.keyed.specs.Places.{AreApart, row_in}
+use Rattle.kept_replies.specs.Keys.{same_key}
+use Rattle.kept_replies.specs.Kept.{AreEntries, AreBornApart, kept_of, named_by}
+use Rattle.kept_replies.specs.declared.key.KeptKey.{KeptKey}
+use Rattle.kept_replies.specs.declared.entry.KeptEntry.{KeptEntry}
+
+abbrev pub key_of : KeptKey × KeptEntry → KeptKey
+key_of row = row.0
+
+abbrev pub is_identifier : List ℕ → Option (List ℕ) → Bool
+is_identifier id None = false
+is_identifier id (Some other) = pointwise nat_eq other id
+
+-- the identifiers that RegistrationConfirms among these rows tell
+abbrev pub identifiers_of : List (KeptKey × KeptEntry) → List (List ℕ)
+identifiers_of rows = filter_map (λ row. named_by row.1) rows
+
+abbrev pub is_named_by : List ℕ → KeptEntry → Bool
+is_named_by id entry = is_identifier id (named_by entry)
+
+-- no two rows share a key or a birth, there are no more than there may be, and each has an entry
+pub record AreStored {S : Type 0} (rows : IndexMap KeptKey KeptEntry S) (most : ℕ) : Type 0 where
+  pub each : AreEntries (kept_of rows.entries)
+  pub births : AreBornApart (kept_of rows.entries)
+  pub apart : AreApart key_of (row_in rows.entries)
+  pub few : length rows.entries ≤ most
+  pub most_few : most ≤ 65536
+
+-- the entry is put under this key, in place of what was there
+pub record Puts {S : Type 0} (old new : IndexMap KeptKey KeptEntry S) (key : KeptKey)
+    (entry : KeptEntry) : Type 0 where
+  pub updates : Updates same_key old new key (Some entry)
+  pub unique : IsUnique same_key new
+  pub longer : length new.entries
+      ≡ length old.entries + (if is_some (get same_key old key) then 0 else 1)
+  pub room : spare old ≤ spare new + 1
+
+-- the entry under this key is changed, where it is there, with no memory taken
+pub record Rewrites {S : Type 0} (change : KeptEntry → KeptEntry)
+    (old new : IndexMap KeptKey KeptEntry S) (key : KeptKey) : Type 0 where
+  pub updates : (entry : KeptEntry) → get same_key old key ≡ Some entry
+      → Updates same_key old new key (Some (change entry))
+  pub unique : IsUnique same_key new
+  pub same_length : length new.entries ≡ length old.entries
+  pub same_room : spare new ≡ spare old
+
+-- the row is removed, where it is one, with no memory taken
+pub record Removes {S : Type 0} (old new : IndexMap KeptKey KeptEntry S)
+    (row : Option (KeptKey × KeptEntry)) : Type 0 where
+  pub updates : IfSome row (λ row. Updates same_key old new row.0 None)
+  pub unchanged : row ≡ None → new.entries ≡ old.entries
+  pub unique : IsUnique same_key new
+  pub shorter : length new.entries + (if is_some row then 1 else 0) ≡ length old.entries
+  pub room : spare old ≤ spare new

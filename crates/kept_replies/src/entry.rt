@@ -1,0 +1,112 @@
+//! What is kept of a reply.
+
+ghost use Rattle.std.specs.Prelude.{◌≡◌, IfOk};
+ghost use Rattle.std.specs.Option.{option_copied};
+ghost use Rattle.kept_replies.specs.Kept.{reply_in, is_over, is_retry, named_by};
+
+use ras_module::{EndpointId, Reply, Request};
+use std::alloc::AllocError;
+
+/// What is kept of the reply to a datagram. Moments are in milliseconds.
+#[derive(PartialEq, Eq, Drop)]
+pub struct KeptEntry {
+    /// How many steps the gatekeeper had made before: no two entries share it.
+    pub born: u64,
+    /// How far the request is.
+    pub state: KeptState,
+}
+
+/// How far a request is.
+#[derive(PartialEq, Eq, Drop)]
+pub enum KeptState {
+    /// It was answered, and the reply is kept until a moment.
+    Done {
+        reply: Reply,
+        until: u64,
+    },
+    /// It was told to wait, by `reply` (H.225.0, RequestInProgress). It is served again at the
+    /// moment `retry`, and `left` times in all, at least once.
+    Pending {
+        request: Request,
+        reply: Reply,
+        retry: u64,
+        left: u64,
+    },
+}
+
+impl KeptState {
+    /// The reply, be it the last or a RequestInProgress.
+    pub fn reply(&self) -> &Reply
+        ensures { result.now ≡ reply_in self.now }
+    {
+        match self {
+            KeptState::Done { reply, .. } => reply,
+            KeptState::Pending { reply, .. } => reply,
+        }
+    }
+
+    /// An equal state.
+    pub fn copy(&self) -> Result<Self, AllocError>
+        ensures { IfOk result (λ copy. copy ≡ self.now) }
+    {
+        match self {
+            KeptState::Done { reply, until } => Ok(KeptState::Done {
+                reply: reply.copy()?,
+                until: *until,
+            }),
+            KeptState::Pending {
+                request,
+                reply,
+                retry,
+                left,
+            } => Ok(KeptState::Pending {
+                request: request.copy()?,
+                reply: reply.copy()?,
+                retry: *retry,
+                left: *left,
+            }),
+        }
+    }
+}
+
+impl KeptEntry {
+    /// Whether the moment has come until which the reply is kept.
+    pub fn is_over(&self, now: u64) -> bool
+        ensures { result ≡ is_over now self.now }
+    {
+        match &self.state {
+            KeptState::Done { until, .. } => *until <= now,
+            KeptState::Pending { .. } => false,
+        }
+    }
+
+    /// Whether the moment has come at which the request is served again.
+    pub fn is_retry(&self, now: u64) -> bool
+        ensures { result ≡ is_retry now self.now }
+    {
+        match &self.state {
+            KeptState::Done { .. } => false,
+            KeptState::Pending { retry, .. } => *retry <= now,
+        }
+    }
+
+    /// The identifier that it tells an endpoint, where its reply is a RegistrationConfirm.
+    pub fn identifier(&self) -> Option<&EndpointId>
+        ensures { option_copied result ≡ named_by self.now }
+    {
+        match self.state.reply() {
+            Reply::Rcf { endpoint, .. } => Some(endpoint),
+            _ => None,
+        }
+    }
+
+    /// An equal entry.
+    pub fn copy(&self) -> Result<Self, AllocError>
+        ensures { IfOk result (λ copy. copy ≡ self.now) }
+    {
+        Ok(KeptEntry {
+            born: self.born,
+            state: self.state.copy()?,
+        })
+    }
+}

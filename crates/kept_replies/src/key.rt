@@ -1,0 +1,45 @@
+//! Datagrams as keys.
+
+ghost use Rattle.std.specs.Prelude.{◌≡◌, ◌++◌, IfOk};
+ghost use Rattle.std.proofs.Common.{rules};
+ghost use Rattle.std.specs.Cmp.Rules.{hashing};
+ghost use Rattle.std.specs.Hash as fed;
+
+use ras_module::{Octets, Source};
+use std::alloc::AllocError;
+use std::hash::{Hash, Hasher};
+
+/// The datagram that a reply answers: a request that is sent again has the same octets and comes
+/// from the same address.
+#[derive(PartialEq, Eq, Drop)]
+pub struct KeptKey {
+    /// The address that the datagram came from.
+    pub source: Source,
+    /// All its octets, also those behind the request.
+    pub bytes: Octets,
+}
+
+impl Hash for KeptKey {
+    ghost hash_input = { λ k. fed.slice fed.u8 k.source.ip ++ fed.u16 k.source.port
+        ++ fed.slice fed.u8 k.bytes };
+
+    ghost respects_eq = { Prim.search (hashing, rules) };
+
+    fn hash<H: Hasher>(&self, state: &mut H) {
+        self.source.ip.as_slice().hash(state);
+        self.source.port.hash(state);
+        self.bytes.as_slice().hash(state);
+    }
+}
+
+impl KeptKey {
+    /// An equal key.
+    pub fn copy(&self) -> Result<Self, AllocError>
+        ensures { IfOk result (λ copy. copy ≡ self.now) }
+    {
+        Ok(KeptKey {
+            source: self.source,
+            bytes: self.bytes.copy()?,
+        })
+    }
+}

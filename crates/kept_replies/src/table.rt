@@ -1,0 +1,296 @@
+//! The table of the kept replies.
+
+ghost use Rattle.std.specs.Prelude.{◌≡◌, ◌≢◌, ◌<◌, ◌≤◌, ◌+◌, ◌↔◌, ℕ, List, length, slice_get, None, Some, Err, IsSome, IsTrue, IfOk, IfSome, OnOk, MatchOption, Contains};
+ghost use Rattle.std.specs.Option.{option_copied, option_map, IsSomeAnd};
+ghost use Rattle.std.specs.Map.Iter.{deref_pair};
+ghost use Rattle.std.specs.FinMap as map;
+ghost use Rattle.keyed.specs.Maps.{update};
+ghost use Rattle.kept_replies.specs.Keys.{same_key};
+ghost use Rattle.kept_replies.specs.Kept.{births, done, pending, is_over, is_retry, left_in, Passes, NonePasses, IsBusy, IsNamed, IsListOf, IsFreeBirth, IsEntry, IsConsistent, finished, postponed, without_birth, Becomes, Adds};
+ghost use Rattle.kept_replies.specs.Stored.{Puts, Rewrites, Removes};
+ghost use Rattle.indexmap.specs.IndexMap.{get, spare};
+
+use crate::entry::{KeptEntry, KeptState};
+use crate::fault::ReserveFault;
+use crate::key::KeptKey;
+use crate::list::{KeptList, rising};
+use crate::searches::{identifiers_in, is_named_in, over_in, place_of, retry_in};
+use indexmap::IndexMap;
+use ras_module::{EndpointId, Reply, Request};
+use std::alloc::{AllocError, Global};
+use std::marker::Model;
+
+/// The replies that a gatekeeper keeps, by the datagrams that they answer. Contracts see a finite
+/// map.
+#[derive(Drop)]
+pub struct Kept {
+    rows: IndexMap<KeptKey, KeptEntry>,
+    most: usize,
+}
+
+impl Model for Kept {
+    ghost use Rattle.std.specs.Coded.{codes};
+    ghost use Rattle.std.specs.FinMap as map;
+    ghost use Rattle.indexmap.specs.IndexMap.{spare};
+    ghost use Rattle.kept_replies.specs.Kept.{KeptTable, kept_of};
+    ghost use Rattle.kept_replies.specs.Stored.{AreStored};
+
+    ghost Value = { KeptTable };
+
+    ghost coded = { Prim.hlevel (codes, map.code) };
+
+    ghost view = { λ t. record {
+      kept = kept_of t.rows.entries;
+      most = t.most;
+      room = spare t.rows;
+    } };
+
+    ghost invariant = { λ t. AreStored t.rows t.most };
+}
+
+impl Kept {
+    /// Nothing is kept, where so many replies may be. This takes no memory.
+    pub fn new(alloc: Global, most: usize) -> Self
+        requires some { 1 ≤ most }
+        requires few { most ≤ 65536 }
+        ensures kept { result.kept ≡ map.empty }
+        ensures most { result.most ≡ most }
+    {
+        Kept {
+            rows: IndexMap::new(alloc),
+            most,
+        }
+    }
+
+    /// How many replies are kept.
+    pub fn len(&self) -> usize
+        ensures len { result ≡ map.len self.now.kept }
+        ensures sound { IsConsistent self.now }
+    {
+        self.rows.len()
+    }
+
+    /// What is kept for this datagram.
+    pub fn find(&self, key: &KeptKey) -> Option<&KeptEntry>
+        ensures found { option_copied result ≡ map.get self.now.kept key.now }
+        ensures sound { IsConsistent self.now }
+    {
+        self.rows.get(key)
+    }
+
+    /// The entry with this birth, with its datagram.
+    pub fn by_born(&self, born: u64) -> Option<(&KeptKey, &KeptEntry)>
+        ensures found { option_map deref_pair result ≡ map.get (births self.now.kept) born }
+        ensures sound { IsConsistent self.now }
+    {
+        let place = place_of(&self.rows, born)?;
+        self.rows.get_index(place)
+    }
+
+    /// The birth of an entry that is over: any of them, and None where there is none.
+    pub fn over(&self, now: u64) -> Option<u64>
+        ensures found { MatchOption result (NonePasses (is_over now) self.now.kept)
+            (Passes (is_over now) self.now.kept) }
+        ensures sound { IsConsistent self.now }
+    {
+        over_in(&self.rows, now)
+    }
+
+    /// The birth of an entry whose request is to be served again: any of them, and None where
+    /// there is none.
+    pub fn retry(&self, now: u64) -> Option<u64>
+        ensures found { MatchOption result (NonePasses (is_retry now) self.now.kept)
+            (Passes (is_retry now) self.now.kept) }
+        ensures sound { IsConsistent self.now }
+    {
+        retry_in(&self.rows, now)
+    }
+
+    /// Whether a RegistrationConfirm that is kept tells this identifier, over or not.
+    pub fn is_named(&self, id: &EndpointId) -> bool
+        ensures { IsTrue result ↔ IsNamed self.now.kept id.now }
+    {
+        is_named_in(&self.rows, id)
+    }
+
+    /// The identifiers that the kept RegistrationConfirms tell, in any order.
+    pub fn identifiers(&self) -> Result<Vec<EndpointId>, AllocError>
+        ensures { IfOk result
+            (λ ids. (id : List ℕ) → Contains ids.items id ↔ IsNamed self.now.kept id) }
+    {
+        identifiers_in(*self.rows.allocator(), &self.rows)
+    }
+
+    /// Copies, by rising birth.
+    pub fn list(&self) -> Result<KeptList, AllocError>
+        ensures { IfOk result (IsListOf self.now.kept) }
+    {
+        rising(*self.rows.allocator(), &self.rows)
+    }
+
+    /// Whether an entry for this datagram may have this birth, as no entry for another has it.
+    pub fn is_free(&self, key: &KeptKey, born: u64) -> bool
+        ensures { IsTrue result ↔ IsFreeBirth self.now.kept key.now born }
+    {
+        match self.by_born(born) {
+            None => true,
+            Some((other, _entry)) => *other == *key,
+        }
+    }
+
+    /// Whether as many replies are kept as may be.
+    pub fn is_full(&self) -> bool
+        ensures full { IsTrue result ↔ (map.len self.now.kept ≡ self.now.most) }
+        ensures sound { IsConsistent self.now }
+    {
+        self.len() == self.most
+    }
+
+    /// Whether as many replies are kept as may be, and none of them is over.
+    pub fn is_busy(&self, now: u64) -> bool
+        ensures { IsTrue result ↔ IsBusy self.now now }
+    {
+        self.is_full() && self.over(now).is_none()
+    }
+
+    /// Makes room for one more, if there may be one more once an entry that is over is dropped.
+    pub fn reserve(&mut self, now: u64) -> Result<(), ReserveFault>
+        ensures kept { self.new.kept ≡ self.old.kept }
+        ensures most { self.new.most ≡ self.old.most }
+        ensures busy { (result ≡ Err ReserveFault.Busy) ↔ IsBusy self.old now }
+        ensures ok { OnOk result (0 < self.new.room) }
+        ensures room { self.old.room ≤ self.new.room }
+        ensures succeeds { 0 < self.old.room → result ≢ Err ReserveFault.Memory }
+    {
+        if self.is_busy(now) {
+            return Err(ReserveFault::Busy);
+        }
+        match self.rows.reserve(1) {
+            Ok(()) => Ok(()),
+            Err(_) => Err(ReserveFault::Memory),
+        }
+    }
+
+    /// Keeps a reply until a moment. This takes no memory.
+    pub fn keep(&mut self, key: KeptKey, born: u64, reply: Reply, until: u64)
+        requires few { map.get self.old.kept key ≡ None → map.len self.old.kept < self.old.most }
+        requires room { map.get self.old.kept key ≡ None → 0 < self.old.room }
+        requires birth { IsFreeBirth self.old.kept key born }
+        ensures { Adds self.old self.new (map.insert self.old.kept key (done born reply until)) }
+    {
+        let state = KeptState::Done { reply, until };
+        self.put(key, KeptEntry { born, state });
+    }
+
+    /// Keeps a request that was told to wait by this reply, and is to be served again at the
+    /// moment `retry`, and so many times in all. This takes no memory.
+    pub fn pend(
+        &mut self,
+        key: KeptKey,
+        born: u64,
+        request: Request,
+        reply: Reply,
+        retry: u64,
+        left: u64,
+    )
+        requires few { map.get self.old.kept key ≡ None → map.len self.old.kept < self.old.most }
+        requires room { map.get self.old.kept key ≡ None → 0 < self.old.room }
+        requires birth { IsFreeBirth self.old.kept key born }
+        requires left { 1 ≤ left }
+        ensures { Adds self.old self.new
+            (map.insert self.old.kept key (pending born request reply retry left)) }
+    {
+        let state = KeptState::Pending {
+            request,
+            reply,
+            retry,
+            left,
+        };
+        self.put(key, KeptEntry { born, state });
+    }
+
+    fn put(&mut self, key: KeptKey, entry: KeptEntry)
+        requires few { map.get self.old.kept key ≡ None → map.len self.old.kept < self.old.most }
+        requires room { map.get self.old.kept key ≡ None → 0 < self.old.room }
+        requires birth { IsFreeBirth self.old.kept key entry.born }
+        requires entry { IsEntry entry }
+        ensures { Adds self.old self.new (map.insert self.old.kept key entry) }
+    {
+        write_entry(&mut self.rows, key, entry);
+    }
+
+    /// The request of an entry was answered: the reply is kept until a moment. This takes no
+    /// memory.
+    pub fn finish(&mut self, key: &KeptKey, reply: Reply, until: u64)
+        requires { IsSome (map.get self.old.kept key.now) }
+        ensures { Becomes self.old self.new
+            (update self.old.kept key.now (finished reply until)) }
+    {
+        write_done(&mut self.rows, key, reply, until);
+    }
+
+    /// The request of an entry is to wait once more, until the moment `retry`. This takes no
+    /// memory.
+    pub fn postpone(&mut self, key: &KeptKey, retry: u64)
+        requires { IsSomeAnd (map.get self.old.kept key.now) (λ entry. 2 ≤ left_in entry.state) }
+        ensures { Becomes self.old self.new (update self.old.kept key.now (postponed retry)) }
+    {
+        write_retry(&mut self.rows, key, retry);
+    }
+
+    /// Drops an entry that is over, any of them, and answers its birth. Where none is over,
+    /// nothing is changed. This takes no memory.
+    pub fn drop_one_expired(&mut self, now: u64) -> Option<u64>
+        ensures over { IfSome result (Passes (is_over now) self.old.kept) }
+        ensures dropped { IfSome result
+            (λ born. Becomes self.old self.new (without_birth self.old.kept born)) }
+        ensures none { result ≡ None → NonePasses (is_over now) self.old.kept }
+        ensures unchanged { result ≡ None → self.new ≡ self.old }
+    {
+        let born = self.over(now)?;
+        self.drop_born(born);
+        Some(born)
+    }
+
+    /// Drops the entry with this birth, where there is one. This takes no memory.
+    pub fn drop_born(&mut self, born: u64)
+        ensures { Becomes self.old self.new (without_birth self.old.kept born) }
+    {
+        if let Some(place) = place_of(&self.rows, born) {
+            remove_at(&mut self.rows, place);
+        }
+    }
+}
+
+fn remove_at(rows: &mut IndexMap<KeptKey, KeptEntry>, place: usize)
+    ensures { Removes rows.old rows.new (slice_get rows.old.entries place) }
+{
+    rows.swap_remove_index(place);
+}
+
+fn write_entry(rows: &mut IndexMap<KeptKey, KeptEntry>, key: KeptKey, entry: KeptEntry)
+    requires { get same_key rows.old key ≡ None → 0 < spare rows.old }
+    ensures { Puts rows.old rows.new key entry }
+{
+    rows.insert(key, entry).unwrap();
+}
+
+fn write_done(rows: &mut IndexMap<KeptKey, KeptEntry>, key: &KeptKey, reply: Reply, until: u64)
+    ensures { Rewrites (finished reply until) rows.old rows.new key.now }
+{
+    if let Some(entry) = rows.get_mut(key) {
+        entry.state = KeptState::Done { reply, until };
+    }
+}
+
+fn write_retry(rows: &mut IndexMap<KeptKey, KeptEntry>, key: &KeptKey, moment: u64)
+    requires { IsSomeAnd (get same_key rows.old key.now) (λ entry. 2 ≤ left_in entry.state) }
+    ensures { Rewrites (postponed moment) rows.old rows.new key.now }
+{
+    if let Some(entry) = rows.get_mut(key) {
+        if let KeptState::Pending { retry, left, .. } = &mut entry.state {
+            *retry = moment;
+            *left -= 1;
+        }
+    }
+}

@@ -1,0 +1,317 @@
+use crate::*;
+use ras_module::{
+    Address, AliasList, BmpString, CallKey, Delay, EndpointId, Name, Octets, Reply, ReplyAliases,
+    Request, RequestSeqNum, TimeToLive,
+};
+use std::alloc::{AllocError, Global};
+use std::test::Fail;
+
+const SOURCE: Address = Address {
+    ip: [10, 0, 0, 5],
+    port: 1719,
+};
+
+fn key(alloc: Global, octet: u8) -> Result<KeptKey, AllocError> {
+    let mut bytes = Vec::new(alloc);
+    bytes.push(octet)?;
+    Ok(KeptKey {
+        source: SOURCE,
+        bytes: Octets::from_vec(bytes),
+    })
+}
+
+fn seq(number: u16) -> Result<RequestSeqNum, Fail> {
+    Ok(RequestSeqNum::new(number).ok_or("at least 1")?)
+}
+
+fn confirm(number: u16) -> Result<Reply, Fail> {
+    Ok(Reply::Dcf { seq: seq(number)? })
+}
+
+fn progress(number: u16) -> Result<Reply, Fail> {
+    Ok(Reply::Rip {
+        seq: seq(number)?,
+        delay: Delay::new(1500).ok_or("at least 1")?,
+    })
+}
+
+fn endpoint(last: u8) -> Result<EndpointId, Fail> {
+    let text = BmpString::new(&[48, 48, 48, u16::from(last)]).ok_or("four digits are a text")?;
+    Ok(EndpointId::new(text))
+}
+
+fn registered(alloc: Global, last: u8) -> Result<Reply, Fail> {
+    Ok(Reply::Rcf {
+        seq: seq(1)?,
+        call_signal: SOURCE,
+        aliases: ReplyAliases::new(AliasList::new(alloc))
+            .ok()
+            .ok_or("no alias is few")?,
+        gatekeeper: Name::new(&[103, 107]).ok_or("two characters are a name")?,
+        endpoint: endpoint(last)?,
+        granted: TimeToLive::new(60).ok_or("at least 1")?,
+    })
+}
+
+fn request() -> Result<Request, Fail> {
+    Ok(Request::Brq {
+        seq: seq(7)?,
+        endpoint: endpoint(b'1')?,
+        call: CallKey { octets: [17; 16] },
+        asked: 1280,
+    })
+}
+
+fn keep(kept: &mut Kept, key: KeptKey, born: u64, reply: Reply, until: u64) -> Result<(), Fail> {
+    if kept.is_full() && kept.find(&key).is_none() {
+        return Err(Fail::from("there is no place"));
+    }
+    if !kept.is_free(&key, born) {
+        return Err(Fail::from("another entry has that birth"));
+    }
+    kept.reserve(until)?;
+    kept.keep(key, born, reply, until);
+    Ok(())
+}
+
+fn pend(kept: &mut Kept, key: KeptKey, born: u64, retry: u64, left: u64) -> Result<(), Fail> {
+    if kept.is_full() && kept.find(&key).is_none() {
+        return Err(Fail::from("there is no place"));
+    }
+    if !kept.is_free(&key, born) || left == 0 {
+        return Err(Fail::from("no entry is like this"));
+    }
+    let request = request()?;
+    let reply = progress(7)?;
+    kept.reserve(retry)?;
+    kept.pend(key, born, request, reply, retry, left);
+    Ok(())
+}
+
+fn postpone(kept: &mut Kept, key: &KeptKey, retry: u64) -> Result<(), Fail> {
+    match kept.find(key) {
+        Some(
+            KeptEntry {
+                state: KeptState::Pending { left, .. },
+                ..
+            },
+        ) if *left >= 2 => {}
+        _ => return Err(Fail::from("no request waits once more")),
+    }
+    kept.postpone(key, retry);
+    Ok(())
+}
+
+fn answer(kept: &mut Kept, key: &KeptKey, until: u64) -> Result<(), Fail> {
+    if kept.find(key).is_none() {
+        return Err(Fail::from("nothing is kept"));
+    }
+    kept.finish(key, confirm(7)?, until);
+    Ok(())
+}
+
+// A reply to the datagram of one octet is kept.
+fn keep_confirm(
+    alloc: Global,
+    kept: &mut Kept,
+    octet: u8,
+    born: u64,
+    until: u64,
+) -> Result<(), Fail> {
+    let datagram = key(alloc, octet)?;
+    let reply = confirm(u16::from(octet))?;
+    keep(kept, datagram, born, reply, until)
+}
+
+fn keep_registered(
+    alloc: Global,
+    kept: &mut Kept,
+    octet: u8,
+    last: u8,
+    until: u64,
+) -> Result<(), Fail> {
+    let datagram = key(alloc, octet)?;
+    let reply = registered(alloc, last)?;
+    keep(kept, datagram, u64::from(octet), reply, until)
+}
+
+fn is_kept(alloc: Global, kept: &Kept, octet: u8) -> Result<bool, Fail> {
+    let datagram = key(alloc, octet)?;
+    Ok(kept.find(&datagram).is_some())
+}
+
+// The reply that is kept is this confirm, and equals its copy.
+fn is_confirm(kept: &Kept, born: u64, number: u16) -> Result<bool, Fail> {
+    let reply = confirm(number)?;
+    let (_datagram, entry) = kept.by_born(born).ok_or("it is kept")?;
+    let copy = entry.copy()?;
+    Ok(*entry.state.reply() == reply && copy == *entry)
+}
+
+fn left_of(kept: &Kept, born: u64) -> u64 {
+    match kept.by_born(born) {
+        Some(
+            (
+                _datagram,
+                KeptEntry {
+                    state: KeptState::Pending { left, .. },
+                    ..
+                },
+            ),
+        ) => *left,
+        _ => 0,
+    }
+}
+
+// The one place is taken until a moment.
+fn is_taken_until(kept: &Kept, moment: u64) -> bool {
+    kept.is_full()
+        && kept.is_busy(moment.saturating_sub(1))
+        && !kept.is_busy(moment)
+        && kept.over(moment.saturating_sub(1)).is_none()
+        && kept.over(moment) == Some(0)
+}
+
+// One reply may be kept, for 10,000 milliseconds. A second datagram comes a millisecond after the
+// first, and again when the first reply is over.
+#[test]
+fn a_place_becomes_free_when_its_time_is_over(rt: HostRuntime) -> Result<(), Fail> {
+    let mut kept = Kept::new(rt.alloc(), 1);
+    keep_confirm(rt.alloc(), &mut kept, 1, 0, 10_000)?;
+    assert!(rt; is_taken_until(&kept, 10_000));
+    assert_eq!(rt; kept.reserve(1), Err(ReserveFault::Busy));
+    assert_eq!(rt; kept.drop_one_expired(9999), None);
+    kept.reserve(10_000)?;
+    assert_eq!(rt; kept.drop_one_expired(10_000), Some(0));
+    assert_eq!(rt; kept.len(), 0);
+    Ok(())
+}
+
+#[test]
+fn a_reply_is_found_until_it_is_dropped(rt: HostRuntime) -> Result<(), Fail> {
+    let mut kept = Kept::new(rt.alloc(), 1);
+    keep_confirm(rt.alloc(), &mut kept, 2, 3, 20_000)?;
+    assert!(rt; is_kept(rt.alloc(), &kept, 2)?);
+    assert!(rt; is_confirm(&kept, 3, 2)?);
+    kept.drop_born(4);
+    assert!(rt; is_kept(rt.alloc(), &kept, 2)?);
+    kept.drop_born(3);
+    assert!(rt; !is_kept(rt.alloc(), &kept, 2)?);
+    Ok(())
+}
+
+#[test]
+fn faults_have_their_numbers(rt: HostRuntime) {
+    assert_eq!(rt; ReserveFault::Busy as u8, 1);
+    assert_eq!(rt; ReserveFault::Memory as u8, 2);
+}
+
+// Its request waits, and is served again from this moment on, so many times.
+fn is_waiting_until(kept: &Kept, moment: u64, left: u64) -> bool {
+    kept.retry(moment.saturating_sub(1)).is_none()
+        && kept.retry(moment) == Some(3)
+        && kept.over(u64::MAX).is_none()
+        && left_of(kept, 3) == left
+}
+
+// A request waits twice, and is then answered: its entry keeps its birth.
+#[test]
+fn a_request_waits_and_is_answered(rt: HostRuntime) -> Result<(), Fail> {
+    let mut kept = Kept::new(rt.alloc(), 8);
+    let waiting = key(rt.alloc(), 1)?;
+    let copy = waiting.copy()?;
+    pend(&mut kept, copy, 3, 1500, 3)?;
+    assert!(rt; is_waiting_until(&kept, 1500, 3));
+    postpone(&mut kept, &waiting, 3000)?;
+    assert!(rt; is_waiting_until(&kept, 3000, 2));
+    answer(&mut kept, &waiting, 13_000)?;
+    assert!(rt; kept.retry(u64::MAX).is_none());
+    assert_eq!(rt; kept.over(13_000), Some(3));
+    assert!(rt; is_confirm(&kept, 3, 7)?);
+    Ok(())
+}
+
+#[test]
+fn a_birth_belongs_to_one_datagram(rt: HostRuntime) -> Result<(), Fail> {
+    let mut kept = Kept::new(rt.alloc(), 8);
+    keep_confirm(rt.alloc(), &mut kept, 1, 3, 10)?;
+    let other = key(rt.alloc(), 2)?;
+    assert!(rt; !kept.is_free(&other, 3));
+    assert!(rt; kept.is_free(&other, 4));
+    Ok(())
+}
+
+#[test]
+fn identifiers_that_confirms_tell(rt: HostRuntime) -> Result<(), Fail> {
+    let mut kept = Kept::new(rt.alloc(), 8);
+    keep_registered(rt.alloc(), &mut kept, 1, b'1', 0)?;
+    keep_confirm(rt.alloc(), &mut kept, 2, 2, 10_000)?;
+    keep_registered(rt.alloc(), &mut kept, 3, b'2', 10_000)?;
+    assert!(rt; kept.is_named(&endpoint(b'1')?));
+    assert!(rt; kept.is_named(&endpoint(b'2')?));
+    assert!(rt; !kept.is_named(&endpoint(b'3')?));
+    let ids = kept.identifiers()?;
+    assert!(rt; ids.as_slice() == [endpoint(b'1')?, endpoint(b'2')?].as_slice());
+    Ok(())
+}
+
+#[test]
+fn a_list_is_by_rising_birth(rt: HostRuntime) -> Result<(), Fail> {
+    let mut kept = Kept::new(rt.alloc(), 65_536);
+    for born in [7u8, 3, 200, 1, 9] {
+        keep_confirm(rt.alloc(), &mut kept, 255 - born, u64::from(born), 10)?;
+    }
+    // in place of an earlier one, with another birth
+    keep_confirm(rt.alloc(), &mut kept, 248, 8, 10)?;
+    let list = KeptList::from_vec(kept.list()?.into_vec());
+    for (row, born) in list.as_slice().iter().zip([1, 3, 8, 9, 200]) {
+        assert_eq!(rt; row.1.born, born);
+        assert!(rt; kept.find(&row.0).is_some());
+    }
+    assert_eq!(rt; list.as_slice().len(), 5);
+    Ok(())
+}
+
+// Where a request for memory is refused, nothing has changed, and the same call is done with
+// memory.
+#[test]
+fn a_refusal_of_memory_changes_nothing(rt: HostRuntime) -> Result<(), Fail> {
+    let mut kept = Kept::new(rt.alloc(), 100);
+    for octet in 0..12u8 {
+        if let Err(fault) = kept.reserve(0) {
+            assert_eq!(rt; fault, ReserveFault::Memory);
+            assert_eq!(rt; kept.len(), usize::from(octet));
+            kept.reserve(0)?;
+        }
+        insist(rt.alloc(), &mut kept, octet)?;
+    }
+    assert_eq!(rt; kept.len(), 12);
+    assert_eq!(rt; count_of_identifiers(&kept)?, 12);
+    assert_eq!(rt; count_of_list(&kept)?, 12);
+    Ok(())
+}
+
+fn insist(alloc: Global, kept: &mut Kept, octet: u8) -> Result<(), Fail> {
+    let datagram = match key(alloc, octet) {
+        Ok(datagram) => datagram,
+        Err(_) => key(alloc, octet)?,
+    };
+    let reply = registered(alloc, octet)?;
+    keep(kept, datagram, u64::from(octet), reply, 10)
+}
+
+fn count_of_identifiers(kept: &Kept) -> Result<usize, Fail> {
+    let ids = match kept.identifiers() {
+        Ok(ids) => ids,
+        Err(_) => kept.identifiers()?,
+    };
+    Ok(ids.len())
+}
+
+fn count_of_list(kept: &Kept) -> Result<usize, Fail> {
+    let list = match kept.list() {
+        Ok(list) => list,
+        Err(_) => kept.list()?,
+    };
+    Ok(list.as_slice().len())
+}

@@ -1,0 +1,18 @@
+use Rattle.std.proofs.Common.{refl, sym, ap, ◌∙◌, subst, arith}
+use Rattle.ras_core.specs.Changes.{IsJoinable, IsLowerable, IsOpenable, IsQuestion}
+use Rattle.ras_core.specs.Parts.{Lending, Usage, with_usage}
+use Rattle.ras_core.specs.Pools.{figures_of, pools_after_return, pools_after_end}
+use Rattle.ras_core.proofs.Agreeing.{on_ok}
+use Rattle.ras_core.proofs.PoolFigures.{figures-answer, figures-return, figures_there, lasts-answer, lasts-return}
+use Rattle.ras_core.proofs.Backing.{IsBacked-answer, IsBacked-is, IsBacked-join, IsBacked-leave, IsBacked-lower, IsBacked-open, back_is_lent, call_with_leg, usage_in}
+use Rattle.ras_core.proofs.bandwidth.Bandwidth.join.Goals as goal
+
+pub invariant_of-self : goal.invariant_of-self
+invariant_of-self g c =
+    let i = c.self.inside in
+    let u = usage_in i.calls i.pools i.limit i.call_limit in
+    let can = subst (λ (l : Lending). IsJoinable l.usage.calls c.args.key c.args.leg)
+    (sym c.self.view_is) c.requires in
+    let joined = on_ok c.join.result c.unwrap.result c.unwrap.ensures c.join.ensures.ok in
+    IsBacked-is (with_usage u _ u.pools) c.join.new.self.calls u.pools c.join.new.self.most
+    (IsBacked-join u c.self.invariant c.args.key c.args.leg can) joined.rows refl joined.most

@@ -1,0 +1,188 @@
+//! Admission of calls.
+
+ghost use Rattle.std.specs.Prelude.{◌≡◌, ◌<◌, length, None, Some, IsSome};
+ghost use Rattle.std.specs.FinMap as fin;
+ghost use Rattle.admission.specs.Legs.{leg_of};
+ghost use Rattle.ras_core.specs.Admission.{admission, destination, entering_call, joining, leg_told, making};
+ghost use Rattle.ras_core.specs.Admission.{taking_part};
+ghost use Rattle.ras_core.specs.Networks.{pool_of};
+ghost use Rattle.ras_core.specs.Bandwidth.{room, wanted};
+ghost use Rattle.ras_core.specs.Changes.{Concludes, Decides};
+
+use crate::calling::Admission;
+use crate::change::{CallChange, Change, Conclusion, Decision, Purpose, Question};
+use crate::machine::Machine;
+use crate::moment::Moment;
+use admission::{Call, Leg};
+use pools::Pool;
+use ras_module::{Address, AdmissionRejectReason, Reply};
+use registrations::Registration;
+
+impl<P: Pool> Machine<P> {
+    /// The units that the zone has left.
+    pub(crate) fn room(&self) -> u64
+        ensures { result ≡ room self.now.state }
+    {
+        self.config.parts().limit - self.bandwidth.in_use()
+    }
+
+    /// The units that are asked for, but no more than a call may have.
+    pub(crate) fn wanted(&self, asked: u32) -> u32
+        ensures { result ≡ wanted self.now.state asked }
+    {
+        asked.min(self.config.call_limit())
+    }
+
+    /// The address that an endpoint is told to call.
+    fn destination(&self, q: &Admission, caller: &Registration) -> Option<Address>
+        ensures { result ≡ destination self.now.state q.now caller.now }
+    {
+        if q.answer {
+            return Some(caller.call_signal);
+        }
+        self.endpoints.translate(q.dest.as_slice(), q.dest_address)
+    }
+
+    /// The second endpoint joins a call that is there.
+    fn join(&self, now: Moment, q: &Admission, call: &Call, told: Address) -> Decision
+        requires endpoint { IsSome (fin.get self.now.state.live q.now.endpoint) }
+        requires call { fin.get self.now.state.calls q.now.call ≡ Some call.now }
+        requires leg { leg_of call.now.legs q.now.endpoint ≡ None }
+        ensures { Decides self.now.state now (joining self.now.state q.now call.now told) result }
+    {
+        if call.legs.are_two() {
+            return denial(q, AdmissionRejectReason::ResourceUnavailable);
+        }
+        Decision::calls(
+            Reply::Acf {
+                seq: q.seq,
+                units: q.asked.min(call.units),
+                dest: told,
+            },
+            CallChange::Joining(q.call, leg_told(q, told)),
+        )
+    }
+
+    /// An endpoint makes a call.
+    fn make(&self, now: Moment, q: &Admission, pool: usize, told: Address) -> Conclusion
+        requires endpoint { IsSome (fin.get self.now.state.live q.now.endpoint) }
+        requires call { fin.get self.now.state.calls q.now.call ≡ None }
+        requires pool { pool < length self.now.state.pools }
+        ensures { Concludes self.now.state now (making self.now.state q.now pool told) result }
+    {
+        if self.bandwidth.len() == self.config.calls() {
+            let denial = denial(q, AdmissionRejectReason::ResourceUnavailable);
+            return Conclusion::Decided(denial);
+        }
+        let wanted = self.wanted(q.asked);
+        if wanted == 0 {
+            return Conclusion::Decided(opening_without_units(q, pool, told));
+        }
+        let room = self.room();
+        if room == 0 {
+            return Conclusion::Decided(denial(q, AdmissionRejectReason::RequestDenied));
+        }
+        Conclusion::Asked(Question {
+            seq: q.seq,
+            call: q.call,
+            pool,
+            units: u64::from(wanted).min(room) as u32,
+            purpose: Purpose::Opening(leg_told(q, told)),
+        })
+    }
+
+    /// An endpoint enters a call that is there.
+    fn enter_call(&self, now: Moment, q: &Admission, caller: &Registration, call: &Call) -> Decision
+        requires endpoint { fin.get self.now.state.live q.now.endpoint ≡ Some caller.now }
+        requires call { fin.get self.now.state.calls q.now.call ≡ Some call.now }
+        ensures { Decides self.now.state now
+            (taking_part self.now.state q.now caller.now call.now
+            (leg_of call.now.legs q.now.endpoint)) result }
+    {
+        if let Some(leg) = call.legs.get(&q.endpoint) {
+            return Decision::reply(Reply::Acf {
+                seq: q.seq,
+                units: q.asked.min(call.units),
+                dest: leg.told,
+            });
+        }
+        match self.destination(q, caller) {
+            None => denial(q, AdmissionRejectReason::CalledPartyNotRegistered),
+            Some(told) => self.join(now, q, call, told),
+        }
+    }
+
+    /// An endpoint makes a call that isn't there yet.
+    fn make_call(&self, now: Moment, q: &Admission, caller: &Registration) -> Conclusion
+        requires endpoint { fin.get self.now.state.live q.now.endpoint ≡ Some caller.now }
+        requires call { fin.get self.now.state.calls q.now.call ≡ None }
+        ensures { Concludes self.now.state now
+            (entering_call self.now.state q.now caller.now None) result }
+    {
+        match self.destination(q, caller) {
+            None => Conclusion::Decided(denial(q, AdmissionRejectReason::CalledPartyNotRegistered)),
+            Some(told) => self.make(now, q, self.pool_of(caller.call_signal), told),
+        }
+    }
+
+    /// The pool that serves the calls of an endpoint with this address.
+    fn pool_of(&self, address: Address) -> usize
+        ensures pool { result ≡ pool_of self.now.state.config.networks address.ip }
+        ensures few { result < length self.now.state.pools }
+    {
+        self.config.parts().networks.pool_of(address.ip)
+    }
+
+    /// What is decided about an AdmissionRequest.
+    pub(crate) fn admit(&self, now: Moment, q: &Admission) -> Conclusion
+        ensures { Concludes self.now.state now (admission self.now.state q.now) result }
+    {
+        let Some(caller) = self.endpoints.get(&q.endpoint) else {
+            let denial = denial(q, AdmissionRejectReason::InvalidEndpointIdentifier);
+            return Conclusion::Decided(denial);
+        };
+        match self.bandwidth.get(&q.call) {
+            Some(call) => Conclusion::Decided(self.enter_call(now, q, caller, call)),
+            None => self.make_call(now, q, caller),
+        }
+    }
+}
+
+/// An AdmissionReject.
+fn denial(q: &Admission, reason: AdmissionRejectReason) -> Decision
+    ensures { result ≡ record {
+      reply = Reply.Arj q.now.seq reason;
+      given = None;
+      change = Change.Nothing;
+    } }
+{
+    Decision::reply(Reply::Arj { seq: q.seq, reason })
+}
+
+/// The endpoint's leg, which keeps the address that it is told.
+fn leg_told(q: &Admission, told: Address) -> Leg
+    ensures { result ≡ leg_told q.now told }
+{
+    Leg {
+        endpoint: q.endpoint,
+        told,
+    }
+}
+
+/// A call that wants no units opens without asking a pool.
+fn opening_without_units(q: &Admission, pool: usize, told: Address) -> Decision
+    ensures { result ≡ record {
+      reply = Reply.Acf q.now.seq 0 told;
+      given = None;
+      change = Change.Calls (CallChange.Opening q.now.call pool (leg_told q.now told));
+    } }
+{
+    Decision::calls(
+        Reply::Acf {
+            seq: q.seq,
+            units: 0,
+            dest: told,
+        },
+        CallChange::Opening(q.call, pool, leg_told(q, told)),
+    )
+}

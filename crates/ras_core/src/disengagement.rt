@@ -1,0 +1,41 @@
+//! Disengaging from calls.
+
+ghost use Rattle.std.specs.Prelude.{◌≡◌, None};
+ghost use Rattle.ras_core.specs.Disengaging.{disengagement};
+ghost use Rattle.ras_core.specs.Changes.{Decides};
+
+use crate::calling::Disengagement;
+use crate::change::{CallChange, Change, Decision};
+use crate::machine::Machine;
+use crate::moment::Moment;
+use pools::Pool;
+use ras_module::{DisengageRejectReason, Reply};
+
+impl<P: Pool> Machine<P> {
+    /// What is decided about a DisengageRequest.
+    pub(crate) fn disengage(&self, now: Moment, q: &Disengagement) -> Decision
+        ensures { Decides self.now.state now (disengagement self.now.state q.now) result }
+    {
+        if self.endpoints.get(&q.endpoint).is_none() {
+            return rejection(q, DisengageRejectReason::NotRegistered);
+        }
+        if self.bandwidth.leg(&q.call, &q.endpoint).is_none() {
+            return rejection(q, DisengageRejectReason::RequestToDropOther);
+        }
+        Decision::calls(
+            Reply::Dcf { seq: q.seq },
+            CallChange::Leaving(q.call, q.endpoint),
+        )
+    }
+}
+
+/// A DisengageReject.
+fn rejection(q: &Disengagement, reason: DisengageRejectReason) -> Decision
+    ensures { result ≡ record {
+      reply = Reply.Drj q.now.seq reason;
+      given = None;
+      change = Change.Nothing;
+    } }
+{
+    Decision::reply(Reply::Drj { seq: q.seq, reason })
+}

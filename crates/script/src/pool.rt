@@ -1,0 +1,161 @@
+//! The pool lines of a script.
+
+ghost use Rattle.std.specs.Prelude.{◌≡◌, ◌≤◌, IfSome, false};
+ghost use Rattle.ras_core.specs.Networks.{is_too_long};
+ghost use Rattle.script.specs.Fields.{network_of, number_of};
+ghost use Rattle.script.specs.Pools.{PoolEntry, fixed_pool, paced_pool, pool_of, pool_with_network};
+ghost use Rattle.script.specs.Pools.{served_network, step_pool};
+
+use crate::address::octet_of;
+use crate::number::number_of;
+use crate::parts::{Words, is_word, parted};
+use pools::{NonZeroUnits, PoolSpec};
+use ras_core::Network;
+use std::marker::Model;
+
+/// A pool, with the network that it serves, where it doesn't serve every address. Contracts see the
+/// pair.
+#[derive(Drop)]
+pub struct PoolLine {
+    spec: PoolSpec,
+    network: Option<Network>,
+}
+
+impl Model for PoolLine {
+    ghost use Rattle.std.specs.Prelude.{◌≡◌, false};
+    ghost use Rattle.ras_core.specs.Networks.{is_too_long};
+    ghost use Rattle.script.specs.Pools.{PoolEntry};
+
+    ghost Value = { PoolEntry };
+
+    ghost view = { λ p. (p.spec, p.network) };
+
+    ghost invariant = { λ p. is_too_long p.network ≡ false };
+}
+
+impl PoolLine {
+    /// The pool that the words behind `pool` describe.
+    pub fn new(mut words: Words) -> Option<PoolLine>
+        ensures { result ≡ pool_of words.entry }
+    {
+        let kind = words.next_word()?;
+        if is_word(kind, "fixed") {
+            fixed_pool(words)
+        } else if is_word(kind, "step") {
+            step_pool(words)
+        } else if is_word(kind, "paced") {
+            paced_pool(words)
+        } else {
+            None
+        }
+    }
+
+    /// The pool.
+    pub fn spec(&self) -> PoolSpec
+        ensures { result ≡ self.now.0 }
+    {
+        self.spec
+    }
+
+    /// The network that it serves; None: every address.
+    pub fn network(&self) -> Option<Network>
+        ensures same { result ≡ self.now.1 }
+        ensures bits { is_too_long result ≡ false }
+    {
+        self.network
+    }
+}
+
+fn limit_of(word: &[u8]) -> Option<u64>
+    ensures { result ≡ number_of 0 1000000000000 word.now }
+{
+    number_of(0, 1_000_000_000_000, word)
+}
+
+fn units_of(word: &[u8]) -> Option<NonZeroUnits>
+    ensures { result ≡ number_of 1 4294967295 word.now }
+{
+    match number_of(1, 4_294_967_295, word) {
+        Some(number) => NonZeroUnits::new(number as u32),
+        None => None,
+    }
+}
+
+fn bits_of(word: &[u8]) -> Option<u8>
+    ensures value { result ≡ number_of 0 32 word.now }
+    ensures range { IfSome result (λ bits. bits ≤ 32) }
+{
+    match number_of(0, 32, word) {
+        Some(number) => Some(number as u8),
+        None => None,
+    }
+}
+
+/// The network that a word writes as `A.B.C.D/BITS`.
+fn network_of(word: &[u8]) -> Option<Network>
+    ensures value { result ≡ network_of word.now }
+    ensures bits { IfSome result (λ network. network.bits ≤ 32) }
+{
+    let (a, rest) = parted(word, b'.');
+    let (b, rest) = parted(rest, b'.');
+    let (c, rest) = parted(rest, b'.');
+    let (d, bits) = parted(rest, b'/');
+    Some(Network {
+        ip: [octet_of(a)?, octet_of(b)?, octet_of(c)?, octet_of(d)?],
+        bits: bits_of(bits)?,
+    })
+}
+
+fn served_network(mut words: Words) -> Option<Option<Network>>
+    ensures value { result ≡ served_network words.entry }
+    ensures bits { IfSome result (λ network. is_too_long network ≡ false) }
+{
+    let Some(mark) = words.next_word() else {
+        return Some(None);
+    };
+    let network = words.next_word()?;
+    match words.next_word() {
+        Some(_) => None,
+        None if is_word(mark, "for") => Some(Some(network_of(network)?)),
+        None => None,
+    }
+}
+
+/// This pool, with the network that the words name.
+fn pool_with_network(spec: PoolSpec, words: Words) -> Option<PoolLine>
+    ensures { result ≡ pool_with_network spec words.entry }
+{
+    let network = served_network(words)?;
+    Some(PoolLine { spec, network })
+}
+
+fn fixed_pool(mut words: Words) -> Option<PoolLine>
+    ensures { result ≡ fixed_pool words.entry }
+{
+    let limit = limit_of(words.next_word()?)?;
+    pool_with_network(PoolSpec::Fixed { limit }, words)
+}
+
+fn step_pool(mut words: Words) -> Option<PoolLine>
+    ensures { result ≡ step_pool words.entry }
+{
+    let limit = words.next_word()?;
+    let step = words.next_word()?;
+    let spec = PoolSpec::Step {
+        limit: limit_of(limit)?,
+        step: units_of(step)?,
+    };
+    pool_with_network(spec, words)
+}
+
+fn paced_pool(mut words: Words) -> Option<PoolLine>
+    ensures { result ≡ paced_pool words.entry }
+{
+    let limit = words.next_word()?;
+    let burst = words.next_word()?;
+    let spec = PoolSpec::Paced {
+        limit: limit_of(limit)?,
+        burst: units_of(burst)?,
+    };
+    pool_with_network(spec, words)
+}
