@@ -10,7 +10,7 @@ use Rattle.registrations.specs.Registry.{IsConsistent}
 use Rattle.ras_core.specs.declared.registering.Registering.{Registering}
 use Rattle.ras_core.specs.declared.change.Change.TheVariants.{Endpoint}
 use Rattle.ras_core.specs.declared.change.EndpointChange.TheVariants.{Renewal}
-use Rattle.ras_core.specs.State.{State}
+use Rattle.ras_core.specs.State.{Zone}
 use Rattle.ras_core.specs.Registering.{keep_alive, named, has_moved, confirmation, deadline, rejection}
 use Rattle.ras_core.specs.Changes.{Decides, resolved, served}
 use Rattle.ras_core.specs.Plans.{Settled}
@@ -30,12 +30,11 @@ fits (Ok few) list h bound = refl
 fits (Err many) list h bound = absurd (omega (arith, h.1))
 
 -- a registration is kept alive
-pub Decides-renewal : (z : State) (now : ℕ) (q : Registering) (id : List ℕ) (r : Registration) (reply : Reply) (until : ℕ) → IsConsistent z.live
+pub Decides-renewal : (z : Zone) (now : ℕ) (q : Registering) (id : List ℕ) (r : Registration) (reply : Reply) (until : ℕ) → IsConsistent z.live
     → q.endpoint ≡ Some id → fin.get z.live id ≡ Some r → has_moved r q.ras ≡ false
     → reply ≡ confirmation z q r.call_signal r.aliases r.identifier → until ≡ deadline z now q
     → Decides z now (keep_alive z now q (named z q.endpoint)) (record { reply = reply; given = None; change = Endpoint (Renewal r.identifier until) })
 Decides-renewal z now q id r reply until sound names there stays reply_is until_is = record {
-  unused = tt;
   possible = (is_there (fin.get z.live r.identifier) r (ap (fin.get z.live) (sound.own id r there) ∙ there), tt);
   is = ap (λ plan. resolved plan None) (ap (keep_alive z now q) (ap (named z) names ∙ there)
       ∙ ap (λ b. if b then rejection z q FullRegistrationRequired else Settled (served z now (record {

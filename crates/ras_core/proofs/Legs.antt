@@ -1,5 +1,5 @@
 -- The endpoints of the calls' legs stay registered.
-use Rattle.std.proofs.Common.{◌≡◌, ◌+◌, ℕ, List, length, refl, sym, ◌∙◌, ap, subst, Some, None}
+use Rattle.std.proofs.Common.{◌≡◌, ◌+◌, ℕ, List, length, get_or, refl, sym, ◌∙◌, ap, subst, Some, None}
 use Rattle.std.specs.Prelude.{Option, Result, Ok, Err, OnOk, OnErr, IfSome, IsSome, All}
 use Rattle.std.specs.Option.{option_map}
 use Rattle.std.specs.FinMap as fin
@@ -12,7 +12,7 @@ use Rattle.registrations.specs.declared.registration.Registration.{Registration}
 use Rattle.registrations.specs.Registry.{Live, after_hear, after_rewrite, with_deadline}
 use Rattle.admission.specs.declared.call.Call.{Call}
 use Rattle.admission.specs.declared.leg.Leg.{Leg}
-use Rattle.admission.specs.Calls.{OpenCalls, freed_by_leave, legs_of}
+use Rattle.admission.specs.Calls.{EachLeg, OpenCalls, freed_by_leave, legs_of}
 use Rattle.admission.proofs.Soundness.{EachLeg-open, EachLeg-join, EachLeg-set_units, EachLeg-leave, EachLeg-other, IsInNoCall-zero}
 use Rattle.pools.specs.declared.interface.Figures.{Figures}
 use Rattle.ras_core.specs.declared.change.EndpointChange.{EndpointChange}
@@ -28,6 +28,7 @@ use Rattle.ras_core.specs.State.{heard_now}
 use Rattle.ras_core.specs.Pools.{figures_after_return, figures_at}
 use Rattle.ras_core.specs.declared.config.ConfigParts.{ConfigParts}
 use Rattle.ras_core.specs.Parts.{AreParts, Roll, Usage, with_usage}
+use Rattle.ras_core.specs.Leaving.{IsOther}
 use Rattle.ras_core.specs.Soundness.{HaveEndpoints}
 use Rattle.ras_core.specs.Changes.{IsCallChange, IsFree, IsRegistered, after_endpoint_change, calls_after, calls_after_answer, granted_calls, leg_added, leg_of_purpose, pools_after}
 use Rattle.ras_core.proofs.Backing.{call_with_leg, length-after_end}
@@ -70,6 +71,18 @@ legs_without live calls id have zero key call there k d below =
     subst (λ w. IsSome w)
     (sym (c.others _ (EachLeg-other calls id (IsInNoCall-zero calls id zero) key call there k d below)))
     (have key call there k d below)
+
+-- where no leg is of who goes, all legs stay
+pub legs-remove : (live : Live) (calls : OpenCalls) (id : List ℕ) → HaveEndpoints live calls
+    → EachLeg (IsOther id) calls → HaveEndpoints (fin.remove live id) calls
+legs-remove live calls id have gone key call there k d below =
+    let c = Changed-remove nat_list_cmp_total exact_bytes live id in
+    subst (λ w. IsSome w) (sym (c.others (get_or call.legs k d).endpoint (gone key call there k d below)))
+    (have key call there k d below)
+
+pub legs-update : (live : Live) (calls : OpenCalls) (id : List ℕ) (f : Registration → Registration)
+    → HaveEndpoints live calls → HaveEndpoints (update live id f) calls
+legs-update live calls id f have = legs_stay live (update live id f) calls have (Stays-update live id f)
 
 pub legs-heard : (live : Live) (calls : OpenCalls) (now : ℕ) (id : List ℕ) → HaveEndpoints live calls
     → HaveEndpoints (heard_now now id live) calls

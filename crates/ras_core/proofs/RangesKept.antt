@@ -29,6 +29,14 @@ pub record Limits (parts : ConfigParts) : Type 0 where
   pub call_limit : parts.call_limit ≤ 4294967295
   pub some_calls : 1 ≤ parts.calls
   pub calls : parts.calls ≤ 20000
+  pub some_kept : 1 ≤ parts.kept
+  pub kept : parts.kept ≤ 65536
+  pub window : parts.window ≤ 3600000
+  pub some_delay : 1 ≤ parts.delay
+  pub delay : parts.delay ≤ 65535
+  pub some_retries : 1 ≤ parts.retries
+  pub asks : parts.asks ≤ 16
+  pub pool_turn : parts.pool_turn ≤ 86400000
 
 pub limits : (parts : ConfigParts) → range_fault parts ≡ None → Limits parts
 unfolding range_fault
@@ -38,6 +46,14 @@ limits parts h =
     let time = passes (is_outside 1 4294967295 parts.time_to_live) (codes "zone.time_to_live") _ call_limit.1 in
     let endpoints = passes (is_outside 1 20000 parts.endpoints) (codes "zone.endpoints") _ time.1 in
     let calls = passes (is_outside 1 20000 parts.calls) (codes "zone.calls") _ endpoints.1 in
+    let kept = passes (is_outside 1 65536 parts.kept) (codes "zone.kept") _ calls.1 in
+    let window = passes (is_outside 1 3600000 parts.window) (codes "zone.window") _ kept.1 in
+    let silence = passes (is_outside 1 3600000 parts.silence) (codes "zone.silence") _ window.1 in
+    let delay = passes (is_outside 1 65535 parts.delay) (codes "zone.delay") _ silence.1 in
+    let retries = passes (is_outside 1 16 parts.retries) (codes "zone.retries") _ delay.1 in
+    let asks = passes (is_outside 1 16 parts.asks) (codes "zone.asks") _ retries.1 in
+    let ask_wait = passes (is_outside 1 3600000 parts.ask_wait) (codes "zone.ask_wait") _ asks.1 in
+    let turn = passes (is_outside 1 86400000 parts.pool_turn) (codes "zone.pool_turn") _ ask_wait.1 in
     record {
       some_time = (inside 1 4294967295 parts.time_to_live time.0).0;
       time = (inside 1 4294967295 parts.time_to_live time.0).1;
@@ -45,6 +61,14 @@ limits parts h =
       call_limit = (inside 1 4294967295 parts.call_limit call_limit.0).1;
       some_calls = (inside 1 20000 parts.calls calls.0).0;
       calls = (inside 1 20000 parts.calls calls.0).1;
+      some_kept = (inside 1 65536 parts.kept kept.0).0;
+      kept = (inside 1 65536 parts.kept kept.0).1;
+      window = (inside 1 3600000 parts.window window.0).1;
+      some_delay = (inside 1 65535 parts.delay delay.0).0;
+      delay = (inside 1 65535 parts.delay delay.0).1;
+      some_retries = (inside 1 16 parts.retries retries.0).0;
+      asks = (inside 1 16 parts.asks asks.0).1;
+      pool_turn = (inside 1 86400000 parts.pool_turn turn.0).1;
     }
 
 pub is_time : (seconds : ℕ) (o : Option ℕ) → SomeIff o (0 < seconds) seconds → 1 ≤ seconds → IsSome o

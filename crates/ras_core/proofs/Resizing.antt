@@ -7,12 +7,12 @@ use Rattle.admission.specs.declared.call.Call.{Call}
 use Rattle.admission.specs.Calls.{in_use}
 use Rattle.ras_core.specs.declared.calling.BandwidthChange.{BandwidthChange}
 use Rattle.ras_core.specs.declared.change.Purpose.TheVariants.{Raising}
-use Rattle.ras_core.specs.State.{State}
+use Rattle.ras_core.specs.State.{Zone}
 use Rattle.ras_core.specs.Bandwidth.{lowering, raising, resizing, room, staying, wanted}
 use Rattle.ras_core.specs.Plans.{Settled, Asking}
 use Rattle.ras_core.specs.Changes.{Asks}
 
-module _ (z : State) (q : BandwidthChange) (call : Call) (w r n : ℕ) where
+module _ (z : Zone) (q : BandwidthChange) (call : Call) (w r n : ℕ) where
   pub Asks-resizing : fin.get z.calls q.call ≡ Some call → call.pool < length z.pools
       → in_use z.calls ≤ z.config.limit → w ≡ wanted z q.asked → call.units < w → r ≡ room z
       → 0 < r → n ≡ min (w - call.units) r

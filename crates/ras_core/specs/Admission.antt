@@ -17,7 +17,7 @@ use Rattle.admission.specs.declared.leg.Leg.{Leg}
 use Rattle.admission.specs.Calls.{new_call, with_leg}
 use Rattle.admission.specs.Legs.{leg_of}
 use Rattle.ras_core.specs.declared.calling.Admission.{Admission}
-use Rattle.ras_core.specs.State.{State, with_calls}
+use Rattle.ras_core.specs.State.{Zone, with_calls}
 use Rattle.ras_core.specs.Networks.{pool_of}
 use Rattle.ras_core.specs.Bandwidth.{room, wanted}
 use Rattle.ras_core.specs.Plans.{Served, Plan, Settled, Asking, unchanged}
@@ -39,11 +39,11 @@ translation live (alias ∷ aliases) other =
 
 -- address translation: who answers a call is told its own address; who makes one is told that of the
 -- first alias that is registered, else the address that it gave
-abbrev pub destination : State → Admission → Registration → Option Address
+abbrev pub destination : Zone → Admission → Registration → Option Address
 destination z q r =
     if q.answer then Some r.call_signal else translation z.live q.dest q.dest_address
 
-abbrev pub denial : State → Admission → AdmissionRejectReason → Served
+abbrev pub denial : Zone → Admission → AdmissionRejectReason → Served
 denial z q reason = unchanged z (Arj q.seq reason)
 
 -- the endpoint's leg, which keeps the address that it is told
@@ -51,7 +51,7 @@ abbrev pub leg_told : Admission → Address → Leg
 leg_told q told = record { endpoint = q.endpoint; told = told }
 
 -- a call opens with so many units of a pool
-abbrev pub opening_call : State → Admission → ℕ → Address → ℕ → Served
+abbrev pub opening_call : Zone → Admission → ℕ → Address → ℕ → Served
 opening_call z q pool told units = record {
   reply = Acf q.seq units told;
   zone = with_calls z (insert z.calls q.call (new_call pool units (leg_told q told)));
@@ -59,7 +59,7 @@ opening_call z q pool told units = record {
 
 -- a new call: it has to have a place; it opens without units where it wants none; else the zone has
 -- to have room, and the pool that serves the endpoint is asked
-abbrev pub making : State → Admission → ℕ → Address → Plan
+abbrev pub making : Zone → Admission → ℕ → Address → Plan
 making z q pool told =
     if len z.calls == z.config.calls then Settled (denial z q ResourceUnavailable)
     else if wanted z q.asked == 0 then Settled (opening_call z q pool told 0)
@@ -68,7 +68,7 @@ making z q pool told =
     (opening_call z q pool told) (denial z q RequestDenied)
 
 -- the second endpoint joins a call, which uses no further units
-abbrev pub joining : State → Admission → Call → Address → Plan
+abbrev pub joining : Zone → Admission → Call → Address → Plan
 joining z q call told =
     if length call.legs == 1
     then Settled (record {
@@ -78,26 +78,26 @@ joining z q call told =
     else Settled (denial z q ResourceUnavailable)
 
 -- somebody has to be called
-abbrev pub calling : State → Admission → Option Address → (Address → Plan) → Plan
+abbrev pub calling : Zone → Admission → Option Address → (Address → Plan) → Plan
 calling z q None next = Settled (denial z q CalledPartyNotRegistered)
 calling z q (Some told) next = next told
 
 -- an endpoint that takes part already is told again what it was told
-abbrev pub taking_part : State → Admission → Registration → Call → Option Leg → Plan
+abbrev pub taking_part : Zone → Admission → Registration → Call → Option Leg → Plan
 taking_part z q r call (Some leg) =
     Settled (unchanged z (Acf q.seq (min q.asked call.units) leg.told))
 taking_part z q r call None = calling z q (destination z q r) (joining z q call)
 
 -- the call is there, or it is new
-abbrev pub entering_call : State → Admission → Registration → Option Call → Plan
+abbrev pub entering_call : Zone → Admission → Registration → Option Call → Plan
 entering_call z q r (Some call) = taking_part z q r call (leg_of call.legs q.endpoint)
 entering_call z q r None =
     calling z q (destination z q r) (making z q (pool_of z.config.networks r.call_signal.ip))
 
 -- an ARQ, of this endpoint where it is registered
-abbrev pub admission_for : State → Admission → Option Registration → Plan
+abbrev pub admission_for : Zone → Admission → Option Registration → Plan
 admission_for z q None = Settled (denial z q InvalidEndpointIdentifier)
 admission_for z q (Some r) = entering_call z q r (get z.calls q.call)
 
-abbrev pub admission : State → Admission → Plan
+abbrev pub admission : Zone → Admission → Plan
 admission z q = admission_for z q (get z.live q.endpoint)

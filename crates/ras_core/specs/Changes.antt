@@ -1,14 +1,15 @@
 -- What requests change, and what the code decides about them.
-use Rattle.std.specs.Prelude.{◌≡◌, ◌≢◌, ◌+◌, ◌^◌, ◌<◌, ◌≤◌, ℕ, List, [], length, Option, None, Some, IsSome, IfSome}
+use Rattle.std.specs.Prelude.{◌≡◌, ◌≢◌, ◌+◌, ◌^◌, ◌<◌, ◌≤◌, ℕ, Bool, true, false, List, [], length, Option, None, Some, IsSome, IfSome}
 use Rattle.std.specs.FinMap.{get, insert, remove, len}
 use Rattle.keyed.specs.Maps.{update}
 use Rattle.ras_module.specs.declared.reason.AdmissionRejectReason.TheVariants.{RequestDenied}
 use Rattle.ras_module.specs.declared.reason.BandRejectReason.TheVariants.{InsufficientResources}
 use Rattle.ras_module.specs.declared.call_key.CallKey.{CallKey}
 use Rattle.ras_module.specs.declared.reply.Reply.{Reply}
-use Rattle.ras_module.specs.declared.reply.Reply.TheVariants.{Acf, Arj, Bcf, Brj}
+use Rattle.ras_module.specs.declared.reply.Reply.TheVariants.{Acf, Arj, Bcf, Brj, Rip}
+use Rattle.ras_module.specs.declared.request.Request.{Request}
 use Rattle.registrations.specs.declared.registration.Registration.{Registration}
-use Rattle.registrations.specs.Registry.{Live, IsUnused, at_address, with_deadline, after_rewrite}
+use Rattle.registrations.specs.Registry.{Live, at_address, with_deadline, after_rewrite}
 use Rattle.registrations.specs.Agreement.{registered_elsewhere}
 use Rattle.admission.specs.declared.call.Call.{Call}
 use Rattle.admission.specs.declared.leg.Leg.{Leg}
@@ -27,12 +28,15 @@ use Rattle.ras_core.specs.declared.change.Purpose.TheVariants as purpose
 use Rattle.ras_core.specs.declared.change.Question.{Question}
 use Rattle.ras_core.specs.declared.change.Conclusion.{Conclusion}
 use Rattle.ras_core.specs.declared.change.Conclusion.TheVariants as conclusion
+use Rattle.ras_core.specs.declared.job.Occasion.{Occasion}
+use Rattle.ras_core.specs.declared.job.Occasion.TheVariants.{First, Again}
 use Rattle.ras_core.specs.declared.registering.Entry.{Entry}
 use Rattle.pools.specs.declared.interface.Figures.{Figures}
 use Rattle.pools.specs.declared.interface.Lend.{Lend}
 use Rattle.pools.specs.declared.interface.Lend.TheVariants.{Lent, Refused, Wait}
-use Rattle.ras_core.specs.State.{State, Running, with_live, with_calls, heard_now}
+use Rattle.ras_core.specs.State.{Zone, RunningZone, with_live, with_calls, heard_now}
 use Rattle.ras_core.specs.Pools.{pools_after_return, pools_after_end}
+use Rattle.ras_core.specs.Requests.{seq_of}
 use Rattle.ras_core.specs.Parts.{Roll, Usage, usage_of}
 use Rattle.ras_core.specs.Plans.{Served, Ask, Plan, Settled, Naming, Asking, unchanged}
 
@@ -59,7 +63,7 @@ pools_after (Lowering key units pool back) calls pools = pools_after_return pool
 pools_after (Leaving key endpoint) calls pools =
     pools_after_end pools (freed_by_leave calls key endpoint)
 
-abbrev pub after_change : ℕ → Change → State → State
+abbrev pub after_change : ℕ → Change → Zone → Zone
 after_change now Nothing z = z
 after_change now (Endpoint change) z = with_live z (after_endpoint_change now change z.live)
 after_change now (Calls change) z = record z {
@@ -131,18 +135,18 @@ IsFree calls (Rewriting id e deadline) = Unit {0}
 IsFree calls (Addition r) = Unit {0}
 IsFree calls (Removal id) = legs_of calls id ≡ 0
 
-abbrev pub roll_of : State → Roll
+abbrev pub roll_of : Zone → Roll
 roll_of z = record { live = z.live; most = z.config.endpoints }
 
 -- A change can be made to the endpoints or to the calls, and each leg's endpoint stays registered.
-abbrev pub IsPossible : State → Change → Type 0
+abbrev pub IsPossible : Zone → Change → Type 0
 IsPossible z Nothing = Unit {0}
 IsPossible z (Endpoint change) = IsEndpointChange (roll_of z) change × IsFree z.calls change
 IsPossible z (Calls change) =
     IsCallChange (usage_of z) change × IfSome (leg_added change) (IsRegistered z.live)
 
 -- what a decision comes to
-abbrev pub served : State → ℕ → Decision → Served
+abbrev pub served : Zone → ℕ → Decision → Served
 served z now d = record { reply = d.reply; zone = after_change now d.change z }
 
 -- the way in which a request is served, where no pool is asked and the identifier is handed out that
@@ -154,9 +158,8 @@ resolved (Naming named) None = None
 resolved (Naming named) (Some id) = Some (named id)
 resolved (Asking ask lent refused) given = None
 
--- It decides so, with an identifier that was unused, and its change can be made.
-pub record Decides (z : State) (now : ℕ) (plan : Plan) (d : Decision) : Type 0 where
-  pub unused : IfSome d.given (IsUnused z.live [])
+-- It decides so, and its change can be made.
+pub record Decides (z : Zone) (now : ℕ) (plan : Plan) (d : Decision) : Type 0 where
   pub possible : IsPossible z d.change
   pub is : resolved plan d.given ≡ Some (served z now d)
 
@@ -173,7 +176,7 @@ abbrev pub granted_calls : Question → Purpose → ℕ → OpenCalls → OpenCa
 granted_calls q (purpose.Opening leg) units calls = insert calls q.call (new_call q.pool units leg)
 granted_calls q (purpose.Raising had) units calls = update calls q.call (with_units (had + units))
 
-abbrev pub granted_by : State → Question → ℕ → Served
+abbrev pub granted_by : Zone → Question → ℕ → Served
 granted_by z q units = record {
   reply = granted_reply q q.purpose units;
   zone = with_calls z (granted_calls q q.purpose units z.calls);
@@ -184,7 +187,7 @@ abbrev pub refused_reply : Question → Purpose → Reply
 refused_reply q (purpose.Opening leg) = Arj q.seq RequestDenied
 refused_reply q (purpose.Raising had) = Brj q.seq InsufficientResources had
 
-abbrev pub refused_by : State → Question → Served
+abbrev pub refused_by : Zone → Question → Served
 refused_by z q = unchanged z (refused_reply q q.purpose)
 
 -- what a call has with so many units more is a BandWidth (H.225.0)
@@ -234,26 +237,57 @@ leg_of_purpose (purpose.Opening leg) = Some leg
 leg_of_purpose (purpose.Raising had) = None
 
 -- It asks so, and may.
-pub record Asks (z : State) (plan : Plan) (q : Question) : Type 0 where
+pub record Asks (z : Zone) (plan : Plan) (q : Question) : Type 0 where
   pub may : IsQuestion (usage_of z) q
   pub registered : IfSome (leg_of_purpose q.purpose) (IsRegistered z.live)
   pub is : plan ≡ Asking (ask_of q) (granted_by z q) (refused_by z q)
 
-abbrev pub Concludes : State → ℕ → Plan → Conclusion → Type 0
+abbrev pub Concludes : Zone → ℕ → Plan → Conclusion → Type 0
 Concludes z now plan (conclusion.Decided d) = Decides z now plan d
 Concludes z now plan (conclusion.Asked q) = Asks z plan q
 
 -- what is concluded may be done
-abbrev pub MayConclude : State → Conclusion → Type 0
-MayConclude z (conclusion.Decided d) = IsPossible z d.change
-MayConclude z (conclusion.Asked q) =
-    IsQuestion (usage_of z) q × IfSome (leg_of_purpose q.purpose) (IsRegistered z.live)
+-- a question about this request may be put
+pub record MayAsk (z : Zone) (request : Request) (q : Question) : Type 0 where
+  pub may : IsQuestion (usage_of z) q
+  pub leg : IfSome (leg_of_purpose q.purpose) (IsRegistered z.live)
+  pub seq : seq_of request ≡ q.seq
+
+abbrev pub MayConclude : Zone → Request → Conclusion → Type 0
+MayConclude z request (conclusion.Decided d) = IsPossible z d.change × (d.given ≡ None)
+MayConclude z request (conclusion.Asked q) = MayAsk z request q
+
+-- what a decision hands out no identifier for, and what a question is put for
+abbrev pub IsFor : ℕ → Conclusion → Type 0
+IsFor seq (conclusion.Decided d) = d.given ≡ None
+IsFor seq (conclusion.Asked q) = seq ≡ q.seq
+
+-- the reply after a pool's answer: to wait no longer is to be refused
+abbrev pub reply_after : Question → Lend → Reply
+reply_after q (Lent units) = granted_reply q q.purpose units
+reply_after q Refused = refused_reply q q.purpose
+reply_after q Wait = refused_reply q q.purpose
+
+-- or a RequestInProgress
+abbrev pub reply_of : Question → Lend → Bool → ℕ → Reply
+reply_of q answer true delay = Rip q.seq delay
+reply_of q answer false delay = reply_after q answer
+
+abbrev pub IsAnswered : Question → Lend → Type 0
+IsAnswered q (Lent units) = IsBandWidth q.purpose units × (units < 2 ^ 32)
+IsAnswered q Refused = Unit {0}
+IsAnswered q Wait = Unit {0}
 
 -- the running zone after a change, and after an endpoint was heard
-abbrev pub changed : Running → ℕ → Change → Running
-changed z now change = record z { state = after_change now change z.state }
+abbrev pub changed : RunningZone → ℕ → Change → RunningZone
+changed z now change = record z { zone = after_change now change z.zone }
 
-abbrev pub heard : Running → ℕ → Option (List ℕ) → Running
+abbrev pub heard : RunningZone → ℕ → Option (List ℕ) → RunningZone
 heard z now None = z
 heard z now (Some id) =
-    record z { state = with_live z.state (heard_now now id z.state.live) }
+    record z { zone = with_live z.zone (heard_now now id z.zone.live) }
+
+-- as it is served for the first time
+abbrev pub heard_at : RunningZone → Occasion → ℕ → Option (List ℕ) → RunningZone
+heard_at z First now endpoint = heard z now endpoint
+heard_at z (Again born left) now endpoint = z

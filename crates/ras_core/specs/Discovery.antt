@@ -4,16 +4,16 @@ use Rattle.std.specs.Cmp.Lexicographic.{pointwise}
 use Rattle.ras_module.specs.declared.reason.GatekeeperRejectReason.TheVariants.{TerminalExcluded}
 use Rattle.ras_module.specs.declared.reply.Reply.{Reply}
 use Rattle.ras_module.specs.declared.reply.Reply.TheVariants.{Gcf, Grj}
-use Rattle.ras_core.specs.State.{State}
+use Rattle.ras_core.specs.State.{Zone}
 
 -- a gatekeeper was named, and it is another one (H.225.0, gatekeeperIdentifier)
-abbrev pub is_foreign : State → Option (List ℕ) → Bool
+abbrev pub is_foreign : Zone → Option (List ℕ) → Bool
 is_foreign z None = false
 is_foreign z (Some name) = not (pointwise nat_eq name z.config.identifier)
 
 -- The gatekeeper makes itself known, with its name and its RAS address, to whoever asks for none or for
 -- this one.
-abbrev pub discovery : State → ℕ → Option (List ℕ) → Reply
+abbrev pub discovery : Zone → ℕ → Option (List ℕ) → Reply
 discovery z seq gatekeeper =
     if is_foreign z gatekeeper
     then Grj seq TerminalExcluded

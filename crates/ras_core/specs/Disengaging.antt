@@ -9,26 +9,26 @@ use Rattle.registrations.specs.declared.registration.Registration.{Registration}
 use Rattle.admission.specs.declared.leg.Leg.{Leg}
 use Rattle.admission.specs.Calls.{leg_at, after_leave, freed_by_leave}
 use Rattle.ras_core.specs.declared.calling.Disengagement.{Disengagement}
-use Rattle.ras_core.specs.State.{State}
+use Rattle.ras_core.specs.State.{Zone}
 use Rattle.ras_core.specs.Pools.{pools_after_end}
 use Rattle.ras_core.specs.Plans.{Plan, Settled, unchanged}
 
 -- an endpoint leaves a call, which ends with its last leg: its units go back to its pool
-abbrev pub without_leg_of : State → CallKey → List ℕ → State
+abbrev pub without_leg_of : Zone → CallKey → List ℕ → Zone
 without_leg_of z call endpoint = record z {
   calls = after_leave z.calls call endpoint;
   pools = pools_after_end z.pools (freed_by_leave z.calls call endpoint);
 }
 
-abbrev pub leaving_call : State → Disengagement → Option Leg → Plan
+abbrev pub leaving_call : Zone → Disengagement → Option Leg → Plan
 leaving_call z q None = Settled (unchanged z (Drj q.seq RequestToDropOther))
 leaving_call z q (Some leg) =
     Settled (record { reply = Dcf q.seq; zone = without_leg_of z q.call q.endpoint })
 
 -- a DRQ, of this endpoint where it is registered
-abbrev pub disengagement_for : State → Disengagement → Option Registration → Plan
+abbrev pub disengagement_for : Zone → Disengagement → Option Registration → Plan
 disengagement_for z q None = Settled (unchanged z (Drj q.seq NotRegistered))
 disengagement_for z q (Some r) = leaving_call z q (leg_at z.calls q.call q.endpoint)
 
-abbrev pub disengagement : State → Disengagement → Plan
+abbrev pub disengagement : Zone → Disengagement → Plan
 disengagement z q = disengagement_for z q (get z.live q.endpoint)

@@ -10,8 +10,14 @@ pub mod Unregistering
 pub mod Admission
 pub mod Bandwidth
 pub mod Disengaging
+pub mod Requests
+pub mod Keeping
+pub mod Room
+pub mod Fresh
+pub mod Turns
 pub mod Machine
 pub mod Soundness
 pub mod Parts
+pub mod Leaving
 pub mod Changes
 pub mod Steps

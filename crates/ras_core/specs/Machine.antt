@@ -1,161 +1,211 @@
--- The zone as a machine: what each event is answered, and what it leaves.
-use Rattle.std.specs.Prelude.{ℕ, ◌+◌, ◌^◌, nat_lt, max, List, length, Option, None, Some, Result, Ok, Err, if◌then◌else◌}
+-- The gatekeeper as a machine: what each event is answered, and what it leaves.
+use Rattle.std.specs.Prelude.{ℕ, ◌+◌, ◌^◌, ◌==◌, nat_lt, max, is_some, List, length, Option, None, Some, Result, Ok, Err, if◌then◌else◌}
+use Rattle.std.specs.FinMap.{get, len}
 use Rattle.ras_module.specs.declared.address.Address.{Address}
+use Rattle.ras_module.specs.declared.reply.Reply.{Reply}
 use Rattle.ras_module.specs.declared.request.Request.{Request}
-use Rattle.ras_module.specs.declared.request.Request.TheVariants.{Grq, Rrq, Urq, Arq, Brq, Drq, Irr}
 use Rattle.ras_codec.specs.Messages.{message_reading}
 use Rattle.ras_codec.specs.Replies.{encoding_of}
 use Rattle.ras_codec.specs.declared.fault.ReadFault.{ReadFault}
 use Rattle.pools.specs.declared.interface.Lend.{Lend}
-use Rattle.pools.specs.declared.interface.Lend.TheVariants.{Lent, Refused, Wait}
+use Rattle.kept_replies.specs.declared.key.KeptKey.{KeptKey}
+use Rattle.kept_replies.specs.declared.entry.KeptEntry.{KeptEntry}
+use Rattle.kept_replies.specs.declared.entry.KeptState.{KeptState}
+use Rattle.kept_replies.specs.declared.entry.KeptState.TheVariants.{Done, Pending}
+use Rattle.kept_replies.specs.Kept.{births, reply_in}
+use Rattle.expiry.specs.declared.due_item.DueItem.{DueItem}
+use Rattle.expiry.specs.declared.due_item.DueItem.TheVariants.{Retry}
 use Rattle.ras_core.specs.declared.event.Event.{Event}
-use Rattle.ras_core.specs.declared.event.Event.TheVariants.{Datagram}
+use Rattle.ras_core.specs.declared.event.Event.TheVariants as event
+use Rattle.ras_core.specs.declared.job.Job.{Job}
+use Rattle.ras_core.specs.declared.job.Occasion.{Occasion}
+use Rattle.ras_core.specs.declared.job.Occasion.TheVariants.{First, Again}
+use Rattle.ras_core.specs.declared.outcome.Datagram.{Datagram}
 use Rattle.ras_core.specs.declared.outcome.IgnoredCause.{IgnoredCause}
-use Rattle.ras_core.specs.declared.outcome.IgnoredCause.TheVariants.{TooLong, Unreadable, NotServed}
+use Rattle.ras_core.specs.declared.outcome.IgnoredCause.TheVariants.{TooLong, Unreadable, NotServed, Busy, UnknownEndpoint}
+use Rattle.ras_core.specs.declared.outcome.Note.{Note}
 use Rattle.ras_core.specs.declared.outcome.Note.TheVariants as note
 use Rattle.ras_core.specs.declared.outcome.Outcome.{Outcome}
-use Rattle.ras_core.specs.State.{State}
-use Rattle.ras_core.specs.Pools.{pools_after_answer}
-use Rattle.ras_core.specs.Plans.{Served, Ask, Plan, Settled, Naming, Asking, unchanged, hearing}
-use Rattle.ras_core.specs.Discovery.{discovery}
-use Rattle.ras_core.specs.Registering.{registration}
-use Rattle.ras_core.specs.Unregistering.{unregistration}
-use Rattle.ras_core.specs.Admission.{admission}
-use Rattle.ras_core.specs.Bandwidth.{bandwidth}
-use Rattle.ras_core.specs.Disengaging.{disengagement}
+use Rattle.ras_core.specs.State.{Zone, State, with_live, heard_now}
+use Rattle.ras_core.specs.Plans.{Served, Ask, Plan, Settled, Naming, Asking}
+use Rattle.ras_core.specs.Requests.{endpoint_of, plan_of}
+use Rattle.ras_core.specs.Keeping.{Task, Progress, answered, by_answer, is_repeat, kept_after, plan_at, with_answered_pool}
+use Rattle.ras_core.specs.Turns.{Effect, effect}
 
--- what an event calls for: nothing is done, or a request is served whose reply goes there
-pub data Course : Type 0 where
-  Ignoring : IgnoredCause → Course
-  Serving : Address → Plan → Course
-
--- the way of each request; the endpoint that it names was heard
-abbrev pub request_course : State → ℕ → Address → Request → Course
-request_course z now source (Grq seq gatekeeper) =
-    Serving source (Settled (unchanged z (discovery z seq gatekeeper)))
-request_course z now source
-    (Rrq seq call_signal ras aliases gatekeeper time_to_live keep_alive endpoint) =
-    Serving source (hearing now endpoint (registration z now (record {
-      seq = seq;
-      call_signal = call_signal;
-      ras = ras;
-      aliases = aliases;
-      gatekeeper = gatekeeper;
-      time_to_live = time_to_live;
-      keep_alive = keep_alive;
-      endpoint = endpoint;
-    })))
-request_course z now source (Urq seq call_signal endpoint) =
-    Serving source (hearing now endpoint (unregistration z (record {
-      seq = seq;
-      call_signal = call_signal;
-      endpoint = endpoint;
-    })))
-request_course z now source (Arq seq endpoint dest dest_address asked call answer) =
-    Serving source (hearing now (Some endpoint) (admission z (record {
-      seq = seq;
-      endpoint = endpoint;
-      dest = dest;
-      dest_address = dest_address;
-      asked = asked;
-      call = call;
-      answer = answer;
-    })))
-request_course z now source (Brq seq endpoint call asked) =
-    Serving source (hearing now (Some endpoint) (bandwidth z (record {
-      seq = seq;
-      endpoint = endpoint;
-      call = call;
-      asked = asked;
-    })))
-request_course z now source (Drq seq endpoint call) =
-    Serving source (hearing now (Some endpoint) (disengagement z (record {
-      seq = seq;
-      endpoint = endpoint;
-      call = call;
-    })))
-request_course z now source (Irr seq endpoint) = Ignoring NotServed
-
-abbrev pub read_course : State → ℕ → Address → Result (Option Request) ReadFault → Course
-read_course z now source (Err fault) = Ignoring Unreadable
-read_course z now source (Ok None) = Ignoring NotServed
-read_course z now source (Ok (Some request)) = request_course z now source request
-
--- a datagram falls under the first that applies: it is too long, unreadable, not served, or served
-abbrev pub datagram_course : State → ℕ → Address → List ℕ → Course
-datagram_course z now source bytes =
-    if nat_lt 4096 (length bytes)
-    then Ignoring TooLong
-    else read_course z now source (message_reading bytes)
-
--- the clock never goes back
-abbrev pub moment_of : State → Event → ℕ
-moment_of z (Datagram source bytes moment) = max z.clock moment
-
-abbrev pub course : State → Event → Course
-course z (Datagram source bytes moment) =
-    datagram_course z (max z.clock moment) source bytes
-
--- What was chosen in a step: the identifier that was handed out, and the answer of the pool that was
--- asked.
+-- What was chosen in a step: the identifier that was handed out, the answer of the pool that was asked,
+-- the birth of the kept entry that was dropped, and the item that was done of those that are due.
 pub record Choices : Type 0 where
   pub given : Option (List ℕ)
   pub answer : Option Lend
+  pub dropped : Option ℕ
+  pub item : Option DueItem
 
--- an outcome, and the zone that it leaves
+-- What an event calls for: nothing is done; an endpoint gave a sign of life; a kept reply is sent
+-- there again; a request is served; something else that is due is done; or nothing is due.
+pub data Course : Type 0 where
+  Ignoring : IgnoredCause → Course
+  Hearing : List ℕ → Course
+  Repeating : Address → Reply → Course
+  Serving : Task → Course
+  Doing : DueItem → Course
+  Idle : Course
+
+-- the request is served so, by this plan
+abbrev pub serving : Job → Option ℕ → ℕ → Request → Plan → Course
+serving job dropped now request plan = Serving (record {
+  job = job;
+  dropped = dropped;
+  request = request;
+  plan = plan_at job.occasion now (endpoint_of request) plan;
+})
+
+abbrev pub first : KeptKey → Job
+first key = record { key = key; occasion = First }
+
+-- a reply has to find a place: where as many are kept as may be, one that is over is dropped for it
+abbrev pub entering : State → ℕ → KeptKey → Request → Plan → Option ℕ → Course
+entering s now key request plan None = Ignoring Busy
+entering s now key request plan (Some born) = serving (first key) (Some born) now request plan
+
+-- A datagram that came before is answered by what is kept; one whose entry is over, or confirms a
+-- registration that has gone, is served anew in its place.
+abbrev pub keyed_course : State → ℕ → KeptKey → Request → Plan → Option ℕ → Option KeptEntry → Course
+keyed_course s now key request plan dropped (Some entry) =
+    if is_repeat s now entry
+    then Repeating key.source (reply_in entry.state)
+    else serving (first key) None now request plan
+keyed_course s now key request plan dropped None =
+    if len s.kept == s.zone.config.kept
+    then entering s now key request plan dropped
+    else serving (first key) None now request plan
+
+-- an InfoRequestResponse of an endpoint that is registered is a sign of life
+abbrev pub response_course : State → Option (List ℕ) → Course
+response_course s None = Ignoring UnknownEndpoint
+response_course s (Some endpoint) =
+    if is_some (get s.zone.live endpoint)
+    then Hearing endpoint
+    else Ignoring UnknownEndpoint
+
+abbrev pub planned_course : State → ℕ → KeptKey → Request → Option ℕ → Option Plan → Course
+planned_course s now key request dropped None = response_course s (endpoint_of request)
+planned_course s now key request dropped (Some plan) =
+    keyed_course s now key request plan dropped (get s.kept key)
+
+abbrev pub request_course : State → ℕ → KeptKey → Option ℕ → Request → Course
+request_course s now key dropped request =
+    planned_course s now key request dropped (plan_of s.zone now request)
+
+abbrev pub read_course : State → ℕ → KeptKey → Option ℕ → Result (Option Request) ReadFault → Course
+read_course s now key dropped (Err fault) = Ignoring Unreadable
+read_course s now key dropped (Ok None) = Ignoring NotServed
+read_course s now key dropped (Ok (Some request)) = request_course s now key dropped request
+
+-- A datagram falls under the first that applies: it is too long, unreadable, not served, a sign of
+-- life, answered by what is kept, without a place for its reply, or served.
+abbrev pub datagram_course : State → ℕ → KeptKey → Option ℕ → Course
+datagram_course s now key dropped =
+    if nat_lt 4096 (length key.bytes)
+    then Ignoring TooLong
+    else read_course s now key dropped (message_reading key.bytes)
+
+-- a request that waits is served again
+abbrev pub again : KeptKey → ℕ → ℕ → Job
+again key born left = record { key = key; occasion = Again born left }
+
+abbrev pub again_course : ℕ → KeptKey → ℕ → Request → ℕ → Option Plan → Course
+again_course now key born request left None = Doing (Retry born)
+again_course now key born request left (Some plan) =
+    serving (again key born left) None now request plan
+
+abbrev pub retry_in_course : State → ℕ → KeptKey → ℕ → KeptState → Course
+retry_in_course s now key born (Done reply until) = Doing (Retry born)
+retry_in_course s now key born (Pending request reply retry left) =
+    again_course now key born request left (plan_of s.zone now request)
+
+abbrev pub retry_course : State → ℕ → ℕ → Option (KeptKey × KeptEntry) → Course
+retry_course s now born None = Doing (Retry born)
+retry_course s now born (Some row) = retry_in_course s now row.0 born row.1.state
+
+-- in a turn any one item is done that is due
+abbrev pub turn_course : State → ℕ → Option DueItem → Course
+turn_course s now None = Idle
+turn_course s now (Some (Retry born)) = retry_course s now born (get (births s.kept) born)
+turn_course s now (Some other) = Doing other
+
+abbrev pub moment_in : Event → ℕ
+moment_in (event.Datagram source bytes moment) = moment
+moment_in (event.Turn moment) = moment
+
+-- the clock never goes back
+abbrev pub moment_of : State → Event → ℕ
+moment_of s what = max s.clock (moment_in what)
+
+abbrev pub course_at : State → ℕ → Event → Choices → Course
+course_at s now (event.Datagram source bytes moment) choices =
+    datagram_course s now (record { source = source; bytes = bytes }) choices.dropped
+course_at s now (event.Turn moment) choices = turn_course s now choices.item
+
+abbrev pub course : State → Event → Choices → Course
+course s what choices = course_at s (moment_of s what) what choices
+
+-- an outcome, and the state that it leaves
 abbrev pub Answer : Type 0
 Answer = Option (Outcome × State)
 
-abbrev pub ignored : State → IgnoredCause → Answer
-ignored z cause = Some (
-  record { output = None; note = note.Ignored cause; given = None; answer = None },
-  z,
+-- where a request isn't served
+abbrev pub noted : Note → Option Datagram → State → Answer
+noted what output s = Some (
+  record { output = output; note = what; given = None; answer = None; dropped = None },
+  s,
 )
 
--- a reply goes to where the request came from
-abbrev pub answered : Address → Option (List ℕ) → Option Lend → Served → Answer
-answered source given answer served = Some (
+-- what happened in a step in which a request was served
+abbrev pub note_at : Occasion → Note
+note_at First = note.Served
+note_at (Again born left) = note.Done (Retry born)
+
+-- a reply goes to where the datagram came from, and is kept
+abbrev pub ended : State → ℕ → Task → Option (List ℕ) → Option Lend → Progress → Answer
+ended s now task given answer p = Some (
   record {
-    output = Some (record { to = source; bytes = encoding_of served.reply });
-    note = note.Served;
+    output = Some (record { to = task.job.key.source; bytes = encoding_of p.served.reply });
+    note = note_at task.job.occasion;
     given = given;
     answer = answer;
+    dropped = task.dropped;
   },
-  served.zone,
+  record s { zone = p.served.zone; kept = kept_after s now task p },
 )
 
-abbrev pub with_name : Address → (List ℕ → Served) → Option (List ℕ) → Answer
-with_name source named None = None
-with_name source named (Some id) = answered source (Some id) None (named id)
+abbrev pub with_name : State → ℕ → Task → (List ℕ → Served) → Option (List ℕ) → Answer
+with_name s now task named None = None
+with_name s now task named (Some id) = ended s now task (Some id) None (answered (named id))
 
--- what a pool's answer makes of the request: one that is to wait is refused
-abbrev pub by_answer : (ℕ → Served) → Served → Lend → Served
-by_answer lent refused (Lent units) = lent units
-by_answer lent refused Refused = refused
-by_answer lent refused Wait = refused
+abbrev pub with_answer : State → ℕ → Task → Ask → (ℕ → Served) → Served → Option Lend → Answer
+with_answer s now task ask lent refused None = None
+with_answer s now task ask lent refused (Some answer) =
+    ended s now task None (Some answer) (with_answered_pool s.zone ask answer
+    (by_answer s.zone.config.delay task lent refused answer))
 
--- and of the pool's figures
-abbrev pub with_answered_pool : State → Ask → Lend → Served → Served
-with_answered_pool z ask answer served = record served {
-  zone = record served.zone { pools = pools_after_answer z.pools ask.pool answer };
-}
+-- a request is served with what was chosen; there is no answer where a choice that it calls for
+-- wasn't made
+abbrev pub plan_answer : State → ℕ → Task → Plan → Choices → Answer
+plan_answer s now task (Settled served) choices = ended s now task None None (answered served)
+plan_answer s now task (Naming named) choices = with_name s now task named choices.given
+plan_answer s now task (Asking ask lent refused) choices =
+    with_answer s now task ask lent refused choices.answer
 
-abbrev pub with_answer : State → Address → Ask → (ℕ → Served) → Served → Option Lend → Answer
-with_answer z source ask lent refused None = None
-with_answer z source ask lent refused (Some answer) =
-    answered source None (Some answer)
-    (with_answered_pool z ask answer (by_answer lent refused answer))
-
--- a plan is carried out with what was chosen; none where a choice that it calls for wasn't made
-abbrev pub plan_answer : State → Address → Plan → Choices → Answer
-plan_answer z source (Settled served) choices = answered source None None served
-plan_answer z source (Naming named) choices = with_name source named choices.given
-plan_answer z source (Asking ask lent refused) choices =
-    with_answer z source ask lent refused choices.answer
-
-abbrev pub course_answer : State → Course → Choices → Answer
-course_answer z (Ignoring cause) choices = ignored z cause
-course_answer z (Serving source plan) choices = plan_answer z source plan choices
+abbrev pub course_answer : State → ℕ → Course → Choices → Answer
+course_answer s now (Ignoring cause) choices = noted (note.Ignored cause) None s
+course_answer s now (Hearing endpoint) choices = noted note.Served None
+    (record s { zone = with_live s.zone (heard_now now endpoint s.zone.live) })
+course_answer s now (Repeating source reply) choices =
+    noted note.Kept (Some (record { to = source; bytes = encoding_of reply })) s
+course_answer s now (Serving task) choices = plan_answer s now task task.plan choices
+course_answer s now (Doing item) choices =
+    noted (note.Done item) (effect s now item).output (effect s now item).state
+course_answer s now Idle choices = noted note.Idle None s
 
 -- the clock stands at now, and so many steps are made
 abbrev pub at_moment : ℕ → ℕ → Answer → Answer
@@ -166,10 +216,11 @@ at_moment now steps (Some answer) = Some (answer.0, record answer.1 { clock = no
 abbrev pub most_steps : ℕ
 most_steps = 2 ^ 62
 
--- One event, with what was chosen in its step: its outcome and the zone after it. There is none
--- where the zone is closed, nor where a choice that is called for wasn't made.
+-- One event, with what was chosen in its step: its outcome and the state after it. There is none
+-- where the gatekeeper is closed, nor where a choice that is called for wasn't made.
 abbrev pub machine : State → Event → Choices → Answer
-machine z event choices =
-    if nat_lt z.steps most_steps
-    then at_moment (moment_of z event) (z.steps + 1) (course_answer z (course z event) choices)
+machine s what choices =
+    if nat_lt s.steps most_steps
+    then at_moment (moment_of s what) (s.steps + 1)
+    (course_answer s (moment_of s what) (course s what choices) choices)
     else None

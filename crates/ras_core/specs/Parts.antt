@@ -3,7 +3,7 @@ use Rattle.std.specs.Prelude.{ℕ, ◌≡◌, ◌≤◌, ◌<◌, ◌^◌, List,
 use Rattle.registrations.specs.Registry.{Live}
 use Rattle.admission.specs.Calls.{OpenCalls, EachCall, in_use}
 use Rattle.pools.specs.declared.interface.Figures.{Figures}
-use Rattle.ras_core.specs.State.{State, Last}
+use Rattle.ras_core.specs.State.{Zone, Last}
 use Rattle.ras_core.specs.declared.config.ConfigParts.{ConfigParts}
 use Rattle.ras_core.specs.Soundness.{HaveEndpoints, IsLentTo}
 
@@ -21,7 +21,7 @@ pub record Usage : Type 0 where
   pub limit : ℕ
   pub call_limit : ℕ
 
-abbrev pub usage_of : State → Usage
+abbrev pub usage_of : Zone → Usage
 usage_of z = record {
   calls = z.calls;
   pools = z.pools;

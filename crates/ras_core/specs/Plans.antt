@@ -1,15 +1,15 @@
 -- What a request comes to, before anything is chosen for it.
 use Rattle.std.specs.Prelude.{ℕ, List, Option, None, Some}
 use Rattle.ras_module.specs.declared.reply.Reply.{Reply}
-use Rattle.ras_core.specs.State.{State, with_live, heard_now}
+use Rattle.ras_core.specs.State.{Zone, with_live, heard_now}
 
 -- what a request is answered, and what the zone is afterwards
 pub record Served : Type 0 where
   pub reply : Reply
-  pub zone : State
+  pub zone : Zone
 
 -- a reply, and nothing changes
-abbrev pub unchanged : State → Reply → Served
+abbrev pub unchanged : Zone → Reply → Served
 unchanged z reply = record { reply = reply; zone = z }
 
 -- so many units are asked of a pool

@@ -16,28 +16,28 @@ use Rattle.registrations.specs.Registry.{at_address, with_deadline, after_rewrit
 use Rattle.registrations.specs.Agreement.{registered_elsewhere}
 use Rattle.ras_core.specs.declared.registering.Registering.{Registering}
 use Rattle.ras_core.specs.declared.registering.Entry.{Entry}
-use Rattle.ras_core.specs.State.{State, with_live, heard_now}
+use Rattle.ras_core.specs.State.{Zone, with_live, heard_now}
 use Rattle.ras_core.specs.Plans.{Served, Plan, Settled, Naming, unchanged}
 use Rattle.ras_core.specs.Discovery.{is_foreign}
 
 -- the time to live that is granted, in seconds: what was asked, but no more than the zone's
-abbrev pub granted : State → Option ℕ → ℕ
+abbrev pub granted : Zone → Option ℕ → ℕ
 granted z None = z.config.time_to_live
 granted z (Some asked) = min asked z.config.time_to_live
 
 -- when a registration of this moment ends, in milliseconds
-abbrev pub deadline : State → ℕ → Registering → ℕ
+abbrev pub deadline : Zone → ℕ → Registering → ℕ
 deadline z now q = now + 1000 * granted z q.time_to_live
 
-abbrev pub rejection : State → Registering → RegistrationRejectReason → Plan
+abbrev pub rejection : Zone → Registering → RegistrationRejectReason → Plan
 rejection z q reason = Settled (unchanged z (Rrj q.seq reason))
 
-abbrev pub confirmation : State → Registering → Address → List Alias → List ℕ → Reply
+abbrev pub confirmation : Zone → Registering → Address → List Alias → List ℕ → Reply
 confirmation z q call_signal aliases id =
     Rcf q.seq call_signal aliases z.config.identifier id (granted z q.time_to_live)
 
 -- the endpoint that names itself so, where it is registered
-abbrev pub named : State → Option (List ℕ) → Option Registration
+abbrev pub named : Zone → Option (List ℕ) → Option Registration
 named z None = None
 named z (Some id) = get z.live id
 
@@ -47,7 +47,7 @@ has_moved r None = false
 has_moved r (Some ras) = not (same_address ras r.ras)
 
 -- keepAlive: the time to live is granted anew to an endpoint that is registered and has not moved
-abbrev pub keep_alive : State → ℕ → Registering → Option Registration → Plan
+abbrev pub keep_alive : Zone → ℕ → Registering → Option Registration → Plan
 keep_alive z now q None = rejection z q FullRegistrationRequired
 keep_alive z now q (Some r) =
     if has_moved r q.ras
@@ -58,14 +58,14 @@ keep_alive z now q (Some r) =
     })
 
 -- the endpoint with this call signal address registers anew, and keeps its identifier
-abbrev pub refreshment : State → ℕ → Registering → Entry → Registration → Served
+abbrev pub refreshment : Zone → ℕ → Registering → Entry → Registration → Served
 refreshment z now q e r = record {
   reply = confirmation z q e.call_signal e.aliases r.identifier;
   zone = with_live z (heard_now now r.identifier
       (update z.live r.identifier (after_rewrite e.ras e.aliases (deadline z now q))));
 }
 
-abbrev pub new_registration : State → ℕ → Registering → Entry → List ℕ → Registration
+abbrev pub new_registration : Zone → ℕ → Registering → Entry → List ℕ → Registration
 new_registration z now q e id = record {
   identifier = id;
   call_signal = e.call_signal;
@@ -78,14 +78,14 @@ new_registration z now q e id = record {
 }
 
 -- an endpoint registers under the identifier that is handed out
-abbrev pub addition : State → ℕ → Registering → Entry → List ℕ → Served
+abbrev pub addition : Zone → ℕ → Registering → Entry → List ℕ → Served
 addition z now q e id = record {
   reply = confirmation z q e.call_signal e.aliases id;
   zone = with_live z (insert z.live id (new_registration z now q e id));
 }
 
 -- an endpoint whose address is registered, or a new one, for which there has to be a place
-abbrev pub entering : State → ℕ → Registering → Entry → Option Registration → Plan
+abbrev pub entering : Zone → ℕ → Registering → Entry → Option Registration → Plan
 entering z now q e (Some r) = Settled (refreshment z now q e r)
 entering z now q e None =
     if len z.live == z.config.endpoints
@@ -93,12 +93,12 @@ entering z now q e None =
     else Naming (addition z now q e)
 
 -- where some of the aliases are held by endpoints with another call signal address, those are told
-abbrev pub unless_held : State → ℕ → Registering → Entry → List Alias → Plan
+abbrev pub unless_held : Zone → ℕ → Registering → Entry → List Alias → Plan
 unless_held z now q e [] = entering z now q e (at_address z.live e.call_signal)
 unless_held z now q e (alias ∷ held) = rejection z q (DuplicateAlias (alias ∷ held))
 
 -- a full registration, with these addresses and distinct aliases
-abbrev pub full : State → ℕ → Registering → Option Address → Option Address → List Alias → Plan
+abbrev pub full : Zone → ℕ → Registering → Option Address → Option Address → List Alias → Plan
 full z now q None ras aliases = rejection z q InvalidCallSignalAddress
 full z now q (Some call_signal) None aliases = rejection z q InvalidRasAddress
 full z now q (Some call_signal) (Some ras) aliases =
@@ -108,7 +108,7 @@ full z now q (Some call_signal) (Some ras) aliases =
     (registered_elsewhere z.live call_signal aliases)
 
 -- an RRQ
-abbrev pub registration : State → ℕ → Registering → Plan
+abbrev pub registration : Zone → ℕ → Registering → Plan
 registration z now q =
     if is_foreign z q.gatekeeper then rejection z q DiscoveryRequired
     else if q.keep_alive then keep_alive z now q (named z q.endpoint)

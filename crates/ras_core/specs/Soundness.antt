@@ -6,7 +6,10 @@ use Rattle.registrations.specs.declared.registration.Registration.{Registration}
 use Rattle.registrations.specs.Registry.{Live, IsConsistent}
 use Rattle.admission.specs.Calls.{OpenCalls, EachCall, EachLeg, IsCall, in_use, in_use_of}
 use Rattle.pools.specs.declared.interface.Figures.{Figures}
-use Rattle.ras_core.specs.State.{State}
+use Rattle.kept_replies.specs.declared.key.KeptKey.{KeptKey}
+use Rattle.kept_replies.specs.declared.entry.KeptEntry.{KeptEntry}
+use Rattle.kept_replies.specs.Kept.{KeptReplies, AreEntries, AreBornApart}
+use Rattle.ras_core.specs.State.{Zone, State}
 use Rattle.ras_core.specs.Pools.{figures_at}
 use Rattle.ras_core.specs.Machine.{most_steps}
 use Rattle.ras_core.specs.Ranges.{IsConfig}
@@ -31,7 +34,13 @@ pub record HasCounts (most : ℕ) (f : Figures) : Type 0 where
   pub refusals : f.refusals < most
   pub waits : f.waits < most
 
-pub record Sound (z : State) : Type 0 where
+-- each entry was born before so many steps were made
+abbrev pub AreBornBefore : ℕ → KeptReplies → Type 0
+AreBornBefore steps kept =
+    (key : KeptKey) (entry : KeptEntry) → get kept key ≡ Some entry → entry.born < steps
+
+-- what holds of every zone
+pub record SoundZone (z : Zone) : Type 0 where
   pub settings : IsConfig z.config
   pub endpoints : IsConsistent z.live
   pub aliases : HaveAliasesApart z.live
@@ -45,6 +54,16 @@ pub record Sound (z : State) : Type 0 where
   pub pool_limits : All (λ f. f.lent ≤ f.limit) z.pools
   pub limit : in_use z.calls ≤ z.config.limit
   pub pools : length z.pools ≡ length z.config.networks
-  pub counts : All (HasCounts (2 ^ 62 + z.steps)) z.pools
-  pub clock : z.clock < 2 ^ 53
-  pub steps : z.steps ≤ most_steps
+
+-- what holds of every state
+pub record Sound (s : State) : Type 0 where
+  pub zone : SoundZone s.zone
+  pub counts : All (HasCounts (2 ^ 62 + s.steps)) s.zone.pools
+  pub few_kept : len s.kept ≤ s.zone.config.kept
+  pub entries : AreEntries s.kept
+  pub births : AreBornApart s.kept
+  pub born : AreBornBefore s.steps s.kept
+  pub clock : s.clock < 2 ^ 53
+  pub interrogation : 1 ≤ s.interrogation
+  pub interrogations : s.interrogation ≤ 65535
+  pub steps : s.steps ≤ most_steps

@@ -1,39 +1,81 @@
 -- Steps of the machine, and runs.
-use Rattle.std.specs.Prelude.{ℕ, ◌≡◌, ◌≤◌, ◌+◌, ◌++◌, All, List, [], ◌∷◌, length, slice_set, Some, Option, None, IfSome}
+use Rattle.std.specs.Prelude.{ℕ, ◌≡◌, ◌≤◌, ◌<◌, ◌+◌, ◌++◌, All, List, [], ◌∷◌, length, slice_set, Some, Option, None, IfSome}
 use Rattle.std.specs.List.{zip}
+use Rattle.std.specs.Option.{IsSomeAnd}
+use Rattle.std.specs.FinMap.{get, len}
 use Rattle.pools.specs.declared.interface.Lend.{Lend}
 use Rattle.pools.specs.Account.{IsAnswer}
-use Rattle.registrations.specs.Registry.{IsUnused}
+use Rattle.kept_replies.specs.declared.key.KeptKey.{KeptKey}
+use Rattle.kept_replies.specs.Kept.{NonePasses, Passes, births, is_over, left_in}
+use Rattle.expiry.specs.declared.due_item.DueItem.{DueItem}
+use Rattle.expiry.specs.declared.due_item.DueItem.TheVariants.{Retry}
 use Rattle.ras_core.specs.declared.event.Event.{Event}
+use Rattle.ras_core.specs.declared.job.Job.{Job}
+use Rattle.ras_core.specs.declared.job.Occasion.{Occasion}
+use Rattle.ras_core.specs.declared.job.Occasion.TheVariants.{First, Again}
 use Rattle.ras_core.specs.declared.outcome.Datagram.{Datagram}
+use Rattle.ras_core.specs.declared.outcome.IgnoredCause.TheVariants.{Busy}
+use Rattle.ras_core.specs.declared.outcome.Note.{Note}
+use Rattle.ras_core.specs.declared.outcome.Note.TheVariants as note
 use Rattle.ras_core.specs.declared.outcome.Outcome.{Outcome}
 use Rattle.pools.specs.declared.interface.Figures.{Figures}
 use Rattle.ras_module.specs.declared.request.Request.{Request}
-use Rattle.ras_module.specs.declared.request.Request.TheVariants.{Grq, Rrq, Urq, Arq, Brq, Drq, Irr}
+use Rattle.ras_module.specs.declared.request.Request.TheVariants.{Arq, Brq, Drq, Irr}
 use Rattle.ras_core.specs.State.{State, Running, Last}
-use Rattle.ras_core.specs.Soundness.{HasCounts}
+use Rattle.ras_core.specs.Soundness.{AreBornBefore, HasCounts}
 use Rattle.ras_core.specs.Pools.{figures_at}
 use Rattle.ras_core.specs.Plans.{Ask, Plan, Settled, Naming, Asking}
-use Rattle.ras_core.specs.Machine.{Choices, Course, Ignoring, Serving, course, course_answer, machine}
+use Rattle.ras_core.specs.Fresh.{IsFreshFor}
+use Rattle.ras_core.specs.Requests.{plan_of}
+use Rattle.ras_core.specs.Room.{IsDropped}
+use Rattle.ras_core.specs.Turns.{IsDueIn, IsNothingDueIn}
+use Rattle.ras_core.specs.Machine.{Choices, Course, Ignoring, Hearing, Repeating, Serving, Doing, Idle, course, course_answer, machine, moment_of, retry_course, serving}
+
+-- the item that was done
+abbrev pub item_of : Note → Option DueItem
+item_of (note.Done item) = Some item
+item_of other = None
 
 abbrev pub choices_of : Outcome → Choices
-choices_of outcome = record { given = outcome.given; answer = outcome.answer }
+choices_of outcome = record {
+  given = outcome.given;
+  answer = outcome.answer;
+  dropped = outcome.dropped;
+  item = item_of outcome.note;
+}
 
--- what may be chosen: an identifier that was unused, and an answer that the pool may give
+-- an identifier that may be handed out
+abbrev pub IsFresh : State → List ℕ → Type 0
+IsFresh s id = IsFreshFor s.zone.live s.kept id
+
+-- what may be chosen for a plan: such an identifier, and an answer that the pool may give
 abbrev pub MayChoose : State → Plan → Choices → Type 0
-MayChoose z (Settled served) choices = Unit {0}
-MayChoose z (Naming named) choices = IfSome choices.given (IsUnused z.live [])
-MayChoose z (Asking ask lent refused) choices =
-    IfSome choices.answer (IsAnswer (figures_at z.pools ask.pool) ask.units)
+MayChoose s (Settled served) choices = Unit {0}
+MayChoose s (Naming named) choices = IfSome choices.given (IsFresh s)
+MayChoose s (Asking ask lent refused) choices =
+    IfSome choices.answer (IsAnswer (figures_at s.zone.pools ask.pool) ask.units)
 
-abbrev pub IsAllowed : State → Course → Choices → Type 0
-IsAllowed z (Ignoring cause) choices = Unit {0}
-IsAllowed z (Serving source plan) choices = MayChoose z plan choices
+-- the entry that is dropped for a request is over, and a request is served again when that is due
+abbrev pub IsTimely : State → ℕ → Option ℕ → Occasion → Type 0
+IsTimely s now dropped First = IfSome dropped (Passes (is_over now) s.kept)
+IsTimely s now dropped (Again born left) = IsDueIn s now (Retry born)
 
--- From z, the event has this outcome and leaves the zone so, by choices that may be made.
-pub record Step (z : State) (event : Event) (outcome : Outcome) (after : State) : Type 0 where
-  pub allowed : IsAllowed z (course z event) (choices_of outcome)
-  pub makes : machine z event (choices_of outcome) ≡ Some (outcome, after)
+-- What may be chosen: no place is found for a reply only where nothing that is kept is over; what is
+-- done is due; and only where nothing is due, nothing is done.
+abbrev pub IsAllowed : State → ℕ → Course → Choices → Type 0
+IsAllowed s now (Ignoring Busy) choices = NonePasses (is_over now) s.kept
+IsAllowed s now (Ignoring other) choices = Unit {0}
+IsAllowed s now (Hearing endpoint) choices = Unit {0}
+IsAllowed s now (Repeating source reply) choices = Unit {0}
+IsAllowed s now (Serving task) choices =
+    IsTimely s now task.dropped task.job.occasion × MayChoose s task.plan choices
+IsAllowed s now (Doing item) choices = IsDueIn s now item
+IsAllowed s now Idle choices = IsNothingDueIn s now
+
+-- From s, the event has this outcome and leaves the state so, by choices that may be made.
+pub record Step (s : State) (event : Event) (outcome : Outcome) (after : State) : Type 0 where
+  pub allowed : IsAllowed s (moment_of s event) (course s event (choices_of outcome)) (choices_of outcome)
+  pub makes : machine s event (choices_of outcome) ≡ Some (outcome, after)
 
 -- step after step, over entries of an event with its outcome
 abbrev pub Run : State → List (Event × Outcome) → State → Type 0
@@ -54,8 +96,8 @@ ask_in_plan (Naming named) = None
 ask_in_plan (Asking ask lent refused) = Some ask
 
 abbrev pub ask_in : Course → Option Ask
-ask_in (Ignoring cause) = None
-ask_in (Serving source plan) = ask_in_plan plan
+ask_in (Serving task) = ask_in_plan task.plan
+ask_in other = None
 
 -- The pool that was asked has that request, with the answer, as its last one; the last requests of all
 -- others stay, and all stay where none was asked.
@@ -73,20 +115,69 @@ abbrev pub HasFewOctets : Option Datagram → Type 0
 HasFewOctets None = Unit {0}
 HasFewOctets (Some datagram) = length datagram.bytes ≤ 20000
 
--- What a course comes to in a running zone, before the clock and the number of steps are set.
-pub record Does (old : Running) (c : Course) (outcome : Outcome) (new : Running) : Type 0 where
-  pub allowed : IsAllowed old.state c (choices_of outcome)
-  pub makes : course_answer old.state c (choices_of outcome) ≡ Some (outcome, new.state)
+-- What a course comes to, before the clock and the number of steps are set.
+pub record Does (old : Running) (now : ℕ) (c : Course) (outcome : Outcome) (new : Running) : Type 0 where
+  pub allowed : IsAllowed old.state now c (choices_of outcome)
+  pub makes : course_answer old.state now c (choices_of outcome) ≡ Some (outcome, new.state)
   pub lasts : new.lasts ≡ lasts_after old.lasts (ask_in c) outcome.answer
-  pub counts : CountsOneMore old.state.pools new.state.pools
+  pub counts : CountsOneMore old.state.zone.pools new.state.zone.pools
+  pub births : AreBornBefore old.state.steps old.state.kept
+      → AreBornBefore (old.state.steps + 1) new.state.kept
   pub few : HasFewOctets outcome.output
 
--- a request about a call, or a sign of life
+-- a datagram whose request is served as it comes has an entry, or finds a place for one
+pub record HasPlace (s : State) (now : ℕ) (key : KeptKey) : Type 0 where
+  pub place : get s.kept key ≡ None → len s.kept ≡ s.zone.config.kept
+      → NonePasses (is_over now) s.kept → ⊥
+
+-- one whose request is served again has an entry, of a request that waits and is due
+pub record IsWaiting (s : State) (now : ℕ) (key : KeptKey) (born left : ℕ) : Type 0 where
+  pub there : IsSomeAnd (get s.kept key) (λ entry. left_in entry.state ≡ left)
+  pub due : IsDueIn s now (Retry born)
+
+abbrev pub IsOccasion : State → ℕ → KeptKey → Occasion → Type 0
+IsOccasion s now key First = HasPlace s now key
+IsOccasion s now key (Again born left) = IsWaiting s now key born left
+
+-- a request may be served now
+abbrev pub IsJob : State → ℕ → Job → Type 0
+IsJob s now job = IsOccasion s now job.key job.occasion
+
+-- a request that is served makes this of the gatekeeper
+abbrev pub Serves : Running → ℕ → Job → Request → Outcome → Running → Type 0
+Serves old now job request outcome new =
+    (plan : Plan) → plan_of old.state.zone now request ≡ Some plan
+    → Does old now (serving job outcome.dropped now request plan) outcome new
+
+-- an entry is dropped for the reply to a request exactly where its datagram has none and there is no
+-- other place
+abbrev pub DropsFor : State → Job → Option ℕ → Type 0
+DropsFor s job dropped =
+    IsDropped (record { kept = s.kept; most = s.zone.config.kept; room = 0 })
+    job.key job.occasion dropped
+
+-- a request, which is answered
+abbrev pub IsServed : Request → Type 0
+IsServed (Irr seq endpoint) = ⊥
+IsServed other = Unit {0}
+
+-- a request about a call
 abbrev pub IsAboutCalls : Request → Type 0
-IsAboutCalls (Grq seq gatekeeper) = ⊥
-IsAboutCalls (Rrq seq call_signal ras aliases gatekeeper time_to_live keep_alive endpoint) = ⊥
-IsAboutCalls (Urq seq call_signal endpoint) = ⊥
 IsAboutCalls (Arq seq endpoint dest dest_address asked call answer) = Unit {0}
 IsAboutCalls (Brq seq endpoint call asked) = Unit {0}
 IsAboutCalls (Drq seq endpoint call) = Unit {0}
-IsAboutCalls (Irr seq endpoint) = Unit {0}
+IsAboutCalls other = ⊥
+
+-- this request may be served again, and that is what is to be done
+pub record IsAgain (s : State) (now born : ℕ) (job : Job) (request : Request) : Type 0 where
+  pub job_may : IsJob s now job
+  pub served : IsServed request
+  pub left : ℕ
+  pub occasion : job.occasion ≡ Again born left
+  pub course : (plan : Plan) → plan_of s.zone now request ≡ Some plan
+      → retry_course s now born (get (births s.kept) born) ≡ serving job None now request plan
+
+-- or nothing is
+abbrev pub IsWaitingRequest : State → ℕ → ℕ → Option (Job × Request) → Type 0
+IsWaitingRequest s now born None = retry_course s now born (get (births s.kept) born) ≡ Doing (Retry born)
+IsWaitingRequest s now born (Some found) = IsAgain s now born found.0 found.1

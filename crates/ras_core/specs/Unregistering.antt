@@ -8,17 +8,17 @@ use Rattle.registrations.specs.declared.registration.Registration.{Registration}
 use Rattle.registrations.specs.Registry.{at_address}
 use Rattle.ras_core.specs.declared.registering.Unregistering.{Unregistering}
 use Rattle.admission.specs.Calls.{legs_of}
-use Rattle.ras_core.specs.State.{State, with_live}
+use Rattle.ras_core.specs.State.{Zone, with_live}
 use Rattle.ras_core.specs.Plans.{Plan, Settled, unchanged}
 
 -- by the identifier where one is given, and else by the call signal address
-abbrev pub leaving : State → Option (List ℕ) → Option Address → Option Registration
+abbrev pub leaving : Zone → Option (List ℕ) → Option Address → Option Registration
 leaving z (Some id) call_signal = get z.live id
 leaving z None (Some call_signal) = at_address z.live call_signal
 leaving z None None = None
 
 -- the whole registration goes, but not while the endpoint is in a call
-abbrev pub departure : State → ℕ → Option Registration → Plan
+abbrev pub departure : Zone → ℕ → Option Registration → Plan
 departure z seq None = Settled (unchanged z (Urj seq NotCurrentlyRegistered))
 departure z seq (Some r) =
     if nat_lt 0 (legs_of z.calls r.identifier)
@@ -26,5 +26,5 @@ departure z seq (Some r) =
     else Settled (record { reply = Ucf seq; zone = with_live z (remove z.live r.identifier) })
 
 -- a URQ
-abbrev pub unregistration : State → Unregistering → Plan
+abbrev pub unregistration : Zone → Unregistering → Plan
 unregistration z q = departure z q.seq (leaving z q.endpoint q.call_signal)

@@ -7,35 +7,35 @@ ghost use Rattle.ras_core.specs.Admission.{admission, destination, entering_call
 ghost use Rattle.ras_core.specs.Admission.{taking_part};
 ghost use Rattle.ras_core.specs.Networks.{pool_of};
 ghost use Rattle.ras_core.specs.Bandwidth.{room, wanted};
-ghost use Rattle.ras_core.specs.Changes.{Concludes, Decides};
+ghost use Rattle.ras_core.specs.Changes.{Concludes, Decides, IsFor};
 
 use crate::calling::Admission;
 use crate::change::{CallChange, Change, Conclusion, Decision, Purpose, Question};
-use crate::machine::Machine;
+use crate::services::Services;
 use crate::moment::Moment;
 use admission::{Call, Leg};
 use pools::Pool;
 use ras_module::{Address, AdmissionRejectReason, Reply};
 use registrations::Registration;
 
-impl<P: Pool> Machine<P> {
+impl<P: Pool> Services<P> {
     /// The units that the zone has left.
     pub(crate) fn room(&self) -> u64
-        ensures { result ≡ room self.now.state }
+        ensures { result ≡ room self.now.zone }
     {
         self.config.parts().limit - self.bandwidth.in_use()
     }
 
     /// The units that are asked for, but no more than a call may have.
     pub(crate) fn wanted(&self, asked: u32) -> u32
-        ensures { result ≡ wanted self.now.state asked }
+        ensures { result ≡ wanted self.now.zone asked }
     {
         asked.min(self.config.call_limit())
     }
 
     /// The address that an endpoint is told to call.
     fn destination(&self, q: &Admission, caller: &Registration) -> Option<Address>
-        ensures { result ≡ destination self.now.state q.now caller.now }
+        ensures { result ≡ destination self.now.zone q.now caller.now }
     {
         if q.answer {
             return Some(caller.call_signal);
@@ -45,10 +45,11 @@ impl<P: Pool> Machine<P> {
 
     /// The second endpoint joins a call that is there.
     fn join(&self, now: Moment, q: &Admission, call: &Call, told: Address) -> Decision
-        requires endpoint { IsSome (fin.get self.now.state.live q.now.endpoint) }
-        requires call { fin.get self.now.state.calls q.now.call ≡ Some call.now }
+        requires endpoint { IsSome (fin.get self.now.zone.live q.now.endpoint) }
+        requires call { fin.get self.now.zone.calls q.now.call ≡ Some call.now }
         requires leg { leg_of call.now.legs q.now.endpoint ≡ None }
-        ensures { Decides self.now.state now (joining self.now.state q.now call.now told) result }
+        ensures decides { Decides self.now.zone now (joining self.now.zone q.now call.now told) result }
+        ensures given { result.given ≡ None }
     {
         if call.legs.are_two() {
             return denial(q, AdmissionRejectReason::ResourceUnavailable);
@@ -65,10 +66,12 @@ impl<P: Pool> Machine<P> {
 
     /// An endpoint makes a call.
     fn make(&self, now: Moment, q: &Admission, pool: usize, told: Address) -> Conclusion
-        requires endpoint { IsSome (fin.get self.now.state.live q.now.endpoint) }
-        requires call { fin.get self.now.state.calls q.now.call ≡ None }
-        requires pool { pool < length self.now.state.pools }
-        ensures { Concludes self.now.state now (making self.now.state q.now pool told) result }
+        requires endpoint { IsSome (fin.get self.now.zone.live q.now.endpoint) }
+        requires call { fin.get self.now.zone.calls q.now.call ≡ None }
+        requires pool { pool < length self.now.zone.pools }
+        ensures concludes { Concludes self.now.zone now
+            (making self.now.zone q.now pool told) result }
+        ensures about { IsFor q.now.seq result }
     {
         if self.bandwidth.len() == self.config.calls() {
             let denial = denial(q, AdmissionRejectReason::ResourceUnavailable);
@@ -93,11 +96,12 @@ impl<P: Pool> Machine<P> {
 
     /// An endpoint enters a call that is there.
     fn enter_call(&self, now: Moment, q: &Admission, caller: &Registration, call: &Call) -> Decision
-        requires endpoint { fin.get self.now.state.live q.now.endpoint ≡ Some caller.now }
-        requires call { fin.get self.now.state.calls q.now.call ≡ Some call.now }
-        ensures { Decides self.now.state now
-            (taking_part self.now.state q.now caller.now call.now
+        requires endpoint { fin.get self.now.zone.live q.now.endpoint ≡ Some caller.now }
+        requires call { fin.get self.now.zone.calls q.now.call ≡ Some call.now }
+        ensures decides { Decides self.now.zone now
+            (taking_part self.now.zone q.now caller.now call.now
             (leg_of call.now.legs q.now.endpoint)) result }
+        ensures given { result.given ≡ None }
     {
         if let Some(leg) = call.legs.get(&q.endpoint) {
             return Decision::reply(Reply::Acf {
@@ -114,10 +118,11 @@ impl<P: Pool> Machine<P> {
 
     /// An endpoint makes a call that isn't there yet.
     fn make_call(&self, now: Moment, q: &Admission, caller: &Registration) -> Conclusion
-        requires endpoint { fin.get self.now.state.live q.now.endpoint ≡ Some caller.now }
-        requires call { fin.get self.now.state.calls q.now.call ≡ None }
-        ensures { Concludes self.now.state now
-            (entering_call self.now.state q.now caller.now None) result }
+        requires endpoint { fin.get self.now.zone.live q.now.endpoint ≡ Some caller.now }
+        requires call { fin.get self.now.zone.calls q.now.call ≡ None }
+        ensures concludes { Concludes self.now.zone now
+            (entering_call self.now.zone q.now caller.now None) result }
+        ensures about { IsFor q.now.seq result }
     {
         match self.destination(q, caller) {
             None => Conclusion::Decided(denial(q, AdmissionRejectReason::CalledPartyNotRegistered)),
@@ -127,15 +132,16 @@ impl<P: Pool> Machine<P> {
 
     /// The pool that serves the calls of an endpoint with this address.
     fn pool_of(&self, address: Address) -> usize
-        ensures pool { result ≡ pool_of self.now.state.config.networks address.ip }
-        ensures few { result < length self.now.state.pools }
+        ensures pool { result ≡ pool_of self.now.zone.config.networks address.ip }
+        ensures few { result < length self.now.zone.pools }
     {
         self.config.parts().networks.pool_of(address.ip)
     }
 
     /// What is decided about an AdmissionRequest.
     pub(crate) fn admit(&self, now: Moment, q: &Admission) -> Conclusion
-        ensures { Concludes self.now.state now (admission self.now.state q.now) result }
+        ensures concludes { Concludes self.now.zone now (admission self.now.zone q.now) result }
+        ensures about { IsFor q.now.seq result }
     {
         let Some(caller) = self.endpoints.get(&q.endpoint) else {
             let denial = denial(q, AdmissionRejectReason::InvalidEndpointIdentifier);

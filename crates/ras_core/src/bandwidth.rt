@@ -12,6 +12,7 @@ ghost use Rattle.ras_core.specs.Pools.{pools_after_answer, pools_after_end, pool
 ghost use Rattle.ras_core.specs.Changes.{IsCallChange, IsEnterable, IsJoinable, IsLowerable, IsOpenable, IsQuestion};
 ghost use Rattle.ras_core.specs.Changes.{ask_of, calls_after, calls_after_answer, pools_after};
 ghost use Rattle.ras_core.specs.Parts.{IsBacked, with_usage};
+ghost use Rattle.ras_core.specs.Leaving.{HaveLeft};
 ghost use Rattle.ras_core.specs.Soundness.{HasCounts};
 ghost use Rattle.ras_core.specs.Steps.{lasts_after};
 
@@ -109,6 +110,13 @@ impl<P: Pool> Bandwidth<P> {
         self.calls.leg(key, endpoint)
     }
 
+    /// The table of the calls.
+    pub fn table(&self) -> &Calls
+        ensures { result.now.calls ≡ self.now.usage.calls }
+    {
+        &self.calls
+    }
+
     /// In how many calls an endpoint has a leg.
     pub fn legs_of(&self, endpoint: &EndpointId) -> usize
         ensures { result ≡ legs_of self.now.usage.calls endpoint.now }
@@ -203,6 +211,24 @@ impl<P: Pool> Bandwidth<P> {
         if let Some((pool, units)) = left.ended {
             self.pools.take_back(pool, u64::from(units));
         }
+    }
+
+    /// An endpoint leaves all its calls.
+    pub fn leave_all(&mut self, endpoint: &EndpointId)
+        ensures left { HaveLeft endpoint.now self.old.usage self.new.usage }
+        ensures lasts { self.new.lasts ≡ self.old.lasts }
+    {
+        while let Some(call) = self.calls.call_of(endpoint) {
+            self.leave(&call, endpoint);
+        }
+        let _sound = self.len();
+    }
+
+    /// The pools make a turn.
+    pub fn turn(&mut self)
+        ensures { self.new ≡ self.old }
+    {
+        self.pools.turn();
     }
 
     /// Asks a pool for units for a call, which opens with them or gets them where they are lent. This

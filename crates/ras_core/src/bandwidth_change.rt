@@ -3,21 +3,23 @@
 ghost use Rattle.std.specs.Prelude.{◌≡◌, ◌≤◌, ◌-◌, None, Some};
 ghost use Rattle.std.specs.FinMap as fin;
 ghost use Rattle.ras_core.specs.Bandwidth.{bandwidth, resizing};
-ghost use Rattle.ras_core.specs.Changes.{Concludes};
+ghost use Rattle.ras_core.specs.Changes.{Concludes, IsFor};
 
 use crate::calling::BandwidthChange;
 use crate::change::{CallChange, Change, Conclusion, Decision, Purpose, Question};
-use crate::machine::Machine;
+use crate::services::Services;
 use crate::moment::Moment;
 use admission::Call;
 use pools::Pool;
 use ras_module::{BandRejectReason, Reply};
 
-impl<P: Pool> Machine<P> {
+impl<P: Pool> Services<P> {
     /// A call gives units back, or its pool is asked for more.
     fn resize(&self, now: Moment, q: &BandwidthChange, call: &Call) -> Conclusion
-        requires call { fin.get self.now.state.calls q.now.call ≡ Some call.now }
-        ensures { Concludes self.now.state now (resizing self.now.state q.now call.now) result }
+        requires call { fin.get self.now.zone.calls q.now.call ≡ Some call.now }
+        ensures concludes { Concludes self.now.zone now
+            (resizing self.now.zone q.now call.now) result }
+        ensures about { IsFor q.now.seq result }
     {
         let _backed = self.bandwidth.len();
         let wanted = self.wanted(q.asked);
@@ -40,7 +42,8 @@ impl<P: Pool> Machine<P> {
 
     /// What is decided about a BandwidthRequest.
     pub(crate) fn change_bandwidth(&self, now: Moment, q: &BandwidthChange) -> Conclusion
-        ensures { Concludes self.now.state now (bandwidth self.now.state q.now) result }
+        ensures concludes { Concludes self.now.zone now (bandwidth self.now.zone q.now) result }
+        ensures about { IsFor q.now.seq result }
     {
         if self.endpoints.get(&q.endpoint).is_none() {
             return Conclusion::Decided(rejection(q, BandRejectReason::NotBound, 0));

@@ -1,6 +1,9 @@
 //! What requests about calls ask for.
 
-use ras_module::{Address, AliasList, CallKey, EndpointId, RequestSeqNum};
+ghost use Rattle.std.specs.Prelude.{◌≡◌};
+ghost use Rattle.ras_core.specs.Requests.{arq_of, brq_of};
+
+use ras_module::{Address, AliasList, CallKey, EndpointId, Request, RequestSeqNum};
 
 /// An AdmissionRequest (H.225.0, ARQ).
 #[derive(Drop)]
@@ -14,6 +17,32 @@ pub struct Admission {
     pub answer: bool,
 }
 
+impl Admission {
+    /// The request itself.
+    pub fn into_request(self) -> Request
+        ensures { result ≡ arq_of self }
+    {
+        let Admission {
+            seq,
+            endpoint,
+            dest,
+            dest_address,
+            asked,
+            call,
+            answer,
+        } = self;
+        Request::Arq {
+            seq,
+            endpoint,
+            dest,
+            dest_address,
+            asked,
+            call,
+            answer,
+        }
+    }
+}
+
 /// A BandwidthRequest (H.225.0, BRQ).
 #[derive(Clone, Copy)]
 pub struct BandwidthChange {
@@ -21,6 +50,20 @@ pub struct BandwidthChange {
     pub endpoint: EndpointId,
     pub call: CallKey,
     pub asked: u32,
+}
+
+impl BandwidthChange {
+    /// The request itself.
+    pub fn into_request(self) -> Request
+        ensures { result ≡ brq_of self }
+    {
+        Request::Brq {
+            seq: self.seq,
+            endpoint: self.endpoint,
+            call: self.call,
+            asked: self.asked,
+        }
+    }
 }
 
 /// A DisengageRequest (H.225.0, DRQ).

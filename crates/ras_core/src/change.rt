@@ -1,12 +1,13 @@
 //! What is decided about a request, before anything changes.
 
 ghost use Rattle.std.specs.Prelude.{◌≡◌, None};
-ghost use Rattle.ras_core.specs.Changes.{granted_reply, refused_reply, IsBandWidth};
+ghost use Rattle.ras_core.specs.Changes.{granted_reply, refused_reply, reply_of, IsAnswered, IsBandWidth};
 
 use crate::registering::Entry;
 use admission::Leg;
+use pools::Lend;
 use ras_module::{
-    AdmissionRejectReason, BandRejectReason, CallKey, EndpointId, Reply, RequestSeqNum,
+    AdmissionRejectReason, BandRejectReason, CallKey, Delay, EndpointId, Reply, RequestSeqNum,
 };
 use registrations::Registration;
 
@@ -126,6 +127,25 @@ impl Question {
                 reason: BandRejectReason::InsufficientResources,
                 allowed: had,
             },
+        }
+    }
+}
+
+impl Question {
+    /// The reply after a pool's answer, or that the request is in progress.
+    pub fn reply(&self, answer: Lend, waits: bool, delay: Delay) -> Reply
+        requires { IsAnswered self.now answer }
+        ensures { result ≡ reply_of self.now answer waits delay }
+    {
+        if waits {
+            return Reply::Rip {
+                seq: self.seq,
+                delay,
+            };
+        }
+        match answer {
+            Lend::Lent(units) => self.granted(units as u32),
+            Lend::Refused | Lend::Wait => self.refused(),
         }
     }
 }

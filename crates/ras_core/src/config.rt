@@ -5,9 +5,14 @@ ghost use Rattle.std.specs.Option.{option_copied};
 ghost use Rattle.ras_core.specs.Ranges.{config_fault_number, is_outside, range_fault};
 ghost use Rattle.ras_core.specs.Ranges.{IsConfig, IsConfigAnswer};
 ghost use Rattle.ras_core.specs.Defaults.{default_parts};
+ghost use Rattle.ras_core.specs.Keeping.{term_of};
+ghost use Rattle.ras_core.specs.Turns.{times_of};
 
+use crate::keeping::Term;
+use crate::moment::Moment;
 use crate::network::Networks;
-use ras_module::{Address, Name, TimeToLive};
+use expiry::Times;
+use ras_module::{Address, Delay, Name, TimeToLive};
 use std::marker::Model;
 use thiserror::Error;
 
@@ -216,6 +221,56 @@ impl Config {
         ensures few { result ≤ 20000 }
     {
         self.parts.calls as usize
+    }
+
+    /// How many replies are kept.
+    pub(crate) fn kept(&self) -> usize
+        ensures same { result ≡ self.now.kept }
+        ensures some { 1 ≤ result }
+        ensures few { result ≤ 65536 }
+    {
+        self.parts.kept as usize
+    }
+
+    /// After how long a request in progress is served again.
+    pub(crate) fn delay(&self) -> Delay
+        ensures { result ≡ self.now.delay }
+    {
+        Delay::new(self.parts.delay as u16).unwrap()
+    }
+
+    /// Until when the reply to a request of this moment is kept, and when and how often one that
+    /// waits is served again.
+    pub(crate) fn term(&self, now: Moment) -> Term
+        ensures same { result ≡ term_of self.now now }
+        ensures some { 1 ≤ result.times }
+    {
+        let start = now.milliseconds();
+        Term {
+            until: start + self.parts.window,
+            retry: start + self.parts.delay,
+            times: self.parts.retries,
+        }
+    }
+
+    /// How long it is from one turn of the pools to the next.
+    pub(crate) fn pool_turn(&self) -> u64
+        ensures same { result ≡ self.now.pool_turn }
+        ensures small { result ≤ 86400000 }
+    {
+        self.parts.pool_turn
+    }
+
+    /// How long an endpoint in a call may be silent.
+    pub(crate) fn times(&self) -> Times
+        ensures same { result ≡ times_of self.now }
+        ensures asks { result.asks ≤ 16 }
+    {
+        Times {
+            silence: self.parts.silence,
+            asks: self.parts.asks as u8,
+            ask_wait: self.parts.ask_wait,
+        }
     }
 
     /// The bandwidth of one call.

@@ -3,14 +3,14 @@
 ghost use Rattle.std.specs.Prelude.{◌≡◌};
 ghost use Rattle.ras_core.specs.Discovery.{discovery, is_foreign};
 
-use crate::machine::Machine;
+use crate::services::Services;
 use pools::Pool;
 use ras_module::{GatekeeperRejectReason, Name, Reply, RequestSeqNum};
 
-impl<P: Pool> Machine<P> {
+impl<P: Pool> Services<P> {
     /// Whether another gatekeeper than this one is named.
     pub(crate) fn is_foreign(&self, name: &Option<Name>) -> bool
-        ensures { result ≡ is_foreign self.now.state name.now }
+        ensures { result ≡ is_foreign self.now.zone name.now }
     {
         match name {
             None => false,
@@ -20,7 +20,7 @@ impl<P: Pool> Machine<P> {
 
     /// What a GatekeeperRequest is answered.
     pub(crate) fn discover(&self, seq: RequestSeqNum, gatekeeper: &Option<Name>) -> Reply
-        ensures { result ≡ discovery self.now.state seq gatekeeper.now }
+        ensures { result ≡ discovery self.now.zone seq gatekeeper.now }
     {
         if self.is_foreign(gatekeeper) {
             return Reply::Grj {

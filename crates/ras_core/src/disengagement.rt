@@ -6,15 +6,16 @@ ghost use Rattle.ras_core.specs.Changes.{Decides};
 
 use crate::calling::Disengagement;
 use crate::change::{CallChange, Change, Decision};
-use crate::machine::Machine;
+use crate::services::Services;
 use crate::moment::Moment;
 use pools::Pool;
 use ras_module::{DisengageRejectReason, Reply};
 
-impl<P: Pool> Machine<P> {
+impl<P: Pool> Services<P> {
     /// What is decided about a DisengageRequest.
     pub(crate) fn disengage(&self, now: Moment, q: &Disengagement) -> Decision
-        ensures { Decides self.now.state now (disengagement self.now.state q.now) result }
+        ensures decides { Decides self.now.zone now (disengagement self.now.zone q.now) result }
+        ensures given { result.given ≡ None }
     {
         if self.endpoints.get(&q.endpoint).is_none() {
             return rejection(q, DisengageRejectReason::NotRegistered);

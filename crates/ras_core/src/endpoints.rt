@@ -1,12 +1,13 @@
 //! The endpoints of a zone, with the table of their aliases.
 
-ghost use Rattle.std.specs.Prelude.{◌≡◌, ◌≤◌, [], IsSome, IfOk, OnOk, OnErr};
-ghost use Rattle.std.specs.Option.{option_copied};
+ghost use Rattle.std.specs.Prelude.{◌≡◌, ◌≤◌, ◌<◌, [], IsSome, IfOk, OnOk, OnErr};
+ghost use Rattle.std.specs.Option.{option_copied, IsSomeAnd};
 ghost use Rattle.std.specs.FinMap as map;
 ghost use Rattle.keyed.specs.Maps.{update};
-ghost use Rattle.registrations.specs.Registry.{at_address, IsConsistent, IsListOf, IsUnused, with_deadline};
+ghost use Rattle.registrations.specs.Registry.{at_address, IsConsistent, IsListOf, after_ask, after_calm, with_deadline};
 ghost use Rattle.registrations.specs.Agreement.{registered_elsewhere};
 ghost use Rattle.ras_core.specs.State.{heard_now};
+ghost use Rattle.ras_core.specs.Fresh.{IsFreshFor};
 ghost use Rattle.ras_core.specs.Admission.{registered_with, translation};
 ghost use Rattle.ras_core.specs.Changes.{IsAddable, IsEndpointChange, IsRewritable, after_endpoint_change};
 ghost use Rattle.ras_core.specs.Soundness.{HaveAliasesApart};
@@ -15,6 +16,7 @@ use crate::change::EndpointChange;
 use crate::moment::Moment;
 use crate::registering::Entry;
 use aliases::AliasTable;
+use kept_replies::Kept;
 use ras_module::{Address, Alias, AliasList, EndpointId};
 use registrations::{Registration, RegistrationList, Registrations};
 use std::alloc::{AllocError, Global};
@@ -107,11 +109,12 @@ impl Endpoints {
         self.registrations.get(self.aliases.holder(alias)?)
     }
 
-    /// An identifier that may be handed out.
-    pub fn unused(&self) -> EndpointId
-        ensures { IsUnused self.now.live [] result }
+    /// An identifier that may be handed out, where these replies are kept.
+    pub fn unused(&self, kept: &Kept) -> Result<EndpointId, AllocError>
+        ensures { IfOk result (IsFreshFor self.now.live kept.now.kept) }
     {
-        self.registrations.unused(&[])
+        let named = kept.identifiers()?;
+        Ok(self.registrations.unused(&named))
     }
 
     /// Copies, by rising identifier.
@@ -121,6 +124,13 @@ impl Endpoints {
         self.registrations.list()
     }
 
+    /// The table of the registrations.
+    pub fn table(&self) -> &Registrations
+        ensures { result.now.live ≡ self.now.live }
+    {
+        &self.registrations
+    }
+
     /// Notes that an endpoint was heard, if it is registered.
     pub fn hear(&mut self, now: Moment, id: &EndpointId)
         ensures live { self.new.live ≡ heard_now now id.now self.old.live }
@@ -128,6 +138,25 @@ impl Endpoints {
     {
         if self.registrations.get(id).is_some() {
             self.registrations.hear(id, now.milliseconds());
+        }
+    }
+
+    /// Notes that an endpoint is asked for a sign of life now.
+    pub fn ask(&mut self, now: Moment, id: &EndpointId)
+        requires { IsSomeAnd (map.get self.old.live id.now) (λ r. r.tries < 16) }
+        ensures live { self.new.live ≡ update self.old.live id.now (after_ask now) }
+        ensures most { self.new.most ≡ self.old.most }
+    {
+        self.registrations.asked(id, now.milliseconds());
+    }
+
+    /// Counts an endpoint's tries anew, if it is registered.
+    pub fn calm(&mut self, id: &EndpointId)
+        ensures live { self.new.live ≡ update self.old.live id.now after_calm }
+        ensures most { self.new.most ≡ self.old.most }
+    {
+        if self.registrations.get(id).is_some() {
+            self.registrations.calm(id);
         }
     }
 
@@ -201,7 +230,8 @@ impl Endpoints {
         Ok(())
     }
 
-    fn remove(&mut self, id: &EndpointId)
+    /// Takes an endpoint out, if it is registered.
+    pub fn remove(&mut self, id: &EndpointId)
         ensures live { self.new.live ≡ map.remove self.old.live id.now }
         ensures most { self.new.most ≡ self.old.most }
     {

@@ -3,6 +3,7 @@
 #![tactic(auto)]
 
 mod admitting;
+mod answering;
 mod bandwidth;
 mod bandwidth_change;
 mod calling;
@@ -13,16 +14,21 @@ mod disengagement;
 mod endpoints;
 mod event;
 mod fault;
+mod job;
+mod keeping;
 mod machine;
 mod moment;
 mod network;
 mod outcome;
 mod registering;
 mod registration;
+mod services;
 mod serving;
+mod turns;
 mod unregistration;
 mod zone;
 
+pub use expiry::DueItem;
 pub use config::{Config, ConfigFault, ConfigParts};
 pub use event::Event;
 pub use fault::{NewFault, StepFault};

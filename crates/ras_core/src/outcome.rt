@@ -1,7 +1,8 @@
 //! What a step answers.
 
-ghost use Rattle.std.specs.Prelude.{◌≡◌, None, Some};
+ghost use Rattle.std.specs.Prelude.{◌≡◌, None};
 
+use expiry::DueItem;
 use pools::Lend;
 use ras_module::{EndpointId, Octets, Source};
 
@@ -21,59 +22,69 @@ pub enum IgnoredCause {
     Unreadable = 2,
     /// It is a message that the gatekeeper doesn't serve.
     NotServed = 3,
+    /// As many replies are kept as may be, and none of them is over.
+    Busy = 4,
+    /// It is a sign of life of an endpoint that isn't registered.
+    UnknownEndpoint = 5,
 }
 
 /// What happened in a step.
-#[derive(Clone, Copy, Debug, PartialEq, Eq)]
+#[derive(Clone, Copy, PartialEq, Eq)]
 pub enum Note {
-    /// The datagram's request was served.
+    /// The datagram's request was served, or the endpoint's sign of life was heard.
     Served,
+    /// The datagram came before: its kept reply was sent again.
+    Kept,
     /// The datagram was ignored.
     Ignored(IgnoredCause),
+    /// This was due, and was done.
+    Done(DueItem),
+    /// Nothing was due.
+    Idle,
 }
 
-/// What a step did: what the pool answered that was asked, what is sent, what happened, and the
-/// identifier that was handed out to a new endpoint.
+/// What a step did: what the pool answered that was asked, what is sent, what happened, the birth of
+/// the kept entry that was dropped for a reply, and the identifier that was handed out to a new
+/// endpoint.
 #[derive(PartialEq, Eq, Drop)]
 pub struct Outcome {
     pub answer: Option<Lend>,
     pub output: Option<Datagram>,
     pub note: Note,
+    pub dropped: Option<u64>,
     pub given: Option<EndpointId>,
 }
 
 impl Outcome {
+    /// No request was served.
+    pub(crate) fn noted(note: Note, output: Option<Datagram>) -> Self
+        ensures { result ≡ record {
+          answer = None;
+          output = output;
+          note = note;
+          dropped = None;
+          given = None;
+        } }
+    {
+        Outcome {
+            answer: None,
+            output,
+            note,
+            dropped: None,
+            given: None,
+        }
+    }
+
     /// A datagram was ignored.
     pub(crate) fn ignored(cause: IgnoredCause) -> Self
         ensures { result ≡ record {
           answer = None;
           output = None;
           note = Note.Ignored cause;
+          dropped = None;
           given = None;
         } }
     {
-        Outcome {
-            answer: None,
-            output: None,
-            note: Note::Ignored(cause),
-            given: None,
-        }
-    }
-
-    /// A request was served.
-    pub(crate) fn served(output: Datagram, given: Option<EndpointId>, answer: Option<Lend>) -> Self
-        ensures { result ≡ record {
-          answer = answer;
-          output = Some output;
-          note = Note.Served;
-          given = given;
-        } }
-    {
-        Outcome {
-            answer,
-            output: Some(output),
-            note: Note::Served,
-            given,
-        }
+        Outcome::noted(Note::Ignored(cause), None)
     }
 }

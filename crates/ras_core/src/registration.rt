@@ -1,26 +1,28 @@
 //! Registration of endpoints.
 
-ghost use Rattle.std.specs.Prelude.{◌≡◌, IfOk, None, []};
+ghost use Rattle.std.specs.Prelude.{◌≡◌, IfOk, IfSome, None, []};
 ghost use Rattle.ras_module.specs.Aliases.{without_doubles};
 ghost use Rattle.registrations.specs.Registry.{at_address};
 ghost use Rattle.registrations.specs.Agreement.{registered_elsewhere};
 ghost use Rattle.ras_core.specs.Registering.{confirmation, deadline, granted, has_moved};
 ghost use Rattle.ras_core.specs.Registering.{entering, full, keep_alive, named, registration};
 ghost use Rattle.ras_core.specs.Changes.{Decides};
+ghost use Rattle.ras_core.specs.Fresh.{IsFreshFor};
 
 use crate::change::{Change, Decision, EndpointChange};
-use crate::machine::Machine;
+use crate::services::Services;
 use crate::moment::Moment;
 use crate::registering::{Entry, Registering};
+use kept_replies::Kept;
 use pools::Pool;
 use ras_module::{Address, EndpointId, RegistrationRejectReason, Reply, ReplyAliases, TimeToLive};
 use registrations::Registration;
 use std::alloc::AllocError;
 
-impl<P: Pool> Machine<P> {
+impl<P: Pool> Services<P> {
     /// The time to live that is granted.
     fn granted(&self, asked: Option<TimeToLive>) -> TimeToLive
-        ensures { result ≡ granted self.now.state asked }
+        ensures { result ≡ granted self.now.zone asked }
     {
         let most = self.config.time_to_live();
         match asked {
@@ -31,7 +33,7 @@ impl<P: Pool> Machine<P> {
 
     /// When a registration of this moment ends, in milliseconds.
     fn deadline(&self, now: Moment, q: &Registering) -> u64
-        ensures { result ≡ deadline self.now.state now q.now }
+        ensures { result ≡ deadline self.now.zone now q.now }
     {
         let granted = self.granted(q.time_to_live);
         now.milliseconds() + 1000 * u64::from(granted.get())
@@ -44,7 +46,7 @@ impl<P: Pool> Machine<P> {
         aliases: ReplyAliases,
         endpoint: EndpointId,
     ) -> Reply
-        ensures { result ≡ confirmation self.now.state q.now call_signal aliases endpoint }
+        ensures { result ≡ confirmation self.now.zone q.now call_signal aliases endpoint }
     {
         Reply::Rcf {
             seq: q.seq,
@@ -58,8 +60,9 @@ impl<P: Pool> Machine<P> {
 
     /// A registration is kept alive where it is known and the endpoint hasn't moved.
     fn keep_alive(&self, now: Moment, q: &Registering) -> Result<Decision, AllocError>
-        ensures { IfOk result (Decides self.now.state now
-            (keep_alive self.now.state now q.now (named self.now.state q.now.endpoint))) }
+        ensures given { IfOk result (λ d. d.given ≡ None) }
+        ensures decides { IfOk result (Decides self.now.zone now
+            (keep_alive self.now.zone now q.now (named self.now.zone q.now.endpoint))) }
     {
         let Some(id) = q.endpoint else {
             return Ok(rejection(q, RegistrationRejectReason::FullRegistrationRequired));
@@ -78,9 +81,16 @@ impl<P: Pool> Machine<P> {
     }
 
     /// A full registration.
-    fn register_fully(&self, now: Moment, q: &Registering) -> Result<Decision, AllocError>
-        ensures { IfOk result (Decides self.now.state now (full self.now.state now q.now
+    fn register_fully(
+        &self,
+        now: Moment,
+        q: &Registering,
+        kept: &Kept,
+    ) -> Result<Decision, AllocError>
+        ensures decides { IfOk result (Decides self.now.zone now (full self.now.zone now q.now
             q.now.call_signal q.now.ras (without_doubles q.now.aliases))) }
+        ensures fresh { IfOk result (λ d.
+            IfSome d.given (IsFreshFor self.now.zone.live kept.now.kept)) }
     {
         let Some(call_signal) = q.call_signal else {
             return Ok(rejection(q, RegistrationRejectReason::InvalidCallSignalAddress));
@@ -100,7 +110,7 @@ impl<P: Pool> Machine<P> {
             ras,
             aliases,
         };
-        self.enter(now, q, entry)
+        self.enter(now, q, entry, kept)
     }
 
     /// Those of the aliases that endpoints with another call signal address hold.
@@ -110,17 +120,25 @@ impl<P: Pool> Machine<P> {
         address: Address,
     ) -> Result<ReplyAliases, AllocError>
         ensures { IfOk result (λ held.
-            held ≡ registered_elsewhere self.now.state.live address aliases.now) }
+            held ≡ registered_elsewhere self.now.zone.live address aliases.now) }
     {
         let held = self.endpoints.conflicts(aliases.as_slice(), address)?;
         Ok(ReplyAliases::new(held).unwrap())
     }
 
     /// Registers anew who has the address, or a new endpoint.
-    fn enter(&self, now: Moment, q: &Registering, entry: Entry) -> Result<Decision, AllocError>
-        requires { registered_elsewhere self.now.state.live entry.call_signal entry.aliases ≡ [] }
-        ensures { IfOk result (Decides self.now.state now (entering self.now.state now q.now entry
-            (at_address self.now.state.live entry.call_signal))) }
+    fn enter(
+        &self,
+        now: Moment,
+        q: &Registering,
+        entry: Entry,
+        kept: &Kept,
+    ) -> Result<Decision, AllocError>
+        requires { registered_elsewhere self.now.zone.live entry.call_signal entry.aliases ≡ [] }
+        ensures decides { IfOk result (Decides self.now.zone now (entering self.now.zone now q.now entry
+            (at_address self.now.zone.live entry.call_signal))) }
+        ensures fresh { IfOk result (λ d.
+            IfSome d.given (IsFreshFor self.now.zone.live kept.now.kept)) }
     {
         let told = entry.aliases.copy()?;
         let deadline = self.deadline(now, q);
@@ -134,7 +152,7 @@ impl<P: Pool> Machine<P> {
         if self.endpoints.len() == self.config.endpoints() {
             return Ok(rejection(q, RegistrationRejectReason::ResourceUnavailable));
         }
-        let identifier = self.endpoints.unused();
+        let identifier = self.endpoints.unused(kept)?;
         Ok(Decision {
             reply: self.confirmation(q, entry.call_signal, told, identifier),
             given: Some(identifier),
@@ -144,9 +162,17 @@ impl<P: Pool> Machine<P> {
         })
     }
 
-    /// What is decided about a RegistrationRequest.
-    pub(crate) fn register(&self, now: Moment, q: &Registering) -> Result<Decision, AllocError>
-        ensures { IfOk result (Decides self.now.state now (registration self.now.state now q.now)) }
+    /// What is decided about a RegistrationRequest, where these replies are kept.
+    pub(crate) fn register(
+        &self,
+        now: Moment,
+        q: &Registering,
+        kept: &Kept,
+    ) -> Result<Decision, AllocError>
+        ensures decides { IfOk result (Decides self.now.zone now
+            (registration self.now.zone now q.now)) }
+        ensures fresh { IfOk result (λ d.
+            IfSome d.given (IsFreshFor self.now.zone.live kept.now.kept)) }
     {
         if self.is_foreign(&q.gatekeeper) {
             return Ok(rejection(q, RegistrationRejectReason::DiscoveryRequired));
@@ -154,7 +180,7 @@ impl<P: Pool> Machine<P> {
         if q.keep_alive {
             self.keep_alive(now, q)
         } else {
-            self.register_fully(now, q)
+            self.register_fully(now, q, kept)
         }
     }
 }

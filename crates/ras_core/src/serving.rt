@@ -1,25 +1,24 @@
-//! Serving requests: what was decided is carried out.
+//! Serving requests: what was decided is carried out, and its reply is kept.
 
-ghost use Rattle.std.specs.Prelude.{◌≡◌, ◌≤◌, ◌^◌, All, length, IfOk, IfSome, OnErr, OnOk, Some};
+ghost use Rattle.std.specs.Prelude.{◌≡◌, ◌≤◌, ◌^◌, All, length, IfOk, IfSome, None, OnErr, Some};
 ghost use Rattle.ras_codec.specs.Replies.{encoding_of};
-ghost use Rattle.ras_core.specs.Plans.{Plan, hearing};
-ghost use Rattle.ras_core.specs.Admission.{admission};
-ghost use Rattle.ras_core.specs.Bandwidth.{bandwidth};
-ghost use Rattle.ras_core.specs.Disengaging.{disengagement};
-ghost use Rattle.ras_core.specs.Registering.{registration};
-ghost use Rattle.ras_core.specs.Unregistering.{unregistration};
-ghost use Rattle.ras_core.specs.Machine.{Serving, request_course};
-ghost use Rattle.ras_core.specs.Changes.{Asks, Concludes, Decides, IsPossible, IsQuestion, IsRegistered, MayConclude};
-ghost use Rattle.ras_core.specs.Changes.{changed, heard, leg_of_purpose};
+ghost use Rattle.ras_core.specs.Plans.{Plan};
 ghost use Rattle.ras_core.specs.Parts.{usage_of};
-ghost use Rattle.ras_core.specs.Steps.{Does, IsAboutCalls};
-ghost use Rattle.ras_core.specs.Soundness.{HasCounts};
+ghost use Rattle.ras_core.specs.Keeping.{Task, plan_at};
+ghost use Rattle.ras_core.specs.Machine.{Serving};
+ghost use Rattle.ras_core.specs.Changes.{Asks, Concludes, Decides, IsPossible, IsQuestion, IsRegistered};
+ghost use Rattle.ras_core.specs.Changes.{MayConclude, leg_of_purpose};
+ghost use Rattle.ras_core.specs.Requests.{arq_of, brq_of, drq_of, rrq_of, seq_of, urq_of};
+ghost use Rattle.ras_core.specs.Steps.{Does, DropsFor, IsAboutCalls, IsFresh, IsJob, IsServed, Serves};
+ghost use Rattle.ras_core.specs.Soundness.{AreBornBefore, HasCounts};
 
 use crate::calling::{Admission, BandwidthChange, Disengagement};
-use crate::change::{Change, Conclusion, Decision, Question};
+use crate::change::{Conclusion, Decision, Question};
+use crate::job::Job;
+use crate::keeping::{keep, keep_reply, reserve};
 use crate::machine::Machine;
 use crate::moment::Moment;
-use crate::outcome::{Datagram, IgnoredCause, Note, Outcome};
+use crate::outcome::{Datagram, Outcome};
 use crate::registering::{Registering, Unregistering};
 use pools::{Lend, Pool};
 use ras_codec::write_into;
@@ -31,12 +30,12 @@ const SHORT_REPLY: usize = 64;
 
 impl<P: Pool> Machine<P> {
     /// The datagram in which this reply is sent.
-    fn datagram(&self, to: Source, reply: &Reply) -> Result<Datagram, AllocError>
+    pub(crate) fn datagram(&self, to: Source, reply: &Reply) -> Result<Datagram, AllocError>
         ensures encoded { IfOk result (λ datagram.
             datagram ≡ record { to = to; bytes = encoding_of reply.now }) }
         ensures few { IfOk result (λ datagram. length datagram.bytes ≤ 20000) }
     {
-        let mut bytes = Vec::with_capacity(self.alloc, reply.room())?;
+        let mut bytes = Vec::with_capacity(self.services.allocator(), reply.room())?;
         write_into(reply, &mut bytes)?;
         Ok(Datagram {
             to,
@@ -44,40 +43,28 @@ impl<P: Pool> Machine<P> {
         })
     }
 
-    /// Notes that the endpoint was heard that a request names, if it is registered.
-    fn hear(&mut self, now: Moment, endpoint: Option<EndpointId>)
-        ensures { self.new ≡ heard self.old now endpoint }
-    {
-        if let Some(id) = endpoint {
-            self.endpoints.hear(now, &id);
-        }
-    }
-
-    /// Makes a change. All that may want memory comes first.
-    fn apply(&mut self, now: Moment, change: Change) -> Result<(), AllocError>
-        requires { IsPossible self.old.state change }
-        ensures ok { OnOk result (self.new ≡ changed self.old now change) }
-        ensures err { OnErr result (self.new ≡ self.old) }
-    {
-        match change {
-            Change::Nothing => Ok(()),
-            Change::Endpoint(change) => self.endpoints.apply(now, change),
-            Change::Calls(change) => self.bandwidth.apply(change),
-        }
-    }
-
-    /// Does what was decided about a request that names this endpoint. The reply is written
-    /// before anything changes.
+    /// Does what was decided about a request that names this endpoint, and keeps the reply. All that
+    /// may want memory comes before the first change.
     fn carry_out(
         &mut self,
         now: Moment,
-        source: Source,
+        job: Job,
         endpoint: Option<EndpointId>,
         decision: Decision,
     ) -> Result<Outcome, AllocError>
-        requires { IsPossible self.old.state decision.change }
-        ensures does { IfOk result (λ outcome. (plan : Plan) → Decides self.old.state now plan decision
-            → Does self.old (Serving source (hearing now endpoint plan)) outcome self.new) }
+        requires possible { IsPossible self.old.state.zone decision.change }
+        requires fresh { IfSome decision.given (IsFresh self.old.state) }
+        requires job { IsJob self.old.state now job }
+        requires births { AreBornBefore self.old.state.steps self.old.state.kept }
+        ensures does { IfOk result (λ outcome. (plan : Plan) (request : Request)
+            → Decides self.old.state.zone now plan decision
+            → Does self.old now (Serving (record {
+              job = job;
+              dropped = outcome.dropped;
+              request = request;
+              plan = plan_at job.occasion now endpoint plan;
+            })) outcome self.new) }
+        ensures dropped { IfOk result (λ outcome. DropsFor self.old.state job outcome.dropped) }
         ensures err { OnErr result (self.new ≡ self.old) }
     {
         let Decision {
@@ -85,10 +72,22 @@ impl<P: Pool> Machine<P> {
             given,
             change,
         } = decision;
-        let output = self.datagram(source, &reply)?;
-        self.apply(now, change)?;
-        self.hear(now, endpoint);
-        Ok(Outcome::served(output, given, None))
+        let output = self.datagram(job.key.source, &reply)?;
+        let term = self.services.term(now);
+        let note = job.occasion.note();
+        reserve(&mut self.kept, now.milliseconds(), &job.key)?;
+        self.services.apply(now, change)?;
+        self.services.hear(job.occasion, now, endpoint);
+        let kept = &mut self.kept;
+        let start = now.milliseconds();
+        let dropped = keep_reply(kept, start, job, self.steps, reply, term.until);
+        Ok(Outcome {
+            answer: None,
+            output: Some(output),
+            note,
+            dropped,
+            given,
+        })
     }
 
     /// Asks a pool, and does what follows from its answer about a request that names this endpoint.
@@ -96,52 +95,85 @@ impl<P: Pool> Machine<P> {
     fn ask(
         &mut self,
         now: Moment,
-        source: Source,
+        job: Job,
         endpoint: EndpointId,
+        request: Request,
         question: Question,
     ) -> Result<Outcome, AllocError>
-        requires may { IsQuestion (usage_of self.old.state) question }
-        requires leg { IfSome (leg_of_purpose question.purpose) (IsRegistered self.old.state.live) }
-        requires counts { All (HasCounts (2 ^ 63)) self.old.state.pools }
-        ensures does { IfOk result (λ outcome. (plan : Plan) → Asks self.old.state plan question
-            → Does self.old (Serving source (hearing now (Some endpoint) plan)) outcome self.new) }
+        requires may { IsQuestion (usage_of self.old.state.zone) question }
+        requires leg { IfSome (leg_of_purpose question.purpose) (IsRegistered self.old.state.zone.live) }
+        requires seq { seq_of request ≡ question.seq }
+        requires counts { All (HasCounts (2 ^ 63)) self.old.state.zone.pools }
+        requires job { IsJob self.old.state now job }
+        requires births { AreBornBefore self.old.state.steps self.old.state.kept }
+        ensures does { IfOk result (λ outcome. (plan : Plan)
+            → Asks self.old.state.zone plan question
+            → Does self.old now (Serving (record {
+              job = job;
+              dropped = outcome.dropped;
+              request = request;
+              plan = plan_at job.occasion now (Some endpoint) plan;
+            })) outcome self.new) }
+        ensures dropped { IfOk result (λ outcome. DropsFor self.old.state job outcome.dropped) }
         ensures err { OnErr result (self.new ≡ self.old) }
     {
-        let _small = self.config.call_limit();
-        let mut bytes = Vec::with_capacity(self.alloc, SHORT_REPLY)?;
-        self.bandwidth.reserve()?;
-        let answer = self.bandwidth.ask(&question);
-        let reply = match answer {
-            Lend::Lent(units) => question.granted(units as u32),
-            Lend::Refused | Lend::Wait => question.refused(),
-        };
+        let _small = self.services.call_limit();
+        let delay = self.services.delay();
+        let term = self.services.term(now);
+        let to = job.key.source;
+        let note = job.occasion.note();
+        let mut bytes = Vec::with_capacity(self.services.allocator(), SHORT_REPLY)?;
+        reserve(&mut self.kept, now.milliseconds(), &job.key)?;
+        let answer = self.services.ask(&question)?;
+        self.services.hear(job.occasion, now, Some(endpoint));
+        let waits = job.occasion.waits(answer);
+        let reply = question.reply(answer, waits, delay);
         write_into(&reply, &mut bytes).unwrap();
-        self.hear(now, Some(endpoint));
+        let kept = &mut self.kept;
+        let start = now.milliseconds();
+        let dropped = keep(
+            kept, start, job, self.steps, request, reply, waits, term,
+        );
         let output = Datagram {
-            to: source,
+            to,
             bytes: Octets::from_vec(bytes),
         };
-        Ok(Outcome::served(output, None, Some(answer)))
+        Ok(Outcome {
+            answer: Some(answer),
+            output: Some(output),
+            note,
+            dropped,
+            given: None,
+        })
     }
 
     /// Does what was concluded about a request that names this endpoint.
     fn conclude(
         &mut self,
         now: Moment,
-        source: Source,
+        job: Job,
         endpoint: EndpointId,
+        request: Request,
         conclusion: Conclusion,
     ) -> Result<Outcome, AllocError>
-        requires possible { MayConclude self.old.state conclusion }
-        requires counts { All (HasCounts (2 ^ 63)) self.old.state.pools }
+        requires possible { MayConclude self.old.state.zone request conclusion }
+        requires counts { All (HasCounts (2 ^ 63)) self.old.state.zone.pools }
+        requires job { IsJob self.old.state now job }
+        requires births { AreBornBefore self.old.state.steps self.old.state.kept }
         ensures does { IfOk result (λ outcome. (plan : Plan)
-            → Concludes self.old.state now plan conclusion
-            → Does self.old (Serving source (hearing now (Some endpoint) plan)) outcome self.new) }
+            → Concludes self.old.state.zone now plan conclusion
+            → Does self.old now (Serving (record {
+              job = job;
+              dropped = outcome.dropped;
+              request = request;
+              plan = plan_at job.occasion now (Some endpoint) plan;
+            })) outcome self.new) }
+        ensures dropped { IfOk result (λ outcome. DropsFor self.old.state job outcome.dropped) }
         ensures err { OnErr result (self.new ≡ self.old) }
     {
         match conclusion {
-            Conclusion::Decided(decision) => self.carry_out(now, source, Some(endpoint), decision),
-            Conclusion::Asked(question) => self.ask(now, source, endpoint, question),
+            Conclusion::Decided(decision) => self.carry_out(now, job, Some(endpoint), decision),
+            Conclusion::Asked(question) => self.ask(now, job, endpoint, request, question),
         }
     }
 
@@ -149,104 +181,125 @@ impl<P: Pool> Machine<P> {
     fn serve_discovery(
         &mut self,
         now: Moment,
-        source: Source,
+        job: Job,
         seq: RequestSeqNum,
         gatekeeper: Option<Name>,
     ) -> Result<Outcome, AllocError>
-        ensures does { IfOk result (λ outcome. Does self.old
-            (request_course self.old.state now source (Request.Grq seq gatekeeper)) outcome self.new) }
+        requires job { IsJob self.old.state now job }
+        requires births { AreBornBefore self.old.state.steps self.old.state.kept }
+        ensures does { IfOk result (λ outcome.
+            Serves self.old now job (Request.Grq seq gatekeeper) outcome self.new) }
+        ensures dropped { IfOk result (λ outcome. DropsFor self.old.state job outcome.dropped) }
         ensures err { OnErr result (self.new ≡ self.old) }
     {
-        let decision = Decision::reply(self.discover(seq, &gatekeeper));
-        self.carry_out(now, source, None, decision)
+        let decision = Decision::reply(self.services.discover(seq, &gatekeeper));
+        self.carry_out(now, job, None, decision)
     }
 
     fn serve_registration(
         &mut self,
         now: Moment,
-        source: Source,
+        job: Job,
         q: &Registering,
     ) -> Result<Outcome, AllocError>
-        ensures does { IfOk result (λ outcome. Does self.old (Serving source
-            (hearing now q.now.endpoint (registration self.old.state now q.now))) outcome self.new) }
+        requires job { IsJob self.old.state now job }
+        requires births { AreBornBefore self.old.state.steps self.old.state.kept }
+        ensures does { IfOk result (λ outcome.
+            Serves self.old now job (rrq_of q.now) outcome self.new) }
+        ensures dropped { IfOk result (λ outcome. DropsFor self.old.state job outcome.dropped) }
         ensures err { OnErr result (self.new ≡ self.old) }
     {
-        let decision = self.register(now, q)?;
-        self.carry_out(now, source, q.endpoint, decision)
+        let decision = self.services.register(now, q, &self.kept)?;
+        self.carry_out(now, job, q.endpoint, decision)
     }
 
     fn serve_unregistration(
         &mut self,
         now: Moment,
-        source: Source,
+        job: Job,
         q: &Unregistering,
     ) -> Result<Outcome, AllocError>
-        ensures does { IfOk result (λ outcome. Does self.old (Serving source
-            (hearing now q.now.endpoint (unregistration self.old.state q.now))) outcome self.new) }
+        requires job { IsJob self.old.state now job }
+        requires births { AreBornBefore self.old.state.steps self.old.state.kept }
+        ensures does { IfOk result (λ outcome.
+            Serves self.old now job (urq_of q.now) outcome self.new) }
+        ensures dropped { IfOk result (λ outcome. DropsFor self.old.state job outcome.dropped) }
         ensures err { OnErr result (self.new ≡ self.old) }
     {
-        let decision = self.unregister(now, q);
-        self.carry_out(now, source, q.endpoint, decision)
+        let decision = self.services.unregister(now, q);
+        self.carry_out(now, job, q.endpoint, decision)
     }
 
     fn serve_admission(
         &mut self,
         now: Moment,
-        source: Source,
-        q: &Admission,
+        job: Job,
+        q: Admission,
     ) -> Result<Outcome, AllocError>
-        requires counts { All (HasCounts (2 ^ 63)) self.old.state.pools }
-        ensures does { IfOk result (λ outcome. Does self.old (Serving source
-            (hearing now (Some q.now.endpoint) (admission self.old.state q.now))) outcome self.new) }
+        requires counts { All (HasCounts (2 ^ 63)) self.old.state.zone.pools }
+        requires job { IsJob self.old.state now job }
+        requires births { AreBornBefore self.old.state.steps self.old.state.kept }
+        ensures does { IfOk result (λ outcome.
+            Serves self.old now job (arq_of q) outcome self.new) }
+        ensures dropped { IfOk result (λ outcome. DropsFor self.old.state job outcome.dropped) }
         ensures err { OnErr result (self.new ≡ self.old) }
     {
-        let conclusion = self.admit(now, q);
-        self.conclude(now, source, q.endpoint, conclusion)
+        let conclusion = self.services.admit(now, &q);
+        self.conclude(now, job, q.endpoint, q.into_request(), conclusion)
     }
 
     fn serve_bandwidth_change(
         &mut self,
         now: Moment,
-        source: Source,
-        q: &BandwidthChange,
+        job: Job,
+        q: BandwidthChange,
     ) -> Result<Outcome, AllocError>
-        requires counts { All (HasCounts (2 ^ 63)) self.old.state.pools }
-        ensures does { IfOk result (λ outcome. Does self.old (Serving source
-            (hearing now (Some q.now.endpoint) (bandwidth self.old.state q.now))) outcome self.new) }
+        requires counts { All (HasCounts (2 ^ 63)) self.old.state.zone.pools }
+        requires job { IsJob self.old.state now job }
+        requires births { AreBornBefore self.old.state.steps self.old.state.kept }
+        ensures does { IfOk result (λ outcome.
+            Serves self.old now job (brq_of q) outcome self.new) }
+        ensures dropped { IfOk result (λ outcome. DropsFor self.old.state job outcome.dropped) }
         ensures err { OnErr result (self.new ≡ self.old) }
     {
-        let conclusion = self.change_bandwidth(now, q);
-        self.conclude(now, source, q.endpoint, conclusion)
+        let conclusion = self.services.change_bandwidth(now, &q);
+        self.conclude(now, job, q.endpoint, q.into_request(), conclusion)
     }
 
     fn serve_disengagement(
         &mut self,
         now: Moment,
-        source: Source,
+        job: Job,
         q: &Disengagement,
     ) -> Result<Outcome, AllocError>
-        ensures does { IfOk result (λ outcome. Does self.old (Serving source
-            (hearing now (Some q.now.endpoint) (disengagement self.old.state q.now))) outcome self.new) }
+        requires job { IsJob self.old.state now job }
+        requires births { AreBornBefore self.old.state.steps self.old.state.kept }
+        ensures does { IfOk result (λ outcome.
+            Serves self.old now job (drq_of q.now) outcome self.new) }
+        ensures dropped { IfOk result (λ outcome. DropsFor self.old.state job outcome.dropped) }
         ensures err { OnErr result (self.new ≡ self.old) }
     {
-        let decision = self.disengage(now, q);
-        self.carry_out(now, source, Some(q.endpoint), decision)
+        let decision = self.services.disengage(now, q);
+        self.carry_out(now, job, Some(q.endpoint), decision)
     }
 
     /// Serves a request.
     pub(crate) fn serve(
         &mut self,
         now: Moment,
-        source: Source,
+        job: Job,
         request: Request,
     ) -> Result<Outcome, AllocError>
-        requires counts { All (HasCounts (2 ^ 63)) self.old.state.pools }
-        ensures does { IfOk result (λ outcome.
-            Does self.old (request_course self.old.state now source request) outcome self.new) }
+        requires counts { All (HasCounts (2 ^ 63)) self.old.state.zone.pools }
+        requires job { IsJob self.old.state now job }
+        requires births { AreBornBefore self.old.state.steps self.old.state.kept }
+        requires served { IsServed request }
+        ensures does { IfOk result (λ outcome. Serves self.old now job request outcome self.new) }
+        ensures dropped { IfOk result (λ outcome. DropsFor self.old.state job outcome.dropped) }
         ensures err { OnErr result (self.new ≡ self.old) }
     {
         match request {
-            Request::Grq { seq, gatekeeper } => self.serve_discovery(now, source, seq, gatekeeper),
+            Request::Grq { seq, gatekeeper } => self.serve_discovery(now, job, seq, gatekeeper),
             Request::Rrq {
                 seq,
                 call_signal,
@@ -267,7 +320,7 @@ impl<P: Pool> Machine<P> {
                     keep_alive,
                     endpoint,
                 };
-                self.serve_registration(now, source, &q)
+                self.serve_registration(now, job, &q)
             }
             Request::Urq {
                 seq,
@@ -279,9 +332,9 @@ impl<P: Pool> Machine<P> {
                     call_signal,
                     endpoint,
                 };
-                self.serve_unregistration(now, source, &q)
+                self.serve_unregistration(now, job, &q)
             }
-            other => self.serve_call(now, source, other),
+            other => self.serve_call(now, job, other),
         }
     }
 
@@ -289,13 +342,15 @@ impl<P: Pool> Machine<P> {
     fn serve_call(
         &mut self,
         now: Moment,
-        source: Source,
+        job: Job,
         request: Request,
     ) -> Result<Outcome, AllocError>
         requires calls { IsAboutCalls request }
-        requires counts { All (HasCounts (2 ^ 63)) self.old.state.pools }
-        ensures does { IfOk result (λ outcome.
-            Does self.old (request_course self.old.state now source request) outcome self.new) }
+        requires counts { All (HasCounts (2 ^ 63)) self.old.state.zone.pools }
+        requires job { IsJob self.old.state now job }
+        requires births { AreBornBefore self.old.state.steps self.old.state.kept }
+        ensures does { IfOk result (λ outcome. Serves self.old now job request outcome self.new) }
+        ensures dropped { IfOk result (λ outcome. DropsFor self.old.state job outcome.dropped) }
         ensures err { OnErr result (self.new ≡ self.old) }
     {
         match request {
@@ -317,7 +372,7 @@ impl<P: Pool> Machine<P> {
                     call,
                     answer,
                 };
-                self.serve_admission(now, source, &q)
+                self.serve_admission(now, job, q)
             }
             Request::Brq {
                 seq,
@@ -331,7 +386,7 @@ impl<P: Pool> Machine<P> {
                     call,
                     asked,
                 };
-                self.serve_bandwidth_change(now, source, &q)
+                self.serve_bandwidth_change(now, job, q)
             }
             Request::Drq {
                 seq,
@@ -343,9 +398,8 @@ impl<P: Pool> Machine<P> {
                     endpoint,
                     call,
                 };
-                self.serve_disengagement(now, source, &q)
+                self.serve_disengagement(now, job, &q)
             }
-            Request::Irr { .. } => Ok(Outcome::ignored(IgnoredCause::NotServed)),
             _ => unreachable!(),
         }
     }

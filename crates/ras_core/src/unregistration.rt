@@ -6,18 +6,18 @@ ghost use Rattle.ras_core.specs.Unregistering.{leaving, unregistration};
 ghost use Rattle.ras_core.specs.Changes.{Decides};
 
 use crate::change::{Change, Decision, EndpointChange};
-use crate::machine::Machine;
+use crate::services::Services;
 use crate::moment::Moment;
 use crate::registering::Unregistering;
 use pools::Pool;
 use ras_module::{EndpointId, Reply, UnregRejectReason};
 
-impl<P: Pool> Machine<P> {
+impl<P: Pool> Services<P> {
     /// Whom an UnregistrationRequest means: by its identifier where it has one, else by its
     /// address.
     fn leaving(&self, q: &Unregistering) -> Option<EndpointId>
         ensures { result ≡ option_map (λ r. r.identifier)
-            (leaving self.now.state q.now.endpoint q.now.call_signal) }
+            (leaving self.now.zone q.now.endpoint q.now.call_signal) }
     {
         let found = match q.endpoint {
             Some(id) => self.endpoints.get(&id),
@@ -28,7 +28,8 @@ impl<P: Pool> Machine<P> {
 
     /// What is decided about an UnregistrationRequest.
     pub(crate) fn unregister(&self, now: Moment, q: &Unregistering) -> Decision
-        ensures { Decides self.now.state now (unregistration self.now.state q.now) result }
+        ensures decides { Decides self.now.zone now (unregistration self.now.zone q.now) result }
+        ensures given { result.given ≡ None }
     {
         let Some(id) = self.leaving(q) else {
             return rejection(q, UnregRejectReason::NotCurrentlyRegistered);

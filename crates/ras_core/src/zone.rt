@@ -8,7 +8,7 @@ ghost use Rattle.pools.specs.Account.{is_idle};
 ghost use Rattle.ras_core.specs.State.{opening};
 ghost use Rattle.ras_core.specs.Pools.{figures_of, figures_without_loans, lasts_of};
 ghost use Rattle.ras_core.specs.Machine.{course, most_steps};
-ghost use Rattle.ras_core.specs.Steps.{HasFewOctets, RunsOn, Step, ask_in, lasts_after};
+ghost use Rattle.ras_core.specs.Steps.{HasFewOctets, RunsOn, Step, ask_in, choices_of, lasts_after};
 ghost use Rattle.ras_core.specs.Soundness.{Sound};
 
 use crate::config::Config;
@@ -76,7 +76,7 @@ impl<P: Pool> Zone<P> {
     pub fn step(&mut self, event: Event) -> Result<Outcome, StepFault>
         ensures step { IfOk result (λ outcome. Step self.old.state event outcome self.new.state) }
         ensures lasts { IfOk result (λ outcome. self.new.lasts
-            ≡ lasts_after self.old.lasts (ask_in (course self.old.state event)) outcome.answer) }
+            ≡ lasts_after self.old.lasts (ask_in (course self.old.state event (choices_of outcome))) outcome.answer) }
         ensures few { IfOk result (λ outcome. HasFewOctets outcome.output) }
         ensures closed { (result ≡ Err StepFault.Closed) ↔ (self.old.state.steps ≡ most_steps) }
         ensures err { OnErr result (self.new ≡ self.old) }
@@ -88,7 +88,7 @@ impl<P: Pool> Zone<P> {
     fn step_at(&mut self, event: &Event) -> Result<Outcome, StepFault>
         ensures step { IfOk result (λ outcome. Step self.old.state event.now outcome self.new.state) }
         ensures lasts { IfOk result (λ outcome. self.new.lasts
-            ≡ lasts_after self.old.lasts (ask_in (course self.old.state event.now)) outcome.answer) }
+            ≡ lasts_after self.old.lasts (ask_in (course self.old.state event.now (choices_of outcome))) outcome.answer) }
         ensures few { IfOk result (λ outcome. HasFewOctets outcome.output) }
         ensures closed { (result ≡ Err StepFault.Closed) ↔ (self.old.state.steps ≡ most_steps) }
         ensures err { OnErr result (self.new ≡ self.old) }
@@ -102,22 +102,22 @@ impl<P: Pool> Zone<P> {
     /// The endpoints that are registered, by rising identifier: character by character, a prefix
     /// before what it begins.
     pub fn endpoints(&self) -> Result<RegistrationList, AllocError>
-        ensures { IfOk result (IsListOf self.now.state.live) }
+        ensures { IfOk result (IsListOf self.now.state.zone.live) }
     {
         self.machine.list()
     }
 
     /// The calls that are open, by rising key.
     pub fn calls(&self) -> Result<CallList, AllocError>
-        ensures { IfOk result (λ list. list ≡ fin.entries self.now.state.calls) }
+        ensures { IfOk result (λ list. list ≡ fin.entries self.now.state.zone.calls) }
     {
         self.machine.calls()
     }
 
     /// The bandwidth in use: the units of all calls, of 100 bit/s each.
     pub fn in_use(&self) -> u64
-        ensures sum { result ≡ in_use self.now.state.calls }
-        ensures limit { result ≤ self.now.state.config.limit }
+        ensures sum { result ≡ in_use self.now.state.zone.calls }
+        ensures limit { result ≤ self.now.state.zone.config.limit }
     {
         self.machine.in_use()
     }
@@ -126,7 +126,7 @@ impl<P: Pool> Zone<P> {
     /// last answers stay.
     pub fn close(self) -> Vec<P>
         ensures figures { figures_of (map P.account result.items)
-            ≡ figures_without_loans self.state.pools }
+            ≡ figures_without_loans self.state.zone.pools }
         ensures lasts { lasts_of (map P.account result.items) ≡ self.lasts }
     {
         let Zone { machine } = self;

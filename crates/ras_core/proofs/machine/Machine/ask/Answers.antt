@@ -1,39 +1,118 @@
-use Rattle.std.proofs.Common.{◌<◌, ◌^◌, ◌∙◌, sym, ap, subst, ℕ}
-use Rattle.std.proofs.lemmas.List.{length-set}
-use Rattle.ras_core.specs.State.{Running}
+use Rattle.std.proofs.Common.{rules, ◌≡◌, ◌≤◌, ◌+◌, ◌∙◌, ℕ, List, Some, None, length, ap, subst, sym}
 use Rattle.std.specs.Prelude.{IfSome}
-use Rattle.pools.specs.Account.{figures_after_answer}
-use Rattle.ras_core.specs.Parts.{AreParts, Usage, usage_of, with_usage}
+use Rattle.ras_codec.specs.Replies.{encoding_of}
+use Rattle.kept_replies.specs.Kept.{KeptReplies, Passes, is_over}
+use Rattle.pools.specs.Account.{IsAnswer}
+use Rattle.ras_core.specs.declared.outcome.Note.{Note}
+use Rattle.ras_core.specs.State.{Running, RunningZone, State}
 use Rattle.ras_core.specs.Pools.{figures_at, pools_after_answer}
-use Rattle.ras_core.specs.Changes.{IsRegistered, calls_after_answer, leg_of_purpose}
-use Rattle.ras_core.proofs.Backing.{is_band_width}
-use Rattle.ras_core.proofs.Legs.{AreParts-calls, legs-answer}
+use Rattle.ras_core.specs.Keeping.{kept_as, plan_at, term_of}
+use Rattle.ras_core.specs.Machine.{Serving}
+use Rattle.ras_core.specs.Changes.{Asks, ask_of, calls_after_answer, heard_at, reply_of}
+use Rattle.ras_core.specs.Soundness.{AreBornBefore}
+use Rattle.ras_core.specs.Steps.{Does, IsJob, lasts_after}
+use Rattle.ras_core.specs.Room.{IsPlaced}
+use Rattle.ras_core.proofs.Asking.{does_answered}
+use Rattle.ras_core.proofs.Carrying.{placed_of}
 use Rattle.ras_core.proofs.machine.Machine.ask.Goals as goal
 
-pub granted-reply-requires : goal.granted-reply-requires
-granted-reply-requires g c =
-    let z = c.args.self.now.state in
-    let small = subst (λ (m : Running). m.state.config.call_limit < 2 ^ 32) c.self.view_is
-    (subst (λ (n : ℕ). n < 2 ^ 32) c.call_limit-small.ensures.same c.call_limit-small.ensures.few) in
-    is_band_width (usage_of z) c.args.question c.in-Lent.units small c.in-Lent.ensures.answer.1
-    c.args.question.purpose c.requires.may.purpose
-
-pub invariant_of-self-2 : goal.invariant_of-self-2
-invariant_of-self-2 g c =
+pub keep-dropped-requires-clause-place : goal.keep-dropped-requires-clause-place
+keep-dropped-requires-clause-place g c =
     let i = c.self.inside in
+    let s : State = record {
+      zone = i.services.zone;
+      kept = i.kept.kept;
+      clock = i.clock;
+      interrogation = i.interrogation;
+      pool_turn = i.pool_turn;
+      steps = i.steps;
+    } in
+    subst (λ (n : ℕ). IsPlaced c.reserve.new.kept n c.args.job.key c.args.job.occasion) (sym c.milliseconds-start.ensures.same)
+    (placed_of s c.reserve.new.kept c.args.now c.args.job.key c.args.job.occasion c.reserve.ensures.kept
+    (c.reserve.ensures.most ∙ c.self.invariant.0)
+    (subst (λ (m : Running). IsJob m.state c.args.now c.args.job) (sym c.self.view_is) c.requires.job))
+
+pub returns-clause-does : goal.returns-clause-does
+returns-clause-does g c plan asks =
+    let i = c.self.inside in
+    let now = c.args.now in
+    let job = c.args.job in
+    let id = c.args.endpoint in
     let q = c.args.question in
-    let parts = c.self.invariant.0 in
-    let old = i.bandwidth.usage in
-    let answer = c.ask-answer.result in
-    let leg = subst (λ (m : Running). IfSome (leg_of_purpose q.purpose) (IsRegistered m.state.live))
-    (sym c.self.view_is) c.requires.leg in
-    let pools = pools_after_answer old.pools q.pool answer in (
-      subst (λ (u : Usage). AreParts i.config i.endpoints u)
-          (sym (c.ask-answer.ensures.usage
-          ∙ ap (λ (u : Usage). with_usage u (calls_after_answer q answer u.calls) (pools_after_answer u.pools q.pool answer))
-          c.reserve.ensures.usage))
-          (AreParts-calls i.config i.endpoints old parts (calls_after_answer q answer old.calls) pools
-          (length-set old.pools q.pool (figures_after_answer (figures_at old.pools q.pool) answer))
-          (legs-answer i.endpoints.live old.calls q answer parts.legs leg)),
-      c.self.invariant.1,
-    )
+    let request = c.args.request in
+    let dropped = c.keep-dropped.result in
+    let answer = c.in_ok-answer.answer in
+    let w = c.waits-waits.result in
+    let reply = c.reply-reply.result in
+    let old : Running = record {
+      state = record {
+        zone = i.services.zone;
+        kept = i.kept.kept;
+        clock = i.clock;
+        interrogation = i.interrogation;
+        pool_turn = i.pool_turn;
+        steps = i.steps;
+      };
+      lasts = i.services.lasts;
+    } in
+    let services = c.hear.new.self in
+    let kept = c.keep-dropped.new.kept.kept in
+    let asked : RunningZone = record {
+      zone = record i.services.zone {
+        calls = calls_after_answer q answer i.services.zone.calls;
+        pools = pools_after_answer i.services.zone.pools q.pool answer;
+      };
+      lasts = lasts_after i.services.lasts (Some (ask_of q)) (Some answer);
+    } in
+    let asked_is : c.ask.new.self ≡ asked =
+    λ j. record { zone = c.in_ok-answer.ensures.zone j; lasts = c.in_ok-answer.ensures.lasts j } in
+    let services_is : services ≡ heard_at asked job.occasion now (Some id) =
+    c.hear.ensures ∙ ap (λ (z : RunningZone). heard_at z job.occasion now (Some id)) asked_is in
+    let kept_is : kept ≡ kept_as i.kept.kept job.key job.occasion dropped i.steps request reply w
+        (term_of i.services.zone.config now) =
+    c.keep-dropped.ensures.kept
+    ∙ (λ j. kept_as (c.reserve.ensures.kept j) job.key job.occasion dropped i.steps request reply w (c.term-term.ensures.same j)) in
+    let reply_is : reply ≡ reply_of q answer w i.services.zone.config.delay =
+    c.reply-reply.ensures ∙ ap (λ n. reply_of q answer w n) c.delay-delay.ensures in
+    let over = subst (λ (k : KeptReplies). IfSome dropped (Passes (is_over now) k)) c.reserve.ensures.kept
+    (subst (λ (n : ℕ). IfSome dropped (Passes (is_over n) c.reserve.new.kept.kept)) c.milliseconds-start.ensures.same
+    c.keep-dropped.ensures.over) in
+    let back = sym c.self.view_is in
+    let does = does_answered old now job id request q dropped answer w reply services kept c.waits-waits.ensures
+    c.requires.seq c.in_ok-answer.ensures.answer
+    (subst (λ (m : Running). IsJob m.state now job) back c.requires.job)
+    (subst (λ (m : Running). AreBornBefore m.state.steps m.state.kept) back c.requires.births)
+    over reply_is c.write_into.ensures.most services_is kept_is plan
+    (subst (λ (m : Running). Asks m.state.zone plan q) back asks) in
+    let course = Serving (record {
+      job = job;
+      dropped = dropped;
+      request = request;
+      plan = plan_at job.occasion now (Some id) plan;
+    }) in
+    let new : Running = record {
+      state = record old.state { zone = services.zone; kept = kept };
+      lasts = services.lasts;
+    } in
+    let bytes_is : c.from_vec.result ≡ encoding_of reply = search rules in
+    subst (λ (m : Running). Does m now course (record {
+      answer = Some answer;
+      output = Some (record { to = job.key.source; bytes = c.from_vec.result });
+      note = c.note-note.result;
+      dropped = dropped;
+      given = None;
+    }) new) c.self.view_is
+    (subst (λ (bytes : List ℕ). Does old now course (record {
+      answer = Some answer;
+      output = Some (record { to = job.key.source; bytes = bytes });
+      note = c.note-note.result;
+      dropped = dropped;
+      given = None;
+    }) new) (sym bytes_is)
+    (subst (λ (n : Note). Does old now course (record {
+      answer = Some answer;
+      output = Some (record { to = job.key.source; bytes = encoding_of reply });
+      note = n;
+      dropped = dropped;
+      given = None;
+    }) new) (sym c.note-note.ensures) does))

@@ -1,31 +1,22 @@
-use Rattle.std.proofs.Common.{◌<◌, ◌≤◌, ◌^◌, ◌+◌, All, ℕ, subst, sym}
+use Rattle.std.proofs.Common.{◌<◌, ◌≤◌, ◌^◌, ◌+◌, All, ℕ, subst, sym, arith}
 use Rattle.std.specs.FinMap as map
-use Rattle.admission.specs.Calls.{EachCall, in_use}
 use Rattle.ras_core.specs.State.{Running}
-use Rattle.ras_core.specs.Soundness.{HasCounts, Sound}
+use Rattle.ras_core.specs.Soundness.{AreBornBefore, HasCounts, Sound}
 use Rattle.ras_core.proofs.machine.Machine.len.Goals as goal
 
 pub returns-clause-sound : goal.returns-clause-sound
-returns-clause-sound g c counts =
+returns-clause-sound g c counts births =
     let i = c.self.inside in
-    let parts = c.self.invariant.0 in
-    let u = i.bandwidth.usage in
-    let backed = c.len-calls.ensures.backed in
+    let kept = c.len-kept.ensures.sound in
     subst (λ (m : Running). Sound m.state) c.self.view_is (record {
-      settings = c.parts-settings.ensures.ranges;
-      endpoints = c.len.ensures.endpoints;
-      aliases = c.len.ensures.aliases;
-      few_endpoints = subst (λ (most : ℕ). map.len i.endpoints.live ≤ most) parts.endpoints c.len.ensures.few;
-      calls = c.len-calls.ensures.calls;
-      few_calls = subst (λ (most : ℕ). map.len u.calls ≤ most) parts.calls c.len-calls.ensures.few;
-      legs = parts.legs;
-      call_limit = subst (λ (most : ℕ). EachCall (λ call. call.units ≤ most) u.calls) parts.call_limit backed.call_limit;
-      call_pools = backed.pools;
-      lent = backed.lent;
-      pool_limits = c.len-calls.ensures.pools;
-      limit = subst (λ (most : ℕ). in_use u.calls ≤ most) parts.limit backed.limit;
-      pools = parts.pools;
-      counts = subst (λ (m : Running). All (HasCounts (2 ^ 62 + m.state.steps)) m.state.pools) (sym c.self.view_is) counts;
+      zone = c.len.ensures.sound;
+      counts = subst (λ (m : Running). All (HasCounts (2 ^ 62 + m.state.steps)) m.state.zone.pools) (sym c.self.view_is) counts;
+      few_kept = subst (λ (most : ℕ). map.len i.kept.kept ≤ most) c.self.invariant.0 kept.few;
+      entries = kept.each;
+      births = kept.births;
+      born = subst (λ (m : Running). AreBornBefore m.state.steps m.state.kept) (sym c.self.view_is) births;
       clock = subst (λ (now : ℕ). now < 2 ^ 53) c.milliseconds-small.ensures.same c.milliseconds-small.ensures.small;
+      interrogation = omega (arith, c.number_of-number.ensures.same, c.number_of-number.ensures.some);
+      interrogations = omega (arith, c.number_of-number.ensures.same, c.number_of-number.ensures.few);
       steps = c.self.invariant.1;
     })

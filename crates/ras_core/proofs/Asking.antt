@@ -1,0 +1,250 @@
+-- What follows from a pool's answer about a request is what it comes to.
+use Rattle.std.proofs.Common.{◌≡◌, ◌≤◌, ◌<◌, ◌+◌, ℕ, length, Bool, true, false, List, refl, sym, ◌∙◌, ap, subst, Some, None}
+use Rattle.std.specs.Prelude.{Option, All, IfSome, if◌then◌else◌}
+use Rattle.ras_module.specs.declared.reply.Reply.{Reply}
+use Rattle.ras_module.specs.declared.request.Request.{Request}
+use Rattle.ras_module.specs.declared.reply.Reply.TheVariants.{Rip}
+use Rattle.ras_codec.specs.Replies.{encoding_of}
+use Rattle.kept_replies.specs.declared.key.KeptKey.{KeptKey}
+use Rattle.kept_replies.specs.Kept.{KeptReplies, Passes, is_over}
+use Rattle.pools.specs.declared.interface.Lend.{Lend}
+use Rattle.pools.specs.declared.interface.Lend.TheVariants.{Lent, Refused, Wait}
+use Rattle.pools.specs.declared.interface.Figures.{Figures}
+use Rattle.pools.specs.Account.{IsAnswer}
+use Rattle.ras_core.specs.declared.change.Question.{Question}
+use Rattle.ras_core.specs.declared.job.Job.{Job}
+use Rattle.ras_core.specs.declared.job.Occasion.{Occasion}
+use Rattle.ras_core.specs.declared.job.Occasion.TheVariants.{First, Again}
+use Rattle.ras_core.specs.declared.outcome.Outcome.{Outcome}
+use Rattle.ras_core.specs.State.{Zone, State, Last, Running, RunningZone}
+use Rattle.ras_core.specs.Plans.{Served, Ask, Plan, Asking, with_heard}
+use Rattle.ras_core.specs.Pools.{figures_at, pools_after_answer}
+use Rattle.ras_core.specs.Requests.{seq_of}
+use Rattle.ras_core.specs.Keeping.{Progress, Task, answered, answered_by, in_progress, kept_as, plan_at, term_of, waits, with_answered_pool}
+use Rattle.ras_core.specs.Machine.{Answer, Serving, ended, note_at, plan_answer}
+use Rattle.ras_core.specs.Changes.{Asks, ask_of, calls_after_answer, granted_by, heard_at, refused_by, reply_of}
+use Rattle.ras_core.specs.Soundness.{AreBornBefore, HasCounts}
+use Rattle.ras_core.specs.Steps.{CountsOneMore, Does, IsJob, IsTimely, MayChoose, ask_in_plan, choices_of, lasts_after}
+use Rattle.ras_core.proofs.PoolFigures.{All-answer}
+use Rattle.ras_core.proofs.Carrying.{timely_of}
+use Rattle.ras_core.proofs.Dropping.{born_with_reply, born_with_request}
+
+module _ (s : State) (lasts : List Last) (now : ℕ) (key : KeptKey) (request : Request)
+    (dropped : Option ℕ) (id : List ℕ) (q : Question) where
+  abbrev pub asking : Plan
+  asking = Asking (ask_of q) (granted_by s.zone q) (refused_by s.zone q)
+
+  abbrev pub asked_task : Occasion → Task
+  asked_task occasion = record {
+    job = record { key = key; occasion = occasion };
+    dropped = dropped;
+    request = request;
+    plan = plan_at occasion now (Some id) asking;
+  }
+
+  abbrev pub asked_outcome : Occasion → Lend → Reply → Outcome
+  asked_outcome occasion answer reply = record {
+    answer = Some answer;
+    output = Some (record { to = key.source; bytes = encoding_of reply });
+    note = note_at occasion;
+    dropped = dropped;
+    given = None;
+  }
+
+  abbrev pub asked_zone : Occasion → Lend → RunningZone
+  asked_zone occasion answer = heard_at (record {
+    zone = record s.zone {
+      calls = calls_after_answer q answer s.zone.calls;
+      pools = pools_after_answer s.zone.pools q.pool answer;
+    };
+    lasts = lasts_after lasts (Some (ask_of q)) (Some answer);
+  }) occasion now (Some id)
+
+  abbrev pub asked_kept : Occasion → Bool → Reply → KeptReplies
+  asked_kept occasion w reply =
+      kept_as s.kept key occasion dropped s.steps request reply w (term_of s.zone.config now)
+
+  abbrev pub asked_running : Occasion → Lend → Bool → Reply → Running
+  asked_running occasion answer w reply = record {
+    state = record s {
+      zone = (asked_zone occasion answer).zone;
+      kept = asked_kept occasion w reply;
+    };
+    lasts = (asked_zone occasion answer).lasts;
+  }
+
+  abbrev asked_answer : Occasion → Lend → Bool → Reply → Answer
+  asked_answer occasion answer w reply =
+      Some (asked_outcome occasion answer reply, (asked_running occasion answer w reply).state)
+
+  -- what a pool's answer makes of the request, where it is known whether it is to wait
+  abbrev progress : (ℕ → Served) → Served → Lend → Bool → Progress
+  progress lent refused answer w =
+      with_answered_pool s.zone (ask_of q) answer (if w
+      then in_progress s.zone.config.delay request refused
+      else answered (answered_by lent refused answer))
+
+  abbrev came_to : Occasion → (ℕ → Served) → Served → Lend → Bool → Answer
+  came_to occasion lent refused answer w =
+      ended s now (asked_task occasion) None (Some answer) (progress lent refused answer w)
+
+  -- a reply to a request that is answered at once, or in progress
+  lent_now : (occasion : Occasion) (units : ℕ)
+      → plan_answer s now (asked_task occasion) (plan_at occasion now (Some id) asking)
+      (choices_of (asked_outcome occasion (Lent units) (reply_of q (Lent units) false s.zone.config.delay)))
+      ≡ asked_answer occasion (Lent units) false (reply_of q (Lent units) false s.zone.config.delay)
+  lent_now First units = refl
+  lent_now (Again born left) units = refl
+
+  refused_now : (occasion : Occasion)
+      → plan_answer s now (asked_task occasion) (plan_at occasion now (Some id) asking)
+      (choices_of (asked_outcome occasion Refused (reply_of q Refused false s.zone.config.delay)))
+      ≡ asked_answer occasion Refused false (reply_of q Refused false s.zone.config.delay)
+  refused_now First = refl
+  refused_now (Again born left) = refl
+
+  waits_at_first : seq_of request ≡ q.seq
+      → plan_answer s now (asked_task First) (plan_at First now (Some id) asking)
+      (choices_of (asked_outcome First Wait (reply_of q Wait true s.zone.config.delay)))
+      ≡ asked_answer First Wait true (reply_of q Wait true s.zone.config.delay)
+  waits_at_first seq = ap (λ n. asked_answer First Wait true (Rip n s.zone.config.delay)) seq
+
+  waits_again : (born left : ℕ) (w : Bool) → waits (Again born left) Wait ≡ w → seq_of request ≡ q.seq
+      → plan_answer s now (asked_task (Again born left)) asking
+      (choices_of (asked_outcome (Again born left) Wait (reply_of q Wait w s.zone.config.delay)))
+      ≡ asked_answer (Again born left) Wait w (reply_of q Wait w s.zone.config.delay)
+  waits_again born left true is seq =
+      ap (λ w. came_to (Again born left) (granted_by s.zone q) (refused_by s.zone q) Wait w) is
+      ∙ ap (λ n. asked_answer (Again born left) Wait true (Rip n s.zone.config.delay)) seq
+  waits_again born left false is seq =
+      ap (λ w. came_to (Again born left) (granted_by s.zone q) (refused_by s.zone q) Wait w) is
+
+  pub asked_by : (occasion : Occasion) (answer : Lend) (w : Bool) → w ≡ waits occasion answer
+      → seq_of request ≡ q.seq
+      → plan_answer s now (asked_task occasion) (plan_at occasion now (Some id) asking)
+      (choices_of (asked_outcome occasion answer (reply_of q answer w s.zone.config.delay)))
+      ≡ asked_answer occasion answer w (reply_of q answer w s.zone.config.delay)
+  asked_by occasion (Lent units) false is seq = lent_now occasion units
+  asked_by occasion (Lent units) true is seq = absurd (cc is)
+  asked_by occasion Refused false is seq = refused_now occasion
+  asked_by occasion Refused true is seq = absurd (cc is)
+  asked_by First Wait true is seq = waits_at_first seq
+  asked_by First Wait false is seq = absurd (cc is)
+  asked_by (Again born left) Wait w is seq = waits_again born left w (sym is) seq
+
+  may_choose : (occasion : Occasion) (answer : Lend) (reply : Reply)
+      → IsAnswer (figures_at s.zone.pools q.pool) q.units answer
+      → MayChoose s (plan_at occasion now (Some id) asking) (choices_of (asked_outcome occasion answer reply))
+  may_choose First answer reply fits = fits
+  may_choose (Again born left) answer reply fits = fits
+
+  ask_is : (occasion : Occasion) → ask_in_plan (plan_at occasion now (Some id) asking) ≡ Some (ask_of q)
+  ask_is First = refl
+  ask_is (Again born left) = refl
+
+  lasts_are : (occasion : Occasion) (answer : Lend)
+      → (asked_zone occasion answer).lasts ≡ lasts_after lasts (Some (ask_of q)) (Some answer)
+  lasts_are First answer = refl
+  lasts_are (Again born left) answer = refl
+
+  pools_are : (occasion : Occasion) (answer : Lend)
+      → (asked_zone occasion answer).zone.pools ≡ pools_after_answer s.zone.pools q.pool answer
+  pools_are First answer = refl
+  pools_are (Again born left) answer = refl
+
+  born : (occasion : Occasion) (w : Bool) (reply : Reply) → AreBornBefore s.steps s.kept
+      → AreBornBefore (s.steps + 1) (asked_kept occasion w reply)
+  born occasion true reply before =
+      born_with_request s.kept s.steps before key occasion dropped request reply
+      (now + s.zone.config.delay) s.zone.config.retries
+  born occasion false reply before =
+      born_with_reply s.kept s.steps before key occasion dropped reply (now + s.zone.config.window)
+
+  pub does_asked : (occasion : Occasion) (answer : Lend) (w : Bool) (plan : Plan) → Asks s.zone plan q
+      → w ≡ waits occasion answer → seq_of request ≡ q.seq
+      → IsAnswer (figures_at s.zone.pools q.pool) q.units answer
+      → IsTimely s now dropped occasion → AreBornBefore s.steps s.kept
+      → length (encoding_of (reply_of q answer w s.zone.config.delay)) ≤ 20000
+      → Does (record { state = s; lasts = lasts }) now (Serving (record {
+        job = record { key = key; occasion = occasion };
+        dropped = dropped;
+        request = request;
+        plan = plan_at occasion now (Some id) plan;
+      })) (asked_outcome occasion answer (reply_of q answer w s.zone.config.delay))
+      (asked_running occasion answer w (reply_of q answer w s.zone.config.delay))
+  does_asked occasion answer w plan asks w_is seq fits timely before few =
+      let reply = reply_of q answer w s.zone.config.delay in
+      subst (λ (p : Plan). Does (record { state = s; lasts = lasts }) now (Serving (record {
+        job = record { key = key; occasion = occasion };
+        dropped = dropped;
+        request = request;
+        plan = plan_at occasion now (Some id) p;
+      })) (asked_outcome occasion answer reply) (asked_running occasion answer w reply)) (sym asks.is) (record {
+        allowed = (timely, may_choose occasion answer reply fits);
+        makes = asked_by occasion answer w w_is seq;
+        lasts = lasts_are occasion answer ∙ sym (ap (λ ask. lasts_after lasts ask (Some answer)) (ask_is occasion));
+        counts = λ most h. subst (λ (pools : List Figures). All (HasCounts (most + 1)) pools)
+            (sym (pools_are occasion answer)) (All-answer most s.zone.pools q.pool answer h (asks.may).pool);
+        births = λ h. born occasion w reply before;
+        few = few;
+      })
+
+-- the same, of what the code has
+pub does_answered : (old : Running) (now : ℕ) (job : Job) (id : List ℕ) (request : Request) (q : Question)
+    (dropped : Option ℕ) (answer : Lend) (w : Bool) (reply : Reply) (services : RunningZone) (kept : KeptReplies)
+    → w ≡ waits job.occasion answer → seq_of request ≡ q.seq
+    → IsAnswer (figures_at old.state.zone.pools q.pool) q.units answer
+    → IsJob old.state now job → AreBornBefore old.state.steps old.state.kept
+    → IfSome dropped (Passes (is_over now) old.state.kept)
+    → reply ≡ reply_of q answer w old.state.zone.config.delay → length (encoding_of reply) ≤ 20000
+    → services ≡ heard_at (record {
+      zone = record old.state.zone {
+        calls = calls_after_answer q answer old.state.zone.calls;
+        pools = pools_after_answer old.state.zone.pools q.pool answer;
+      };
+      lasts = lasts_after old.lasts (Some (ask_of q)) (Some answer);
+    }) job.occasion now (Some id)
+    → kept ≡ kept_as old.state.kept job.key job.occasion dropped old.state.steps request reply w
+    (term_of old.state.zone.config now)
+    → (plan : Plan) → Asks old.state.zone plan q
+    → Does old now (Serving (record {
+      job = job;
+      dropped = dropped;
+      request = request;
+      plan = plan_at job.occasion now (Some id) plan;
+    })) (record {
+      answer = Some answer;
+      output = Some (record { to = job.key.source; bytes = encoding_of reply });
+      note = note_at job.occasion;
+      dropped = dropped;
+      given = None;
+    }) (record {
+      state = record old.state { zone = services.zone; kept = kept };
+      lasts = services.lasts;
+    })
+does_answered old now job id request q dropped answer w reply services kept w_is seq fits may before over reply_is few services_is kept_is plan asks =
+    let s = old.state in
+    let due = asked_running s old.lasts now job.key request dropped id q job.occasion answer w in
+    let told = reply_of q answer w s.zone.config.delay in
+    let does = does_asked s old.lasts now job.key request dropped id q job.occasion answer w plan asks w_is seq fits
+    (timely_of s now job.key job.occasion dropped may over) before
+    (subst (λ (r : Reply). length (encoding_of r) ≤ 20000) reply_is few) in
+    let course = Serving (record {
+      job = job;
+      dropped = dropped;
+      request = request;
+      plan = plan_at job.occasion now (Some id) plan;
+    }) in
+    let kept_so = kept_is ∙ ap (λ (r : Reply). kept_as s.kept job.key job.occasion dropped s.steps request r w (term_of s.zone.config now)) reply_is in
+    subst (λ (r : Reply). Does old now course (asked_outcome s old.lasts now job.key request dropped id q job.occasion answer r) (record {
+      state = record s { zone = services.zone; kept = kept };
+      lasts = services.lasts;
+    })) (sym reply_is)
+    (subst (λ (z : RunningZone). Does old now course (asked_outcome s old.lasts now job.key request dropped id q job.occasion answer told) (record {
+      state = record s { zone = z.zone; kept = kept };
+      lasts = z.lasts;
+    })) (sym services_is)
+    (subst (λ (k : KeptReplies). Does old now course (asked_outcome s old.lasts now job.key request dropped id q job.occasion answer told) (record {
+      state = record s { zone = (asked_zone s old.lasts now job.key request dropped id q job.occasion answer).zone; kept = k };
+      lasts = (asked_zone s old.lasts now job.key request dropped id q job.occasion answer).lasts;
+    })) (sym kept_so) does))

@@ -1,0 +1,104 @@
+-- Steps in which no request is served.
+use Rattle.std.proofs.Common.{Bor, ◌≡◌, ◌<◌, ◌≤◌, ◌+◌, ℕ, Bool, true, false, List, refl, sym, ◌∙◌, ap, subst, Some, None, arith}
+use Rattle.std.specs.Prelude.{Option, IsTrue, is_some, if◌then◌else◌}
+use Rattle.std.specs.Option.{IsSomeAnd, option_copied, option_map}
+use Rattle.std.proofs.lemmas.Bool.Decides.{nat_tests}
+use Rattle.std.specs.FinMap as fin
+use Rattle.kept_replies.specs.Kept.{KeptReplies}
+use Rattle.registrations.specs.declared.registration.Registration.{Registration}
+use Rattle.expiry.specs.declared.due_item.DueItem.{DueItem}
+use Rattle.expiry.specs.declared.times.Times.{Times}
+use Rattle.expiry.specs.Due.{is_to_be_asked}
+use Rattle.ras_core.specs.declared.job.Occasion.TheVariants.{First}
+use Rattle.ras_core.specs.declared.outcome.Datagram.{Datagram}
+use Rattle.ras_core.specs.declared.outcome.IgnoredCause.TheVariants.{UnknownEndpoint}
+use Rattle.ras_core.specs.declared.outcome.Note.{Note}
+use Rattle.ras_core.specs.declared.outcome.Note.TheVariants as note
+use Rattle.ras_core.specs.declared.outcome.Outcome.{Outcome}
+use Rattle.ras_core.specs.State.{Running, RunningZone, State, Zone}
+use Rattle.ras_core.specs.Turns.{IsDueIn, effect, without_legs_of}
+use Rattle.ras_core.specs.Machine.{Hearing, Doing, Ignoring, response_course, course_answer}
+use Rattle.ras_core.specs.Changes.{heard_at}
+use Rattle.ras_core.specs.Leaving.{AreSameButLent}
+use Rattle.ras_core.specs.Soundness.{AreBornBefore}
+use Rattle.ras_core.specs.Steps.{Does, HasFewOctets, IsAllowed, ask_in, choices_of, lasts_after}
+use Rattle.ras_core.proofs.ButLent.{counts_same, same_after_end}
+use Rattle.ras_core.proofs.Departing.{over_else}
+use Rattle.ras_core.proofs.Dropping.{born_same}
+
+-- what is noted
+abbrev pub noted_outcome : Note → Option Datagram → Outcome
+noted_outcome what output = record {
+  answer = None;
+  output = output;
+  note = what;
+  dropped = None;
+  given = None;
+}
+
+-- an item is done
+module _ (old : Running) (now : ℕ) (item : DueItem) (due : IsDueIn old.state now item) where
+  pub does_item : (output : Option Datagram) (new : Running)
+      → (effect old.state now item).output ≡ output → (effect old.state now item).state ≡ new.state
+      → new.lasts ≡ old.lasts → AreSameButLent old.state.zone.pools new.state.zone.pools
+      → (AreBornBefore old.state.steps old.state.kept → AreBornBefore (old.state.steps + 1) new.state.kept)
+      → HasFewOctets output
+      → Does old now (Doing item) (noted_outcome (note.Done item) output) new
+  does_item output new sent is lasts pools births few = record {
+    allowed = due;
+    makes = λ j. Some (noted_outcome (note.Done item) (sent j), is j);
+    lasts = lasts;
+    counts = counts_same old.state.zone.pools new.state.zone.pools pools;
+    births = births;
+    few = few;
+  }
+
+-- an endpoint gave a sign of life
+pub does_hear : (old : Running) (now : ℕ) (id : List ℕ) (services : RunningZone)
+    → is_some (fin.get old.state.zone.live id) ≡ true
+    → services ≡ heard_at (record { zone = old.state.zone; lasts = old.lasts }) First now (Some id)
+    → Does old now (response_course old.state (Some id)) (noted_outcome note.Served None) (record {
+      state = record old.state { zone = services.zone };
+      lasts = services.lasts;
+    })
+does_hear old now id services there is =
+    subst (λ (z : RunningZone). Does old now (response_course old.state (Some id)) (noted_outcome note.Served None) (record {
+      state = record old.state { zone = z.zone };
+      lasts = z.lasts;
+    })) (sym is)
+    (subst (λ (b : Bool). Does old now (if b then Hearing id else Ignoring UnknownEndpoint) (noted_outcome note.Served None) (record {
+      state = record old.state { zone = heard_zone.zone };
+      lasts = heard_zone.lasts;
+    })) (sym there) (record {
+      allowed = tt;
+      makes = refl;
+      lasts = refl;
+      counts = counts_same old.state.zone.pools old.state.zone.pools (same_after_end old.state.zone.pools None);
+      births = λ before. born_same old.state.kept old.state.steps before;
+      few = tt;
+    })) where
+      heard_zone : RunningZone
+      heard_zone = heard_at (record { zone = old.state.zone; lasts = old.lasts }) First now (Some id)
+
+-- who leaves changes no setting
+pub settings_stay : (z : Zone) (id : List ℕ) → (without_legs_of z id).config ≡ z.config
+settings_stay z id = ap (λ (z : Zone). z.config) (over_else id z (fin.keys z.calls))
+
+pub endpoints_stay : (z : Zone) (id : List ℕ) → (without_legs_of z id).live ≡ z.live
+endpoints_stay z id = ap (λ (z : Zone). z.live) (over_else id z (fin.keys z.calls))
+
+-- who is asked was asked less than so often
+pub tries_few : (times : Times) (now : ℕ) (r : Registration) → IsTrue (is_to_be_asked times now r)
+    → times.asks ≤ 16 → r.tries < 16
+tries_few times now r is few = grind (arith, nat_tests)
+
+pub tries_few_in : (times : Times) (now : ℕ) (w : Option Registration)
+    → IsSomeAnd w (λ r. IsTrue (is_to_be_asked times now r)) → times.asks ≤ 16
+    → IsSomeAnd w (λ r. r.tries < 16)
+tries_few_in times now None is few = is
+tries_few_in times now (Some r) is few = tries_few times now r is few
+
+-- a look-up that finds something
+pub found_some : {A : Type 0} {v : Option A} (w : Option (Bor A)) → option_copied w ≡ v → is_some w ≡ true → is_some v ≡ true
+found_some None is some = absurd (cc some)
+found_some (Some x) is some = ap is_some (sym is)

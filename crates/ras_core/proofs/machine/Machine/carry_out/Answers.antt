@@ -1,0 +1,89 @@
+use Rattle.std.proofs.Common.{◌≡◌, ◌≤◌, ◌+◌, ◌∙◌, ℕ, List, Some, None, length, ap, subst, sym}
+use Rattle.std.specs.Prelude.{IfSome}
+use Rattle.ras_codec.specs.Replies.{encoding_of}
+use Rattle.kept_replies.specs.Kept.{KeptReplies, Passes, is_over}
+use Rattle.ras_core.specs.declared.outcome.Datagram.{Datagram}
+use Rattle.ras_core.specs.declared.outcome.Note.{Note}
+use Rattle.ras_core.specs.State.{Running, RunningZone}
+use Rattle.ras_core.specs.Keeping.{plan_at, term_of, with_reply}
+use Rattle.ras_core.specs.Machine.{Serving}
+use Rattle.ras_core.specs.Changes.{Decides, changed, heard_at}
+use Rattle.ras_core.specs.Soundness.{AreBornBefore}
+use Rattle.ras_core.specs.Steps.{Does, IsFresh, IsJob}
+use Rattle.ras_core.proofs.Agreeing.{on_ok}
+use Rattle.ras_core.proofs.Carrying.{does_carried, zone_after}
+use Rattle.ras_core.proofs.machine.Machine.carry_out.Goals as goal
+
+pub returns-clause-does : goal.returns-clause-does
+returns-clause-does g c plan request decides =
+    let i = c.self.inside in
+    let now = c.args.now in
+    let job = c.args.job in
+    let endpoint = c.args.endpoint in
+    let d = c.args.decision in
+    let dropped = c.keep_reply-dropped.result in
+    let old : Running = record {
+      state = record {
+        zone = i.services.zone;
+        kept = i.kept.kept;
+        clock = i.clock;
+        interrogation = i.interrogation;
+        pool_turn = i.pool_turn;
+        steps = i.steps;
+      };
+      lasts = i.services.lasts;
+    } in
+    let services = c.hear.new.self in
+    let kept = c.keep_reply-dropped.new.kept.kept in
+    let applied : c.apply.new.self ≡ changed i.services now d.change =
+    on_ok c.apply.result c.in_ok-apply.field-0 c.in_ok-apply.was c.apply.ensures.ok in
+    let services_is : services ≡ zone_after i.services.zone i.services.lasts now job.occasion endpoint d.change =
+    c.hear.ensures ∙ ap (λ (z : RunningZone). heard_at z job.occasion now endpoint) applied in
+    let until_is : c.term-term.result.until ≡ now + i.services.zone.config.window =
+    ap (λ t. t.until) c.term-term.ensures.same in
+    let kept_is : kept ≡ with_reply i.kept.kept job.key job.occasion dropped i.steps d.reply
+        (now + i.services.zone.config.window) =
+    c.keep_reply-dropped.ensures.kept
+    ∙ (λ j. with_reply (c.reserve.ensures.kept j) job.key job.occasion dropped i.steps d.reply (until_is j)) in
+    let over = subst (λ (k : KeptReplies). IfSome dropped (Passes (is_over now) k)) c.reserve.ensures.kept
+    (subst (λ (n : ℕ). IfSome dropped (Passes (is_over n) c.reserve.new.kept.kept)) c.milliseconds-start.ensures.same
+    c.keep_reply-dropped.ensures.over) in
+    let few = subst (λ (o : Datagram). length o.bytes ≤ 20000) c.in_ok-output.ensures.encoded c.in_ok-output.ensures.few in
+    let back = sym c.self.view_is in
+    let does = does_carried old now job endpoint d dropped services kept
+    (subst (λ (m : Running). IfSome d.given (IsFresh m.state)) back c.requires.fresh)
+    (subst (λ (m : Running). IsJob m.state now job) back c.requires.job)
+    (subst (λ (m : Running). AreBornBefore m.state.steps m.state.kept) back c.requires.births)
+    over few services_is kept_is plan request
+    (subst (λ (m : Running). Decides m.state.zone now plan d) back decides) in
+    let course = Serving (record {
+      job = job;
+      dropped = dropped;
+      request = request;
+      plan = plan_at job.occasion now endpoint plan;
+    }) in
+    let new : Running = record {
+      state = record old.state { zone = services.zone; kept = kept };
+      lasts = services.lasts;
+    } in
+    subst (λ (m : Running). Does m now course (record {
+      answer = None;
+      output = Some c.in_ok-output.output;
+      note = c.note-note.result;
+      dropped = dropped;
+      given = d.given;
+    }) new) c.self.view_is
+    (subst (λ (o : Datagram). Does old now course (record {
+      answer = None;
+      output = Some o;
+      note = c.note-note.result;
+      dropped = dropped;
+      given = d.given;
+    }) new) (sym c.in_ok-output.ensures.encoded)
+    (subst (λ (n : Note). Does old now course (record {
+      answer = None;
+      output = Some (record { to = job.key.source; bytes = encoding_of d.reply });
+      note = n;
+      dropped = dropped;
+      given = d.given;
+    }) new) (sym c.note-note.ensures) does))

@@ -1,0 +1,31 @@
+use Rattle.std.proofs.Common.{subst, sym, Some}
+use Rattle.ras_core.specs.declared.outcome.Outcome.{Outcome}
+use Rattle.ras_core.specs.State.{Running}
+use Rattle.ras_core.specs.Machine.{response_course}
+use Rattle.ras_core.specs.Steps.{Does}
+use Rattle.ras_core.proofs.Noting.{does_hear, found_some}
+use Rattle.ras_core.proofs.machine.Machine.hear_response.Goals as goal
+
+pub returns : goal.returns
+returns g c =
+    let i = c.self.inside in
+    let old : Running = record {
+      state = record {
+        zone = i.services.zone;
+        kept = i.kept.kept;
+        clock = i.clock;
+        interrogation = i.interrogation;
+        pool_turn = i.pool_turn;
+        steps = i.steps;
+      };
+      lasts = i.services.lasts;
+    } in
+    let id = c.args.endpoint.now in
+    let new : Running = record {
+      state = record old.state { zone = c.hear.new.self.zone };
+      lasts = c.hear.new.self.lasts;
+    } in
+    subst (λ (m : Running). Does m c.args.now (response_course m.state (Some id)) c.noted.result new) c.self.view_is
+    (subst (λ (o : Outcome). Does old c.args.now (response_course old.state (Some id)) o new) (sym c.noted.ensures)
+    (does_hear old c.args.now id c.hear.new.self
+    (found_some c.get.result c.get.ensures c.if-is_none.ensures) c.hear.ensures))

@@ -1,0 +1,37 @@
+use Rattle.std.proofs.Common.{◌≡◌, ◌∙◌, ap, subst, sym, Some}
+use Rattle.std.specs.Option.{option_map}
+use Rattle.std.specs.Map.Iter.{deref_pair}
+use Rattle.std.specs.FinMap as fin
+use Rattle.kept_replies.specs.Kept.{births}
+use Rattle.expiry.specs.declared.due_item.DueItem.TheVariants.{Retry}
+use Rattle.ras_core.specs.declared.job.Occasion.TheVariants.{Again}
+use Rattle.ras_core.specs.State.{Running, State}
+use Rattle.ras_core.specs.Turns.{IsDueIn}
+use Rattle.ras_core.specs.Steps.{IsAgain}
+use Rattle.ras_core.proofs.Retrying.{is_again, is_served}
+use Rattle.ras_core.proofs.machine.Machine.waiting.Goals as goal
+
+pub returns : goal.returns
+returns g c =
+    let i = c.self.inside in
+    let s : State = record {
+      zone = i.services.zone;
+      kept = i.kept.kept;
+      clock = i.clock;
+      interrogation = i.interrogation;
+      pool_turn = i.pool_turn;
+      steps = i.steps;
+    } in
+    let key = c.in-Some.key.now in
+    let entry = c.in-Some.entry.now in
+    let found : fin.get (births i.kept.kept) c.args.born ≡ Some (key, entry) =
+    sym c.by_born.ensures.found ∙ ap (option_map deref_pair) c.in-Some.is in
+    subst (λ (m : Running). IsAgain m.state c.args.now c.args.born (record {
+      key = c.in_ok-copy.field-0;
+      occasion = Again c.args.born c.in-Pending.left;
+    }) c.in_ok-copy-2.field-0) c.self.view_is
+    (is_again s c.by_born.ensures.sound.births c.args.now c.args.born key entry found
+    c.in-Pending.request c.in-Pending.reply c.in-Pending.retry c.in-Pending.left c.in-Pending.is
+    c.in_ok-copy.field-0 c.in_ok-copy-2.field-0 c.in_ok-copy.ensures c.in_ok-copy-2.ensures
+    (is_served c.in-Pending.request c.in_default-request.not-Irr)
+    (subst (λ (m : Running). IsDueIn m.state c.args.now (Retry c.args.born)) (sym c.self.view_is) c.requires))

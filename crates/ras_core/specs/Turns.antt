@@ -1,0 +1,89 @@
+-- What is due, and what it comes to (H.323, status of calls; H.225.0, timeToLive, InfoRequest).
+use Rattle.std.specs.Prelude.{ℕ, ◌+◌, ◌==◌, List, Option, None, Some, if◌then◌else◌}
+use Rattle.std.specs.List.{fold}
+use Rattle.std.specs.Option.{option_map}
+use Rattle.std.specs.FinMap.{get, keys, remove}
+use Rattle.keyed.specs.Maps.{update}
+use Rattle.ras_module.specs.declared.address.Address.{Address}
+use Rattle.ras_module.specs.declared.reply.Reply.TheVariants.{Irq}
+use Rattle.ras_codec.specs.Replies.{encoding_of}
+use Rattle.registrations.specs.declared.registration.Registration.{Registration}
+use Rattle.registrations.specs.Registry.{after_ask, after_calm}
+use Rattle.kept_replies.specs.Kept.{without_birth}
+use Rattle.expiry.specs.declared.due_item.DueItem.{DueItem}
+use Rattle.expiry.specs.declared.due_item.DueItem.TheVariants.{RegistrationOver, Interrogate, Silent, Retry, KeptOver, PoolTurn}
+use Rattle.expiry.specs.declared.times.Times.{Times}
+use Rattle.expiry.specs.Due.{IsDue, IsNothingDue}
+use Rattle.ras_core.specs.declared.config.ConfigParts.{ConfigParts}
+use Rattle.ras_core.specs.declared.outcome.Datagram.{Datagram}
+use Rattle.ras_core.specs.State.{Zone, State, with_live}
+use Rattle.ras_core.specs.Disengaging.{without_leg_of}
+
+-- how long an endpoint in a call may be silent
+abbrev pub times_of : ConfigParts → Times
+times_of config = record {
+  silence = config.silence;
+  asks = config.asks;
+  ask_wait = config.ask_wait;
+}
+
+-- the item is due in this state, or nothing is
+abbrev pub IsDueIn : State → ℕ → DueItem → Type 0
+IsDueIn s now item =
+    IsDue now s.pool_turn (times_of s.zone.config) s.zone.live s.zone.calls s.kept item
+
+abbrev pub IsNothingDueIn : State → ℕ → Type 0
+IsNothingDueIn s now =
+    IsNothingDue now s.pool_turn (times_of s.zone.config) s.zone.live s.zone.calls s.kept
+
+-- the endpoint leaves each of its calls, as if it disengaged: those without a leg end, and their
+-- units go back
+abbrev pub without_legs_of : Zone → List ℕ → Zone
+without_legs_of z endpoint =
+    fold (λ left call. without_leg_of left call endpoint) z (keys z.calls)
+
+-- what is done of itself: what is sent, and the state then
+pub record Effect : Type 0 where
+  pub output : Option Datagram
+  pub state : State
+
+-- nothing is sent
+abbrev pub quietly : State → Effect
+quietly s = record { output = None; state = s }
+
+-- the registration goes, with the endpoint's legs
+abbrev pub without_endpoint : Zone → List ℕ → Zone
+without_endpoint z endpoint =
+    with_live (without_legs_of z endpoint) (remove z.live endpoint)
+
+-- the legs of an endpoint go that is silent, and it stays registered
+abbrev pub without_silent : Zone → List ℕ → Zone
+without_silent z endpoint =
+    with_live (without_legs_of z endpoint) (update z.live endpoint after_calm)
+
+-- the requestSeqNum of the next interrogation is from 1 to 65535
+abbrev pub next_interrogation : ℕ → ℕ
+next_interrogation number = if number == 65535 then 1 else number + 1
+
+-- an endpoint is asked for a sign of life at its RAS address
+abbrev pub inquiry : ℕ → Registration → Datagram
+inquiry number r = record { to = r.ras; bytes = encoding_of (Irq number) }
+
+abbrev pub interrogation : State → ℕ → List ℕ → Effect
+interrogation s now endpoint = record {
+  output = option_map (inquiry s.interrogation) (get s.zone.live endpoint);
+  state = record s {
+    zone = with_live s.zone (update s.zone.live endpoint (after_ask now));
+    interrogation = next_interrogation s.interrogation;
+  };
+}
+
+-- what each item comes to, but for a request that is served again
+abbrev pub effect : State → ℕ → DueItem → Effect
+effect s now (RegistrationOver id) =
+    quietly (record s { zone = without_endpoint s.zone id })
+effect s now (Interrogate id) = interrogation s now id
+effect s now (Silent id) = quietly (record s { zone = without_silent s.zone id })
+effect s now (Retry born) = quietly s
+effect s now (KeptOver born) = quietly (record s { kept = without_birth s.kept born })
+effect s now PoolTurn = quietly (record s { pool_turn = now + s.zone.config.pool_turn })
