@@ -164,5 +164,7 @@ fn one_registration_changes(rt: HostRuntime) -> Result<(), Fail> {
         None => assert!(rt; false),
     }
     assert!(rt; matches!(table.get(&other), Some(r) if r.ras == address(2) && r.deadline == 200));
+    // the numbers go on as they would have without these changes
+    assert!(rt; table.unused(&[]) == id("0003")?);
     Ok(())
 }
