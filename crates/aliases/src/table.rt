@@ -102,9 +102,9 @@ impl AliasTable {
         self.rows.reserve(more)
     }
 
-    /// Enters an alias for its holder, in place of what was entered for it there. The alias comes back
-    /// where another endpoint holds it, and for want of memory, which is never where there is room, nor
-    /// where its holder has it already.
+    /// Enters an alias for its holder, in place of what was entered for it there. The alias comes
+    /// back where another endpoint holds it, and for want of memory, which is never where there is
+    /// room, nor where its holder has it already.
     pub fn set(
         &mut self,
         alias: Alias,
