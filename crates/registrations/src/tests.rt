@@ -270,6 +270,8 @@ fn one_registration_changes(rt: HostRuntime) -> Result<(), Fail> {
     let is_rewritten = is_rewritten(&mut table, alloc, &one);
     let is_copied = is_copied(&table, &one);
     let is_same = matches!(table.get(&other), Some(r) if r.ras == address(2) && r.deadline == 200);
+    // the numbers go on as they would have without these changes
+    let goes_on = table.unused(&[]) == id(b'3');
     drop(table);
     assert!(rt; are_registered);
     assert!(rt; is_renewed);
@@ -277,5 +279,6 @@ fn one_registration_changes(rt: HostRuntime) -> Result<(), Fail> {
     assert!(rt; is_rewritten);
     assert!(rt; is_copied?);
     assert!(rt; is_same);
+    assert!(rt; goes_on);
     Ok(())
 }
