@@ -102,8 +102,9 @@ impl AliasTable {
         self.rows.reserve(more)
     }
 
-    /// Enters an alias for its holder, in place of what was entered for it there. The alias comes back
-    /// where another endpoint holds it, and for want of memory, which is never where there is room.
+    /// Enters an alias for its holder, in place of what was entered for it there. The alias comes
+    /// back where another endpoint holds it, and for want of memory, which is never where there is
+    /// room, nor where its holder has it already.
     pub fn set(
         &mut self,
         alias: Alias,
@@ -115,6 +116,7 @@ impl AliasTable {
         ensures duplicate { (result ≡ Err (alias, SetFault.Duplicate))
             ↔ IsHeldByAnother self.old.held alias holder }
         ensures reserved { 0 < self.old.room → result ≢ Err (alias, SetFault.Memory) }
+        ensures replaces { holder_of self.old.held alias ≡ Some holder → IsOk result }
         ensures alias { IfErr result (λ e. e.0 ≡ alias) }
         ensures err { OnErr result (Becomes self.old self.new self.old.held) }
     {

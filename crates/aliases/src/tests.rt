@@ -1,32 +1,19 @@
 use crate::*;
-use ras_module::{Address, Alias, AliasList, BmpString, DialledDigits, EndpointId};
-use std::alloc::Global;
+use ras_module::{Address, Alias, BmpString, DialledDigits, EndpointId};
+use std::alloc::{AllocError, Global};
 use std::test::Fail;
 
-fn characters(text: &str) -> Result<BmpString<128>, Fail> {
-    let mut characters = [0u16; 128];
-    for (place, octet) in characters.iter_mut().zip(text.bytes()) {
-        *place = u16::from(octet);
-    }
-    let count = text.len().min(128);
-    Ok(BmpString::new(&characters[..count]).ok_or("a text has 1 to 128 characters")?)
+fn digits(text: &[u16]) -> Option<Alias> {
+    Some(Alias::Digits(DialledDigits::new(BmpString::new(text)?)?))
 }
 
-fn digits(text: &str) -> Result<Alias, Fail> {
-    Ok(Alias::Digits(DialledDigits::new(characters(text)?).ok_or("digits")?))
+fn named(text: &[u16]) -> Option<Alias> {
+    Some(Alias::H323Id(BmpString::new(text)?))
 }
 
-fn named(text: &str) -> Result<Alias, Fail> {
-    let mut characters = [0u16; 256];
-    for (place, octet) in characters.iter_mut().zip(text.bytes()) {
-        *place = u16::from(octet);
-    }
-    let count = text.len().min(256);
-    Ok(Alias::H323Id(BmpString::new(&characters[..count]).ok_or("a name has 1 to 256 characters")?))
-}
-
-fn id(text: &str) -> Result<EndpointId, Fail> {
-    Ok(EndpointId::new(characters(text)?))
+/// An identifier of four digits, of which the last is given.
+fn id(last: u8) -> EndpointId {
+    EndpointId::new(BmpString::new(&[48, 48, 48, u16::from(last)]).unwrap())
 }
 
 fn address(last: u8) -> Address {
@@ -36,71 +23,136 @@ fn address(last: u8) -> Address {
     }
 }
 
-fn list(alloc: Global, aliases: &[Alias]) -> Result<AliasList, Fail> {
-    let mut list = AliasList::new(alloc);
-    for alias in aliases {
-        list.push(*alias)?;
+fn is_set(table: &mut AliasTable, alias: &Alias, holder: u8, last: u8) -> bool {
+    table.set(*alias, id(holder), address(last)).is_ok()
+}
+
+/// Whether an alias comes back, since another endpoint holds it.
+fn is_duplicate(table: &mut AliasTable, alias: &Alias, holder: u8, last: u8) -> bool {
+    match table.set(*alias, id(holder), address(last)) {
+        Ok(()) => false,
+        Err((back, fault)) => back == *alias && fault == SetFault::Duplicate,
     }
-    Ok(list)
+}
+
+fn is_held(table: &AliasTable, alias: &Alias, holder: u8) -> bool {
+    match table.holder(alias) {
+        Some(found) => *found == id(holder),
+        None => false,
+    }
+}
+
+/// Whether these aliases, in this order, are in conflict with an endpoint at this address.
+fn are_in_conflict(
+    table: &AliasTable,
+    asked: &[Alias],
+    last: u8,
+    expected: &[Alias],
+) -> Result<bool, AllocError> {
+    let held = table.conflicts(asked, address(last))?;
+    Ok(held.as_slice() == expected)
+}
+
+/// Whether a number is entered once, and again by its own holder from another address. The same
+/// characters as a name are another alias.
+fn has_one_holder(table: &mut AliasTable, number: &Alias, name: &Alias) -> bool {
+    table.holder(number).is_none()
+        && is_set(table, number, b'1', 5)
+        && is_held(table, number, b'1')
+        && table.holder(name).is_none()
+        && is_duplicate(table, number, b'2', 6)
+        && is_held(table, number, b'1')
+        && is_set(table, number, b'1', 7)
+}
+
+/// Whether an alias is in conflict at another address than its holder's alone.
+fn is_in_conflict_elsewhere(table: &AliasTable, alias: &Alias) -> Result<bool, AllocError> {
+    Ok(
+        are_in_conflict(table, &[*alias], 7, &[])?
+            && are_in_conflict(table, &[*alias], 5, &[*alias])?,
+    )
 }
 
 #[test]
 fn an_alias_has_one_holder(rt: HostRuntime) -> Result<(), Fail> {
+    let number = digits(&[52, 55, 49, 49]).ok_or("digits")?;
+    let name = named(&[52, 55, 49, 49]).ok_or("a name")?;
     let mut table = AliasTable::new(rt.alloc());
-    assert!(rt; table.holder(&digits("4711")?).is_none());
-    assert!(rt; table.set(digits("4711")?, id("0001")?, address(5)).is_ok());
-    assert!(rt; matches!(table.holder(&digits("4711")?), Some(holder) if *holder == id("0001")?));
-    // the same characters as a name are another alias
-    assert!(rt; table.holder(&named("4711")?).is_none());
-    match table.set(digits("4711")?, id("0002")?, address(6)) {
-        Err((alias, fault)) => {
-            assert!(rt; alias == digits("4711")?);
-            assert!(rt; fault == SetFault::Duplicate);
-        }
-        Ok(()) => assert!(rt; false),
-    }
-    assert!(rt; matches!(table.holder(&digits("4711")?), Some(holder) if *holder == id("0001")?));
-    // its own holder may enter it again, from another address
-    assert!(rt; table.set(digits("4711")?, id("0001")?, address(7)).is_ok());
-    assert!(rt; table.conflicts(&[digits("4711")?], address(7))?.is_empty());
-    assert!(rt; table.conflicts(&[digits("4711")?], address(5))?.len() == 1);
+    let has_one_holder = has_one_holder(&mut table, &number, &name);
+    let is_in_conflict = is_in_conflict_elsewhere(&table, &number);
+    drop(table);
+    assert!(rt; has_one_holder);
+    assert!(rt; is_in_conflict?);
     Ok(())
+}
+
+/// Whether the aliases of two endpoints are in conflict in the order in which they are asked, and
+/// those at one's own address are not.
+fn are_in_the_order_asked(
+    table: &mut AliasTable,
+    one: &Alias,
+    anna: &Alias,
+    two: &Alias,
+    three: &Alias,
+) -> Result<bool, AllocError> {
+    if !is_set(table, one, b'1', 1) || !is_set(table, anna, b'1', 1) {
+        return Ok(false);
+    }
+    if !is_set(table, two, b'2', 2) {
+        return Ok(false);
+    }
+    let asked = [*two, *anna, *three, *one, *two];
+    Ok(
+        are_in_conflict(table, &asked, 3, &[*two, *anna, *one, *two])?
+            && are_in_conflict(table, &asked, 2, &[*anna, *one])?,
+    )
 }
 
 #[test]
 fn conflicts_stand_as_in_the_list(rt: HostRuntime) -> Result<(), Fail> {
+    let one = digits(&[49]).ok_or("digits")?;
+    let two = digits(&[50]).ok_or("digits")?;
+    let three = digits(&[51]).ok_or("digits")?;
+    let anna = named(&[97, 110, 110, 97]).ok_or("a name")?;
     let mut table = AliasTable::new(rt.alloc());
-    assert!(rt; table.set(digits("1")?, id("0001")?, address(1)).is_ok());
-    assert!(rt; table.set(named("anna")?, id("0001")?, address(1)).is_ok());
-    assert!(rt; table.set(digits("2")?, id("0002")?, address(2)).is_ok());
-    let asked = [
-        digits("2")?,
-        named("anna")?,
-        digits("3")?,
-        digits("1")?,
-        digits("2")?,
-    ];
-    let held = table.conflicts(&asked, address(3))?;
-    let all = [digits("2")?, named("anna")?, digits("1")?, digits("2")?];
-    assert!(rt; held == list(rt.alloc(), &all)?);
-    // those at one's own address are none
-    let others = table.conflicts(&asked, address(2))?;
-    assert!(rt; others == list(rt.alloc(), &[named("anna")?, digits("1")?])?);
+    let are_in_order = are_in_the_order_asked(&mut table, &one, &anna, &two, &three);
+    drop(table);
+    assert!(rt; are_in_order?);
     Ok(())
+}
+
+/// A table in which the first endpoint holds two aliases.
+fn table_of_two(alloc: Global, one: &Alias, two: &Alias) -> Result<AliasTable, AllocError> {
+    let mut table = AliasTable::new(alloc);
+    table.reserve(2)?;
+    table.set_all(&[*one, *two], id(b'1'), address(1));
+    Ok(table)
+}
+
+/// Whether a holder goes with its aliases, and with no other.
+fn goes_with_its_aliases(table: &mut AliasTable, others: &[Alias; 2]) -> bool {
+    if !is_set(table, &others[0], b'2', 2) || !is_set(table, &others[1], b'1', 1) {
+        return false;
+    }
+    table.drop_holder(&id(b'1'));
+    is_held(table, &others[0], b'2') && table.holder(&others[1]).is_none()
 }
 
 #[test]
 fn a_holder_goes_with_all_its_aliases(rt: HostRuntime) -> Result<(), Fail> {
-    let mut table = AliasTable::new(rt.alloc());
-    table.reserve(2)?;
-    table.set_all(&[digits("1")?, digits("2")?], id("0001")?, address(1));
-    assert!(rt; table.set(digits("3")?, id("0002")?, address(2)).is_ok());
-    assert!(rt; table.set(digits("4")?, id("0001")?, address(1)).is_ok());
-    table.drop_holder(&id("0001")?);
-    assert!(rt; table.holder(&digits("1")?).is_none());
-    assert!(rt; table.holder(&digits("2")?).is_none());
-    assert!(rt; table.holder(&digits("4")?).is_none());
-    assert!(rt; matches!(table.holder(&digits("3")?), Some(holder) if *holder == id("0002")?));
-    assert!(rt; table.set(digits("1")?, id("0003")?, address(3)).is_ok());
+    let one = digits(&[49]).ok_or("digits")?;
+    let two = digits(&[50]).ok_or("digits")?;
+    let three = digits(&[51]).ok_or("digits")?;
+    let four = digits(&[52]).ok_or("digits")?;
+    let mut table = table_of_two(rt.alloc(), &one, &two)?;
+    let were_held = is_held(&table, &one, b'1') && is_held(&table, &two, b'1');
+    let goes = goes_with_its_aliases(&mut table, &[three, four]);
+    let are_gone = table.holder(&one).is_none() && table.holder(&two).is_none();
+    let is_free = is_set(&mut table, &one, b'3', 3);
+    drop(table);
+    assert!(rt; were_held);
+    assert!(rt; goes);
+    assert!(rt; are_gone);
+    assert!(rt; is_free);
     Ok(())
 }

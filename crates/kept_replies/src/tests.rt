@@ -20,46 +20,46 @@ fn key(alloc: Global, octet: u8) -> Result<KeptKey, AllocError> {
     })
 }
 
-fn seq(number: u16) -> Result<RequestSeqNum, Fail> {
-    Ok(RequestSeqNum::new(number).ok_or("at least 1")?)
+fn seq(number: u16) -> RequestSeqNum {
+    RequestSeqNum::new(number).unwrap_or(RequestSeqNum::new(1).unwrap())
 }
 
-fn confirm(number: u16) -> Result<Reply, Fail> {
-    Ok(Reply::Dcf { seq: seq(number)? })
+fn confirm(number: u16) -> Reply {
+    Reply::Dcf { seq: seq(number) }
 }
 
-fn progress(number: u16) -> Result<Reply, Fail> {
-    Ok(Reply::Rip {
-        seq: seq(number)?,
-        delay: Delay::new(1500).ok_or("at least 1")?,
-    })
+fn progress(number: u16) -> Reply {
+    Reply::Rip {
+        seq: seq(number),
+        delay: Delay::new(1500).unwrap(),
+    }
 }
 
-fn endpoint(last: u8) -> Result<EndpointId, Fail> {
-    let text = BmpString::new(&[48, 48, 48, u16::from(last)]).ok_or("four digits are a text")?;
-    Ok(EndpointId::new(text))
+fn endpoint(last: u8) -> EndpointId {
+    EndpointId::new(BmpString::new(&[48, 48, 48, u16::from(last)]).unwrap())
 }
 
 fn registered(alloc: Global, last: u8) -> Result<Reply, Fail> {
+    let aliases = ReplyAliases::new(AliasList::new(alloc))
+        .ok()
+        .ok_or("no alias is few")?;
     Ok(Reply::Rcf {
-        seq: seq(1)?,
+        seq: seq(1),
         call_signal: SOURCE,
-        aliases: ReplyAliases::new(AliasList::new(alloc))
-            .ok()
-            .ok_or("no alias is few")?,
-        gatekeeper: Name::new(&[103, 107]).ok_or("two characters are a name")?,
-        endpoint: endpoint(last)?,
-        granted: TimeToLive::new(60).ok_or("at least 1")?,
+        aliases,
+        gatekeeper: Name::new(&[103, 107]).unwrap(),
+        endpoint: endpoint(last),
+        granted: TimeToLive::new(60).unwrap(),
     })
 }
 
-fn request() -> Result<Request, Fail> {
-    Ok(Request::Brq {
-        seq: seq(7)?,
-        endpoint: endpoint(b'1')?,
+fn request() -> Request {
+    Request::Brq {
+        seq: seq(7),
+        endpoint: endpoint(b'1'),
         call: CallKey { octets: [17; 16] },
         asked: 1280,
-    })
+    }
 }
 
 fn keep(kept: &mut Kept, key: KeptKey, born: u64, reply: Reply, until: u64) -> Result<(), Fail> {
@@ -81,10 +81,8 @@ fn pend(kept: &mut Kept, key: KeptKey, born: u64, retry: u64, left: u64) -> Resu
     if !kept.is_free(&key, born) || left == 0 {
         return Err(Fail::from("no entry is like this"));
     }
-    let request = request()?;
-    let reply = progress(7)?;
     kept.reserve(retry)?;
-    kept.pend(key, born, request, reply, retry, left);
+    kept.pend(key, born, request(), progress(7), retry, left);
     Ok(())
 }
 
@@ -106,7 +104,7 @@ fn answer(kept: &mut Kept, key: &KeptKey, until: u64) -> Result<(), Fail> {
     if kept.find(key).is_none() {
         return Err(Fail::from("nothing is kept"));
     }
-    kept.finish(key, confirm(7)?, until);
+    kept.finish(key, confirm(7), until);
     Ok(())
 }
 
@@ -119,8 +117,7 @@ fn keep_confirm(
     until: u64,
 ) -> Result<(), Fail> {
     let datagram = key(alloc, octet)?;
-    let reply = confirm(u16::from(octet))?;
-    keep(kept, datagram, born, reply, until)
+    keep(kept, datagram, born, confirm(u16::from(octet)), until)
 }
 
 fn keep_registered(
@@ -142,10 +139,9 @@ fn is_kept(alloc: Global, kept: &Kept, octet: u8) -> Result<bool, Fail> {
 
 // The reply that is kept is this confirm, and equals its copy.
 fn is_confirm(kept: &Kept, born: u64, number: u16) -> Result<bool, Fail> {
-    let reply = confirm(number)?;
     let (_datagram, entry) = kept.by_born(born).ok_or("it is kept")?;
     let copy = entry.copy()?;
-    Ok(*entry.state.reply() == reply && copy == *entry)
+    Ok(*entry.state.reply() == confirm(number) && copy == *entry)
 }
 
 fn left_of(kept: &Kept, born: u64) -> u64 {
@@ -174,29 +170,40 @@ fn is_taken_until(kept: &Kept, moment: u64) -> bool {
 
 // One reply may be kept, for 10,000 milliseconds. A second datagram comes a millisecond after the
 // first, and again when the first reply is over.
+fn becomes_free(alloc: Global, kept: &mut Kept) -> Result<bool, Fail> {
+    keep_confirm(alloc, kept, 1, 0, 10_000)?;
+    let is_taken = is_taken_until(kept, 10_000);
+    let is_busy = kept.reserve(1) == Err(ReserveFault::Busy);
+    let is_left = kept.drop_one_expired(9999).is_none();
+    kept.reserve(10_000)?;
+    let is_dropped = kept.drop_one_expired(10_000) == Some(0);
+    Ok(is_taken && is_busy && is_left && is_dropped && kept.len() == 0)
+}
+
 #[test]
 fn a_place_becomes_free_when_its_time_is_over(rt: HostRuntime) -> Result<(), Fail> {
     let mut kept = Kept::new(rt.alloc(), 1);
-    keep_confirm(rt.alloc(), &mut kept, 1, 0, 10_000)?;
-    assert!(rt; is_taken_until(&kept, 10_000));
-    assert_eq!(rt; kept.reserve(1), Err(ReserveFault::Busy));
-    assert_eq!(rt; kept.drop_one_expired(9999), None);
-    kept.reserve(10_000)?;
-    assert_eq!(rt; kept.drop_one_expired(10_000), Some(0));
-    assert_eq!(rt; kept.len(), 0);
+    let becomes_free = becomes_free(rt.alloc(), &mut kept);
+    drop(kept);
+    assert!(rt; becomes_free?);
     Ok(())
+}
+
+fn is_found_until_dropped(alloc: Global, kept: &mut Kept) -> Result<bool, Fail> {
+    keep_confirm(alloc, kept, 2, 3, 20_000)?;
+    let is_found = is_kept(alloc, kept, 2)? && is_confirm(kept, 3, 2)?;
+    kept.drop_born(4);
+    let is_still_found = is_kept(alloc, kept, 2)?;
+    kept.drop_born(3);
+    Ok(is_found && is_still_found && !is_kept(alloc, kept, 2)?)
 }
 
 #[test]
 fn a_reply_is_found_until_it_is_dropped(rt: HostRuntime) -> Result<(), Fail> {
     let mut kept = Kept::new(rt.alloc(), 1);
-    keep_confirm(rt.alloc(), &mut kept, 2, 3, 20_000)?;
-    assert!(rt; is_kept(rt.alloc(), &kept, 2)?);
-    assert!(rt; is_confirm(&kept, 3, 2)?);
-    kept.drop_born(4);
-    assert!(rt; is_kept(rt.alloc(), &kept, 2)?);
-    kept.drop_born(3);
-    assert!(rt; !is_kept(rt.alloc(), &kept, 2)?);
+    let is_found = is_found_until_dropped(rt.alloc(), &mut kept);
+    drop(kept);
+    assert!(rt; is_found?);
     Ok(())
 }
 
@@ -214,80 +221,129 @@ fn is_waiting_until(kept: &Kept, moment: u64, left: u64) -> bool {
         && left_of(kept, 3) == left
 }
 
-// A request waits twice, and is then answered: its entry keeps its birth.
+// A request waits twice.
+fn waits_twice(kept: &mut Kept, waiting: &KeptKey) -> Result<bool, Fail> {
+    pend(kept, waiting.copy()?, 3, 1500, 3)?;
+    let is_waiting = is_waiting_until(kept, 1500, 3);
+    postpone(kept, waiting, 3000)?;
+    Ok(is_waiting && is_waiting_until(kept, 3000, 2))
+}
+
+// It is then answered: its entry keeps its birth.
+fn is_answered(kept: &mut Kept, waiting: &KeptKey) -> Result<bool, Fail> {
+    answer(kept, waiting, 13_000)?;
+    let waits_no_more = kept.retry(u64::MAX).is_none();
+    Ok(waits_no_more && kept.over(13_000) == Some(3) && is_confirm(kept, 3, 7)?)
+}
+
+fn waits_and_is_answered(alloc: Global, kept: &mut Kept) -> Result<bool, Fail> {
+    let waiting = key(alloc, 1)?;
+    Ok(waits_twice(kept, &waiting)? && is_answered(kept, &waiting)?)
+}
+
 #[test]
 fn a_request_waits_and_is_answered(rt: HostRuntime) -> Result<(), Fail> {
     let mut kept = Kept::new(rt.alloc(), 8);
-    let waiting = key(rt.alloc(), 1)?;
-    let copy = waiting.copy()?;
-    pend(&mut kept, copy, 3, 1500, 3)?;
-    assert!(rt; is_waiting_until(&kept, 1500, 3));
-    postpone(&mut kept, &waiting, 3000)?;
-    assert!(rt; is_waiting_until(&kept, 3000, 2));
-    answer(&mut kept, &waiting, 13_000)?;
-    assert!(rt; kept.retry(u64::MAX).is_none());
-    assert_eq!(rt; kept.over(13_000), Some(3));
-    assert!(rt; is_confirm(&kept, 3, 7)?);
+    let is_answered = waits_and_is_answered(rt.alloc(), &mut kept);
+    drop(kept);
+    assert!(rt; is_answered?);
     Ok(())
+}
+
+fn is_free_for_another_birth(alloc: Global, kept: &mut Kept) -> Result<bool, Fail> {
+    keep_confirm(alloc, kept, 1, 3, 10)?;
+    let other = key(alloc, 2)?;
+    Ok(!kept.is_free(&other, 3) && kept.is_free(&other, 4))
 }
 
 #[test]
 fn a_birth_belongs_to_one_datagram(rt: HostRuntime) -> Result<(), Fail> {
     let mut kept = Kept::new(rt.alloc(), 8);
-    keep_confirm(rt.alloc(), &mut kept, 1, 3, 10)?;
-    let other = key(rt.alloc(), 2)?;
-    assert!(rt; !kept.is_free(&other, 3));
-    assert!(rt; kept.is_free(&other, 4));
+    let is_free = is_free_for_another_birth(rt.alloc(), &mut kept);
+    drop(kept);
+    assert!(rt; is_free?);
     Ok(())
+}
+
+fn are_told(alloc: Global, kept: &mut Kept) -> Result<bool, Fail> {
+    keep_registered(alloc, kept, 1, b'1', 0)?;
+    keep_confirm(alloc, kept, 2, 2, 10_000)?;
+    keep_registered(alloc, kept, 3, b'2', 10_000)?;
+    let are_named = kept.is_named(&endpoint(b'1')) && kept.is_named(&endpoint(b'2'));
+    let is_unnamed = !kept.is_named(&endpoint(b'3'));
+    let ids = kept.identifiers()?;
+    let are_listed = ids.as_slice() == [endpoint(b'1'), endpoint(b'2')].as_slice();
+    Ok(are_named && is_unnamed && are_listed)
 }
 
 #[test]
 fn identifiers_that_confirms_tell(rt: HostRuntime) -> Result<(), Fail> {
     let mut kept = Kept::new(rt.alloc(), 8);
-    keep_registered(rt.alloc(), &mut kept, 1, b'1', 0)?;
-    keep_confirm(rt.alloc(), &mut kept, 2, 2, 10_000)?;
-    keep_registered(rt.alloc(), &mut kept, 3, b'2', 10_000)?;
-    assert!(rt; kept.is_named(&endpoint(b'1')?));
-    assert!(rt; kept.is_named(&endpoint(b'2')?));
-    assert!(rt; !kept.is_named(&endpoint(b'3')?));
-    let ids = kept.identifiers()?;
-    assert!(rt; ids.as_slice() == [endpoint(b'1')?, endpoint(b'2')?].as_slice());
+    let are_told = are_told(rt.alloc(), &mut kept);
+    drop(kept);
+    assert!(rt; are_told?);
     Ok(())
+}
+
+// The list has entries of these births, in this order, and each is found.
+fn are_listed(kept: &Kept, births: &[u64]) -> Result<bool, AllocError> {
+    let list = KeptList::from_vec(kept.list()?.into_vec());
+    let rows = list.as_slice();
+    for (row, born) in rows.iter().zip(births) {
+        if row.1.born != *born || kept.find(&row.0).is_none() {
+            return Ok(false);
+        }
+    }
+    Ok(rows.len() == births.len())
+}
+
+fn is_by_rising_birth(alloc: Global, kept: &mut Kept) -> Result<bool, Fail> {
+    for born in [7u8, 3, 200, 1, 9] {
+        keep_confirm(alloc, kept, 255 - born, u64::from(born), 10)?;
+    }
+    // in place of an earlier one, with another birth
+    keep_confirm(alloc, kept, 248, 8, 10)?;
+    Ok(are_listed(kept, &[1, 3, 8, 9, 200])?)
 }
 
 #[test]
 fn a_list_is_by_rising_birth(rt: HostRuntime) -> Result<(), Fail> {
     let mut kept = Kept::new(rt.alloc(), 65_536);
-    for born in [7u8, 3, 200, 1, 9] {
-        keep_confirm(rt.alloc(), &mut kept, 255 - born, u64::from(born), 10)?;
-    }
-    // in place of an earlier one, with another birth
-    keep_confirm(rt.alloc(), &mut kept, 248, 8, 10)?;
-    let list = KeptList::from_vec(kept.list()?.into_vec());
-    for (row, born) in list.as_slice().iter().zip([1, 3, 8, 9, 200]) {
-        assert_eq!(rt; row.1.born, born);
-        assert!(rt; kept.find(&row.0).is_some());
-    }
-    assert_eq!(rt; list.as_slice().len(), 5);
+    let is_rising = is_by_rising_birth(rt.alloc(), &mut kept);
+    drop(kept);
+    assert!(rt; is_rising?);
     Ok(())
 }
 
 // Where a request for memory is refused, nothing has changed, and the same call is done with
 // memory.
+fn is_kept_at_last(alloc: Global, kept: &mut Kept, octet: u8) -> Result<bool, Fail> {
+    if let Err(fault) = kept.reserve(0) {
+        if fault != ReserveFault::Memory || kept.len() != usize::from(octet) {
+            return Ok(false);
+        }
+        kept.reserve(0)?;
+    }
+    insist(alloc, kept, octet)?;
+    Ok(true)
+}
+
+fn are_kept_at_last(alloc: Global, kept: &mut Kept) -> Result<bool, Fail> {
+    for octet in 0..12u8 {
+        if !is_kept_at_last(alloc, kept, octet)? {
+            return Ok(false);
+        }
+    }
+    let identifiers = count_of_identifiers(kept)?;
+    Ok(kept.len() == 12 && identifiers == 12 && count_of_list(kept)? == 12)
+}
+
 #[test]
 fn a_refusal_of_memory_changes_nothing(rt: HostRuntime) -> Result<(), Fail> {
     let mut kept = Kept::new(rt.alloc(), 100);
-    for octet in 0..12u8 {
-        if let Err(fault) = kept.reserve(0) {
-            assert_eq!(rt; fault, ReserveFault::Memory);
-            assert_eq!(rt; kept.len(), usize::from(octet));
-            kept.reserve(0)?;
-        }
-        insist(rt.alloc(), &mut kept, octet)?;
-    }
-    assert_eq!(rt; kept.len(), 12);
-    assert_eq!(rt; count_of_identifiers(&kept)?, 12);
-    assert_eq!(rt; count_of_list(&kept)?, 12);
+    let are_kept = are_kept_at_last(rt.alloc(), &mut kept);
+    drop(kept);
+    assert!(rt; are_kept?);
     Ok(())
 }
 

@@ -1,5 +1,5 @@
 use crate::*;
-use std::alloc::Global;
+use std::alloc::{AllocError, Global};
 use std::test::Fail;
 
 fn name(text: &str) -> Result<Name, Fail> {
@@ -16,8 +16,18 @@ fn digits(text: &str) -> Result<Alias, Fail> {
     Ok(Alias::Digits(digits))
 }
 
-fn seq() -> Result<RequestSeqNum, Fail> {
-    Ok(RequestSeqNum::new(7).ok_or("at least 1")?)
+fn seq() -> RequestSeqNum {
+    RequestSeqNum::new(7).unwrap()
+}
+
+/// A gatekeeper's name, `gk`.
+fn gatekeeper() -> Name {
+    Name::new(&[103, 107]).unwrap()
+}
+
+/// An endpoint's identifier, `0001`.
+fn endpoint() -> EndpointId {
+    EndpointId::new(Name::new(&[48, 48, 48, 49]).unwrap())
 }
 
 const ADDRESS: Address = Address {
@@ -27,126 +37,149 @@ const ADDRESS: Address = Address {
 
 const CALL: CallKey = CallKey { octets: [17; 16] };
 
-fn aliases(alloc: Global, count: usize) -> Result<AliasList, Fail> {
+/// A list that has an alias so many times.
+fn aliases(alloc: Global, alias: &Alias, count: usize) -> Result<AliasList, AllocError> {
     let mut list = AliasList::new(alloc);
     for _ in 0..count {
-        list.push(digits("101")?)?;
+        list.push(*alias)?;
     }
     Ok(list)
 }
 
 fn requests(alloc: Global) -> Result<[Request; 7], Fail> {
-    let endpoint = EndpointId::new(name("0001")?);
+    let endpoint = endpoint();
+    let alias = digits("101")?;
+    let two = aliases(alloc, &alias, 2)?;
+    let one = aliases(alloc, &alias, 1)?;
     Ok([
         Request::Grq {
-            seq: seq()?,
-            gatekeeper: Some(name("gk")?),
+            seq: seq(),
+            gatekeeper: Some(gatekeeper()),
         },
         Request::Rrq {
-            seq: seq()?,
+            seq: seq(),
             call_signal: Some(ADDRESS),
             ras: None,
-            aliases: aliases(alloc, 2)?,
+            aliases: two,
             gatekeeper: None,
             time_to_live: TimeToLive::new(60),
             keep_alive: true,
             endpoint: Some(endpoint),
         },
         Request::Urq {
-            seq: seq()?,
+            seq: seq(),
             call_signal: None,
             endpoint: Some(endpoint),
         },
         Request::Arq {
-            seq: seq()?,
+            seq: seq(),
             endpoint,
-            dest: aliases(alloc, 1)?,
+            dest: one,
             dest_address: Some(ADDRESS),
             asked: 1280,
             call: CALL,
             answer: true,
         },
         Request::Brq {
-            seq: seq()?,
+            seq: seq(),
             endpoint,
             call: CALL,
             asked: 2000,
         },
         Request::Drq {
-            seq: seq()?,
+            seq: seq(),
             endpoint,
             call: CALL,
         },
         Request::Irr {
-            seq: seq()?,
+            seq: seq(),
             endpoint,
         },
     ])
+}
+
+/// Whether the copy of each request equals the request, and no other.
+fn are_requests_told_apart(all: &[Request]) -> Result<bool, AllocError> {
+    for (i, one) in all.iter().enumerate() {
+        for (k, other) in all.iter().enumerate() {
+            if (one.copy()? == *other) != (i == k) {
+                return Ok(false);
+            }
+        }
+    }
+    Ok(true)
 }
 
 #[test]
 fn a_request_equals_its_copy_and_no_other(rt: HostRuntime) -> Result<(), Fail> {
     let all = requests(rt.alloc())?;
-    for (i, one) in all.iter().enumerate() {
-        for (k, other) in all.iter().enumerate() {
-            let same = one.copy()? == *other;
-            assert_eq!(rt; same, i == k, "{i} and {k}");
-        }
-    }
+    let are_told_apart = are_requests_told_apart(&all);
+    drop(all);
+    assert!(rt; are_told_apart?);
     Ok(())
 }
 
 fn replies(alloc: Global) -> Result<[Reply; 5], Fail> {
-    let few = ReplyAliases::new(aliases(alloc, 32)?)
+    let few = ReplyAliases::new(aliases(alloc, &digits("101")?, 32)?)
         .ok()
         .ok_or("32 aliases are few")?;
     let held = few.copy()?;
     Ok([
         Reply::Gcf {
-            seq: seq()?,
-            gatekeeper: name("gk")?,
+            seq: seq(),
+            gatekeeper: gatekeeper(),
             ras: ADDRESS,
         },
         Reply::Rcf {
-            seq: seq()?,
+            seq: seq(),
             call_signal: ADDRESS,
             aliases: few,
-            gatekeeper: name("gk")?,
-            endpoint: EndpointId::new(name("0001")?),
-            granted: TimeToLive::new(60).ok_or("at least 1")?,
+            gatekeeper: gatekeeper(),
+            endpoint: endpoint(),
+            granted: TimeToLive::new(60).unwrap(),
         },
         Reply::Rrj {
-            seq: seq()?,
+            seq: seq(),
             reason: RegistrationRejectReason::DuplicateAlias(held),
         },
         Reply::Brj {
-            seq: seq()?,
+            seq: seq(),
             reason: BandRejectReason::InsufficientResources,
             allowed: 1280,
         },
         Reply::Rip {
-            seq: seq()?,
-            delay: Delay::new(500).ok_or("at least 1")?,
+            seq: seq(),
+            delay: Delay::new(500).unwrap(),
         },
     ])
+}
+
+/// Whether the copy of each reply equals the reply, and no other.
+fn are_replies_told_apart(all: &[Reply]) -> Result<bool, AllocError> {
+    for (i, one) in all.iter().enumerate() {
+        for (k, other) in all.iter().enumerate() {
+            if (one.copy()? == *other) != (i == k) {
+                return Ok(false);
+            }
+        }
+    }
+    Ok(true)
 }
 
 #[test]
 fn a_reply_equals_its_copy_and_no_other(rt: HostRuntime) -> Result<(), Fail> {
     let all = replies(rt.alloc())?;
-    for (i, one) in all.iter().enumerate() {
-        assert!(rt; one.room() <= 20_000);
-        for (k, other) in all.iter().enumerate() {
-            let same = one.copy()? == *other;
-            assert_eq!(rt; same, i == k, "{i} and {k}");
-        }
-    }
+    let are_told_apart = are_replies_told_apart(&all);
+    let are_short = all.iter().all(|reply| reply.room() <= 20_000);
+    drop(all);
+    assert!(rt; are_told_apart?);
+    assert!(rt; are_short);
     Ok(())
 }
 
 #[test]
 fn a_33rd_alias_gives_the_list_back(rt: HostRuntime) -> Result<(), Fail> {
-    let many = aliases(rt.alloc(), 33)?;
+    let many = aliases(rt.alloc(), &digits("101")?, 33)?;
     let Err(back) = ReplyAliases::new(many) else {
         return Err(Fail::from("33 aliases were taken"));
     };
@@ -182,14 +215,26 @@ fn octets_come_and_go_as_vectors(rt: HostRuntime) -> Result<(), Fail> {
     Ok(())
 }
 
+/// Whether these aliases, in this order, are left once later doubles are dropped.
+fn is_left(list: &AliasList, expected: &[Alias]) -> Result<bool, AllocError> {
+    let distinct = list.distinct()?;
+    Ok(distinct.as_slice() == expected)
+}
+
+fn list_of(alloc: Global, aliases: &[Alias]) -> Result<AliasList, AllocError> {
+    let mut list = AliasList::new(alloc);
+    for alias in aliases {
+        list.push(*alias)?;
+    }
+    Ok(list)
+}
+
 #[test]
 fn later_doubles_are_dropped(rt: HostRuntime) -> Result<(), Fail> {
-    let mut list = AliasList::new(rt.alloc());
-    for text in ["101", "102", "101", "103", "102"] {
-        list.push(digits(text)?)?;
-    }
-    let distinct = list.distinct()?;
-    let expected = [digits("101")?, digits("102")?, digits("103")?];
-    assert!(rt; distinct.as_slice() == expected.as_slice());
+    let (a, b, c) = (digits("101")?, digits("102")?, digits("103")?);
+    let list = list_of(rt.alloc(), &[a, b, a, c, b])?;
+    let is_left = is_left(&list, &[a, b, c]);
+    drop(list);
+    assert!(rt; is_left?);
     Ok(())
 }

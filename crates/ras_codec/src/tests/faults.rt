@@ -2,7 +2,7 @@
 
 use crate::tests::requests::{
     ARQ, ARQ_ANSWER, ARQ_OF_A_SECOND_CALL, BRQ, DRQ, GRQ, GRQ_OF_XX, IRR, KEEP_ALIVE, RRQ_101,
-    RRQ_102, RRQ_109_101, URQ,
+    RRQ_102, RRQ_109_101, URQ, is_read,
 };
 use crate::{ReadFault, read};
 use ras_module::{Request, RequestSeqNum};
@@ -41,11 +41,17 @@ fn shorter_prefixes_are_truncated(rt: HostRuntime) -> Result<(), Fail> {
     Ok(())
 }
 
+/// Whether both are read as the same request.
+fn are_read_alike(alloc: Global, one: &[u8], other: &[u8]) -> Result<bool, ReadFault> {
+    let first = read(alloc, one)?;
+    let second = read(alloc, other)?;
+    Ok(first == second)
+}
+
 #[test]
 fn what_follows_is_not_read(rt: HostRuntime) -> Result<(), Fail> {
-    let whole = read(rt.alloc(), &IRR)?;
     for end in 15..30 {
-        assert!(rt; read(rt.alloc(), &IRR[..end])? == whole);
+        assert!(rt; are_read_alike(rt.alloc(), &IRR[..end], &IRR)?);
     }
     Ok(())
 }
@@ -87,7 +93,7 @@ fn a_length_in_more_octets_is_read(rt: HostRuntime) -> Result<(), Fail> {
     longer[..35].copy_from_slice(&BRQ[..35]);
     longer[35] = 0x80;
     longer[36..].copy_from_slice(&BRQ[35..]);
-    assert!(rt; read(rt.alloc(), &longer)? == read(rt.alloc(), &BRQ)?);
+    assert!(rt; are_read_alike(rt.alloc(), &longer, &BRQ)?);
     Ok(())
 }
 
@@ -98,7 +104,7 @@ fn a_number_in_more_octets_is_read(rt: HostRuntime) -> Result<(), Fail> {
     longer[..31].copy_from_slice(&BRQ[..31]);
     longer[31..36].copy_from_slice(&[0xC0, 0x00, 0x00, 0x07, 0xD0]);
     longer[36..].copy_from_slice(&BRQ[34..]);
-    assert!(rt; read(rt.alloc(), &longer)? == read(rt.alloc(), &BRQ)?);
+    assert!(rt; are_read_alike(rt.alloc(), &longer, &BRQ)?);
     Ok(())
 }
 
@@ -113,7 +119,7 @@ fn numbers_at_the_end_of_their_range(rt: HostRuntime) -> Result<(), Fail> {
         seq: RequestSeqNum::new(65535).unwrap(),
         gatekeeper: None,
     };
-    assert!(rt; read(rt.alloc(), &octets)? == Some(last));
+    assert!(rt; is_read(rt.alloc(), &octets, last)?);
     Ok(())
 }
 

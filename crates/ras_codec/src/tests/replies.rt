@@ -98,12 +98,21 @@ fn alias_list(alloc: Global, last: u8) -> Result<ReplyAliases, Fail> {
     }
 }
 
-/// What is written behind one octet that was there.
-fn is_written(alloc: Global, reply: &Reply, expected: &[u8]) -> Result<bool, AllocError> {
+/// Appends a reply to one octet that was there.
+fn written(alloc: Global, reply: &Reply) -> Result<Vec<u8>, AllocError> {
     let mut octets = Vec::new(alloc);
     octets.push(0xAA)?;
     write_into(reply, &mut octets)?;
-    Ok(octets[0] == 0xAA && &octets[1..] == expected)
+    Ok(octets)
+}
+
+/// Whether these octets are written, behind one octet that was there.
+fn is_written(alloc: Global, reply: Reply, expected: &[u8]) -> Result<bool, AllocError> {
+    let octets = written(alloc, &reply)?;
+    match octets.split_first() {
+        Some((first, others)) => Ok(*first == 0xAA && others == expected),
+        None => Ok(false),
+    }
 }
 
 #[test]
@@ -116,12 +125,12 @@ fn replies_about_the_gatekeeper(rt: HostRuntime) -> Result<(), Fail> {
             port: 1719,
         },
     };
-    assert!(rt; is_written(rt.alloc(), &confirm, &GCF)?);
+    assert!(rt; is_written(rt.alloc(), confirm, &GCF)?);
     let reject = Reply::Grj {
         seq: seq(1),
         reason: GatekeeperRejectReason::TerminalExcluded,
     };
-    assert!(rt; is_written(rt.alloc(), &reject, &GRJ)?);
+    assert!(rt; is_written(rt.alloc(), reject, &GRJ)?);
     Ok(())
 }
 
@@ -139,25 +148,25 @@ fn registration_confirm(alloc: Global, host: u8, last: u8) -> Result<Reply, Fail
 #[test]
 fn replies_about_a_registration(rt: HostRuntime) -> Result<(), Fail> {
     let alloc = rt.alloc();
-    assert!(rt; is_written(alloc, &registration_confirm(alloc, 5, b'1')?, &RCF_0001)?);
-    assert!(rt; is_written(alloc, &registration_confirm(alloc, 6, b'2')?, &RCF_0002)?);
+    assert!(rt; is_written(alloc, registration_confirm(alloc, 5, b'1')?, &RCF_0001)?);
+    assert!(rt; is_written(alloc, registration_confirm(alloc, 6, b'2')?, &RCF_0002)?);
     let full = Reply::Rrj {
         seq: seq(2),
         reason: RegistrationRejectReason::FullRegistrationRequired,
     };
-    assert!(rt; is_written(alloc, &full, &RRJ_FULL)?);
+    assert!(rt; is_written(alloc, full, &RRJ_FULL)?);
     let duplicate = Reply::Rrj {
         seq: seq(3),
         reason: RegistrationRejectReason::DuplicateAlias(alias_list(alloc, b'1')?),
     };
-    assert!(rt; is_written(alloc, &duplicate, &RRJ_DUPLICATE)?);
+    assert!(rt; is_written(alloc, duplicate, &RRJ_DUPLICATE)?);
     let confirm = Reply::Ucf { seq: seq(6) };
-    assert!(rt; is_written(alloc, &confirm, &UCF)?);
+    assert!(rt; is_written(alloc, confirm, &UCF)?);
     let reject = Reply::Urj {
         seq: seq(5),
         reason: UnregRejectReason::CallInProgress,
     };
-    assert!(rt; is_written(alloc, &reject, &URJ)?);
+    assert!(rt; is_written(alloc, reject, &URJ)?);
     Ok(())
 }
 
@@ -170,54 +179,54 @@ fn replies_about_a_call(rt: HostRuntime) -> Result<(), Fail> {
         units: 1280,
         dest,
     };
-    assert!(rt; is_written(alloc, &confirm, &ACF_1280)?);
+    assert!(rt; is_written(alloc, confirm, &ACF_1280)?);
     let answered = Reply::Acf {
         seq: seq(4),
         units: 900,
         dest,
     };
-    assert!(rt; is_written(alloc, &answered, &ACF_900)?);
+    assert!(rt; is_written(alloc, answered, &ACF_900)?);
     let part = Reply::Acf {
         seq: seq(7),
         units: 1220,
         dest,
     };
-    assert!(rt; is_written(alloc, &part, &ACF_1220)?);
+    assert!(rt; is_written(alloc, part, &ACF_1220)?);
     let reject = Reply::Arj {
         seq: seq(7),
         reason: AdmissionRejectReason::RequestDenied,
     };
-    assert!(rt; is_written(alloc, &reject, &ARJ)?);
+    assert!(rt; is_written(alloc, reject, &ARJ)?);
     let more = Reply::Bcf {
         seq: seq(7),
         units: 2000,
     };
-    assert!(rt; is_written(alloc, &more, &BCF)?);
+    assert!(rt; is_written(alloc, more, &BCF)?);
     let no_more = Reply::Brj {
         seq: seq(7),
         reason: BandRejectReason::InsufficientResources,
         allowed: 1280,
     };
-    assert!(rt; is_written(alloc, &no_more, &BRJ)?);
+    assert!(rt; is_written(alloc, no_more, &BRJ)?);
     let end = Reply::Dcf { seq: seq(9) };
-    assert!(rt; is_written(alloc, &end, &DCF)?);
+    assert!(rt; is_written(alloc, end, &DCF)?);
     let other = Reply::Drj {
         seq: seq(10),
         reason: DisengageRejectReason::RequestToDropOther,
     };
-    assert!(rt; is_written(alloc, &other, &DRJ)?);
+    assert!(rt; is_written(alloc, other, &DRJ)?);
     Ok(())
 }
 
 #[test]
 fn an_info_request_and_a_delay(rt: HostRuntime) -> Result<(), Fail> {
     let ask = Reply::Irq { seq: seq(1) };
-    assert!(rt; is_written(rt.alloc(), &ask, &IRQ)?);
+    assert!(rt; is_written(rt.alloc(), ask, &IRQ)?);
     let wait = Reply::Rip {
         seq: seq(7),
         delay: Delay::new(500).unwrap(),
     };
-    assert!(rt; is_written(rt.alloc(), &wait, &RIP)?);
+    assert!(rt; is_written(rt.alloc(), wait, &RIP)?);
     Ok(())
 }
 
@@ -240,14 +249,21 @@ fn longest_confirm(alloc: Global) -> Result<Reply, Fail> {
     })
 }
 
+/// How many octets a reply has.
+fn length(alloc: Global, reply: &Reply) -> Result<usize, AllocError> {
+    let mut octets = Vec::new(alloc);
+    write_into(reply, &mut octets)?;
+    Ok(octets.len())
+}
+
 // 19 octets up to the call signal address, one for the count of the aliases, 514 for each of them
 // (its choice, its length, 256 characters), 257 for each identifier, and 10 for the additions.
 #[test]
 fn the_longest_reply(rt: HostRuntime) -> Result<(), Fail> {
     let reply = longest_confirm(rt.alloc())?;
     reply_bounds(&reply);
-    let mut octets = Vec::new(rt.alloc());
-    write_into(&reply, &mut octets)?;
-    assert_eq!(rt; octets.len(), 19 + 1 + 32 * 514 + 2 * 257 + 10);
+    let length = length(rt.alloc(), &reply);
+    drop(reply);
+    assert_eq!(rt; length?, 19 + 1 + 32 * 514 + 2 * 257 + 10);
     Ok(())
 }

@@ -1,7 +1,8 @@
 use Rattle.std.proofs.Common.{◌≡◌, ap, sym, ◌∙◌, arith, refl, Some}
 use Rattle.std.specs.Prelude.{is_ok}
+use Rattle.std.specs.Option.{option_map}
 use Rattle.aliases.specs.declared.table.Row.{Row}
-use Rattle.aliases.specs.Held.{with_alias}
+use Rattle.aliases.specs.Held.{Holding, with_alias}
 use Rattle.aliases.specs.Stored.{holding_of, held_in}
 use Rattle.aliases.proofs.Rows.{IsRowOf-place, IsHeldByAnother-found, not_by_another, other_holder, same_holder, AreApart-write, held_write, AreApart-pushed, held_push, place_below}
 use Rattle.aliases.proofs.table.AliasTable.set.Goals as goal
@@ -16,6 +17,18 @@ returns-then-ne-clause-duplicate c =
     let differ = other_holder c.index.result.now.holder c.args.holder
     (sym c.ne.ensures ∙ c.if-ne.true) in
     (λ e. IsHeldByAnother-found c.args.self.now.held c.args.alias c.args.holder (holding_of c.index.result.now) row.found differ, λ h. refl)
+
+pub returns-then-ne-clause-replaces : goal.returns-then-ne-clause-replaces
+returns-then-ne-clause-replaces c own =
+    let i = c.self.inside.rows.items in
+    let row = IsRowOf-place i c.args.self.now.held c.args.alias c.in-Some.place c.index.result.now
+    c.self.invariant (ap (λ t. t.held) c.self.view_is)
+    (rw c.deref.ensures.value at c.in-Some.ensures) c.index.ensures in
+    let differ = other_holder c.index.result.now.holder c.args.holder
+    (sym c.ne.ensures ∙ c.if-ne.true) in
+    let one : Some c.index.result.now.holder ≡ Some c.args.holder =
+    sym (ap (option_map (λ (h : Holding). h.holder)) row.found) ∙ own in
+    absurd (differ (let same : c.index.result.now.holder ≡ c.args.holder = cc one in same))
 
 pub index_mut-requires : goal.index_mut-requires
 index_mut-requires c = omega (arith, place_below c.deref.result.now c.args.alias c.in-Some.place c.in-Some.ensures, c.deref.ensures.len)
