@@ -1,13 +1,14 @@
 //! The search for what is due.
 
-ghost use Rattle.std.specs.Prelude.{◌≡◌, ◌+◌, nat_le, MatchOption};
-ghost use Rattle.expiry.specs.Due.{IsDue, IsNothingDue, is_to_be_asked, is_silent};
-ghost use Rattle.expiry.specs.Searched.{item_of, IsNoEndpointDue, IsEndpointItem};
+ghost use Rattle.std.specs.Prelude.{◌≡◌, ◌+◌, ◌↔◌, nat_le, IsTrue, MatchOption};
+ghost use Rattle.expiry.specs.Due.{IsDue, IsNothingDue, IsInCall, is_to_be_asked, is_silent};
+ghost use Rattle.expiry.specs.Searched.{item_of, item_in_call, IsNoEndpointDue, IsEndpointItem};
 
 use crate::due_item::DueItem;
 use crate::times::Times;
 use admission::Calls;
 use kept_replies::Kept;
+use ras_module::EndpointId;
 use registrations::{Registration, Registrations};
 
 /// Something that is due now, where the pools' next turn is at the moment `next_turn`: any of what
@@ -67,9 +68,26 @@ fn endpoint_due(
 fn item_of(registration: &Registration, calls: &Calls, now: u64, times: &Times) -> Option<DueItem>
     ensures { result ≡ item_of now times.now calls.now.calls registration.now }
 {
-    if calls.legs_of(&registration.identifier) == 0 {
+    // its moments are looked at first, since the search for a leg goes through the calls
+    let item = item_in_call(registration, now, times)?;
+    if !is_in_call(calls, &registration.identifier) {
         return None;
     }
+    Some(item)
+}
+
+/// Whether this endpoint takes part in a call.
+#[tactic(auto, using(crate::proofs::InCall::call_found))]
+fn is_in_call(calls: &Calls, endpoint: &EndpointId) -> bool
+    ensures { IsTrue result ↔ IsInCall calls.now.calls endpoint.now }
+{
+    calls.call_of(endpoint).is_some()
+}
+
+/// What is due of this endpoint if it takes part in a call.
+fn item_in_call(registration: &Registration, now: u64, times: &Times) -> Option<DueItem>
+    ensures { result ≡ item_in_call now times.now registration.now }
+{
     if is_to_be_asked(registration, now, times) {
         return Some(DueItem::Interrogate(registration.identifier));
     }

@@ -1,5 +1,5 @@
 -- How what is kept is stored.
-use Rattle.std.specs.Prelude.{◌≡◌, ◌≤◌, ◌+◌, ℕ, Bool, false, List, Option, Some, None, length, nat_eq, is_some, IfSome, if◌then◌else◌}
+use Rattle.std.specs.Prelude.{◌≡◌, ◌≢◌, ◌≤◌, ◌+◌, ℕ, Bool, false, List, Option, Some, None, length, nat_eq, is_some, IfSome, if◌then◌else◌}
 use Rattle.std.specs.List.{filter_map}
 use Rattle.std.specs.Cmp.Lexicographic.{pointwise}
 use Rattle.indexmap.specs.IndexMap.{IndexMap, get, spare, IsUnique, Updates}
@@ -39,6 +39,7 @@ pub record Puts {S : Type 0} (old new : IndexMap KeptKey KeptEntry S) (key : Kep
   pub longer : length new.entries
       ≡ length old.entries + (if is_some (get same_key old key) then 0 else 1)
   pub room : spare old ≤ spare new + 1
+  pub replaces : get same_key old key ≢ None → spare old ≤ spare new
 
 -- the entry under this key is changed, where it is there, with no memory taken
 pub record Rewrites {S : Type 0} (change : KeptEntry → KeptEntry)

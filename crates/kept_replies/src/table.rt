@@ -176,7 +176,9 @@ impl Kept {
         requires few { map.get self.old.kept key ≡ None → map.len self.old.kept < self.old.most }
         requires room { map.get self.old.kept key ≡ None → 0 < self.old.room }
         requires birth { IsFreeBirth self.old.kept key born }
-        ensures { Adds self.old self.new (map.insert self.old.kept key (done born reply until)) }
+        ensures adds { Adds self.old self.new
+            (map.insert self.old.kept key (done born reply until)) }
+        ensures replaces { map.get self.old.kept key ≢ None → self.old.room ≤ self.new.room }
     {
         let state = KeptState::Done { reply, until };
         self.put(key, KeptEntry { born, state });
@@ -197,8 +199,9 @@ impl Kept {
         requires room { map.get self.old.kept key ≡ None → 0 < self.old.room }
         requires birth { IsFreeBirth self.old.kept key born }
         requires left { 1 ≤ left }
-        ensures { Adds self.old self.new
+        ensures adds { Adds self.old self.new
             (map.insert self.old.kept key (pending born request reply retry left)) }
+        ensures replaces { map.get self.old.kept key ≢ None → self.old.room ≤ self.new.room }
     {
         let state = KeptState::Pending {
             request,
@@ -214,7 +217,8 @@ impl Kept {
         requires room { map.get self.old.kept key ≡ None → 0 < self.old.room }
         requires birth { IsFreeBirth self.old.kept key entry.born }
         requires entry { IsEntry entry }
-        ensures { Adds self.old self.new (map.insert self.old.kept key entry) }
+        ensures adds { Adds self.old self.new (map.insert self.old.kept key entry) }
+        ensures replaces { map.get self.old.kept key ≢ None → self.old.room ≤ self.new.room }
     {
         write_entry(&mut self.rows, key, entry);
     }
@@ -272,7 +276,27 @@ fn write_entry(rows: &mut IndexMap<KeptKey, KeptEntry>, key: KeptKey, entry: Kep
     requires { get same_key rows.old key ≡ None → 0 < spare rows.old }
     ensures { Puts rows.old rows.new key entry }
 {
+    if rows.contains_key(&key) {
+        replace_entry(rows, &key, entry);
+    } else {
+        add_entry(rows, key, entry);
+    }
+}
+
+fn add_entry(rows: &mut IndexMap<KeptKey, KeptEntry>, key: KeptKey, entry: KeptEntry)
+    requires new { get same_key rows.old key ≡ None }
+    requires room { 0 < spare rows.old }
+    ensures { Puts rows.old rows.new key entry }
+{
     rows.insert(key, entry).unwrap();
+}
+
+fn replace_entry(rows: &mut IndexMap<KeptKey, KeptEntry>, key: &KeptKey, entry: KeptEntry)
+    ensures { Rewrites (λ other. entry) rows.old rows.new key.now }
+{
+    if let Some(place) = rows.get_mut(key) {
+        *place = entry;
+    }
 }
 
 fn write_done(rows: &mut IndexMap<KeptKey, KeptEntry>, key: &KeptKey, reply: Reply, until: u64)

@@ -213,6 +213,22 @@ fn faults_have_their_numbers(rt: HostRuntime) {
     assert_eq!(rt; ReserveFault::Memory as u8, 2);
 }
 
+// A reply in place of another needs no further place, and the birth of the other is free again.
+fn takes_the_place(alloc: Global, kept: &mut Kept) -> Result<bool, Fail> {
+    keep_confirm(alloc, kept, 2, 3, 10)?;
+    keep_confirm(alloc, kept, 2, 4, 20)?;
+    Ok(kept.len() == 1 && kept.by_born(3).is_none() && is_confirm(kept, 4, 2)?)
+}
+
+#[test]
+fn a_reply_in_place_of_another(rt: HostRuntime) -> Result<(), Fail> {
+    let mut kept = Kept::new(rt.alloc(), 1);
+    let takes_the_place = takes_the_place(rt.alloc(), &mut kept);
+    drop(kept);
+    assert!(rt; takes_the_place?);
+    Ok(())
+}
+
 // Its request waits, and is served again from this moment on, so many times.
 fn is_waiting_until(kept: &Kept, moment: u64, left: u64) -> bool {
     kept.retry(moment.saturating_sub(1)).is_none()

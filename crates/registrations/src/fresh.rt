@@ -9,7 +9,7 @@ use crate::number::numbered;
 use crate::registration::Registration;
 use ras_module::EndpointId;
 
-/// The first number from `start` whose text no registration has, and that is not taken.
+/// An identifier that no registration has, and that is not taken.
 pub(crate) fn unused_from(items: &[Registration], taken: &[EndpointId], start: u64) -> EndpointId
     requires few { length items.now ≤ 20000 }
     requires low { start ≤ 20001 }

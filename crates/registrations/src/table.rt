@@ -127,8 +127,7 @@ impl Registrations {
         self.get(id).is_none() && !taken.contains(id)
     }
 
-    /// An identifier that no registration has, and that is not taken: the first number from 1 whose
-    /// text, in at least four decimal digits, is such a one.
+    /// An identifier that no registration has, and that is not taken: any such one.
     pub fn unused(&self, taken: &[EndpointId]) -> EndpointId
         ensures { IsUnused self.now.live taken.now result }
     {

@@ -16,8 +16,19 @@ invariant_of-self c =
     c.self.view_is c.args.key c.args.entry c.write_entry.ensures c.requires.few c.requires.birth
     c.requires.entry
 
-pub returns : goal.returns
-returns c =
+pub returns-clause-adds : goal.returns-clause-adds
+returns-clause-adds c =
     let i = c.self.inside in
     Adds-put i.rows c.write_entry.new.rows c.args.key i.most c.args.self.now c.self.view_is
     c.args.entry c.write_entry.ensures.updates c.write_entry.ensures.room
+
+pub returns-clause-replaces : goal.returns-clause-replaces
+returns-clause-replaces c there =
+    let i = c.self.inside in
+    let get = stored_get i.rows i.rows i.most c.args.self.now c.self.invariant c.self.view_is
+    c.args.key in
+    omega (
+      arith,
+      c.write_entry.ensures.replaces (λ none. there (sym get ∙ none)),
+      ap (λ t. t.room) c.self.view_is,
+    )
