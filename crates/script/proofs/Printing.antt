@@ -2,10 +2,25 @@
 use Rattle.std.proofs.Common.{◌≡◌, ℕ, ◌+◌, ◌<◌, ◌/◌, ◌%◌, List, [], ◌∷◌, ◌++◌, length, take, get_or}
 use Rattle.std.proofs.Common.{slice_index, refl, sym, ap, ◌∙◌, append_assoc, append-nil, add-zero}
 use Rattle.std.proofs.Common.{length-take-le, arith}
-use Rattle.std.proofs.lemmas.List.{take_more}
+use Rattle.std.proofs.lemmas.List.{take_more, map_more}
+use Rattle.std.specs.Prelude.{encode_utf8, encode_utf8_all, map}
 use Rattle.hex.specs.Hex.{encode_with}
 use Rattle.ras_core.specs.declared.outcome.Outcome.{Outcome}
-use Rattle.script.specs.Prints.{outcome_line, outcome_lines, outcome_lines_from}
+use Rattle.script.specs.Prints.{character_of, identifier_text, outcome_line, outcome_lines, outcome_lines_from}
+
+encode_utf8_all-append : (xs ys : List ℕ)
+    → encode_utf8_all (xs ++ ys) ≡ encode_utf8_all xs ++ encode_utf8_all ys
+encode_utf8_all-append [] ys = refl
+encode_utf8_all-append (x ∷ xs) ys =
+    ap (λ (t : List ℕ). encode_utf8 x ++ t) (encode_utf8_all-append xs ys)
+    ∙ sym (append_assoc (encode_utf8 x) (encode_utf8_all xs) (encode_utf8_all ys))
+
+pub identifier_more : (id : List ℕ) (i : ℕ) → i < length id
+    → identifier_text (take (i + 1) id) ≡ identifier_text (take i id) ++ encode_utf8 (character_of (get_or id i 0))
+identifier_more id i below =
+    ap encode_utf8_all (map_more character_of id i 0 below)
+    ∙ encode_utf8_all-append (map character_of (take i id)) (character_of (get_or id i 0) ∷ [])
+    ∙ ap (λ (t : List ℕ). identifier_text (take i id) ++ t) (append-nil (encode_utf8 (character_of (get_or id i 0))))
 
 encode_with-append : (digits xs ys : List ℕ)
     → encode_with digits (xs ++ ys) ≡ encode_with digits xs ++ encode_with digits ys
@@ -51,9 +66,9 @@ pub output_flat : (mark address space octets : List ℕ)
     → mark ++ (address ++ (space ++ octets)) ≡ mark ++ address ++ space ++ octets
 output_flat mark address space octets = sym (simp append_assoc)
 
-pub line_flat : (number space note answer output end : List ℕ)
-    → (number ++ (space ++ note)) ++ (answer ++ (output ++ end)) ≡ number ++ space ++ note ++ answer ++ output ++ end
-line_flat number space note answer output end =
-    let left : (number ++ (space ++ note)) ++ (answer ++ (output ++ end)) ≡ number ++ (space ++ (note ++ (answer ++ (output ++ end)))) = simp append_assoc in
-    let right : number ++ space ++ note ++ answer ++ output ++ end ≡ number ++ (space ++ (note ++ (answer ++ (output ++ end)))) = simp append_assoc in
+pub line_flat : (number space note answer dropped output end : List ℕ)
+    → (number ++ space) ++ (note ++ (answer ++ (dropped ++ (output ++ end)))) ≡ number ++ space ++ note ++ answer ++ dropped ++ output ++ end
+line_flat number space note answer dropped output end =
+    let left : (number ++ space) ++ (note ++ (answer ++ (dropped ++ (output ++ end)))) ≡ number ++ (space ++ (note ++ (answer ++ (dropped ++ (output ++ end))))) = simp append_assoc in
+    let right : number ++ space ++ note ++ answer ++ dropped ++ output ++ end ≡ number ++ (space ++ (note ++ (answer ++ (dropped ++ (output ++ end))))) = simp append_assoc in
     left ∙ sym right

@@ -1,7 +1,7 @@
 -- What a line of a script says; none where it is not understood.
 use Rattle.std.specs.Prelude.{ℕ, ◌-◌, ◌^◌, List, [], ◌∷◌, Option, Some, None, codes, if◌then◌else◌}
 use Rattle.std.specs.Str.{bytes_eq}
-use Rattle.ras_core.specs.declared.event.Event.TheVariants.{Datagram}
+use Rattle.ras_core.specs.declared.event.Event.TheVariants.{Datagram, Turn}
 use Rattle.script.specs.declared.line.Line.{Line}
 use Rattle.script.specs.declared.line.Line.TheVariants.{Blank, Zone, Set, Pool, At}
 use Rattle.script.specs.Words.{words_of}
@@ -30,10 +30,14 @@ pool_line words = do
   pool ← pool_of words
   Some (Pool pool)
 
--- a datagram of these octets comes from this address, at a moment below 2^53
+-- milliseconds, below 2^53
+abbrev pub moment_of : List ℕ → Option ℕ
+moment_of word = number_of 0 (2 ^ 53 - 1) word
+
+-- a datagram of these octets comes from this address
 abbrev pub datagram_of : List ℕ → List ℕ → List ℕ → Option Line
 datagram_of moment address hex = do
-  moment ← number_of 0 (2 ^ 53 - 1) moment
+  moment ← moment_of moment
   source ← address_of address
   octets ← octets_of hex
   Some (At (Datagram source octets moment))
@@ -49,6 +53,13 @@ at_line (moment ∷ from ∷ address ∷ []) = event_of moment from address []
 at_line (moment ∷ from ∷ address ∷ hex ∷ []) = event_of moment from address hex
 at_line other = None
 
+-- `MS`
+abbrev pub turn_line : List (List ℕ) → Option Line
+turn_line (moment ∷ []) = do
+  moment ← moment_of moment
+  Some (At (Turn moment))
+turn_line other = None
+
 -- the first word says what kind of line it is
 abbrev pub line_of_words : List (List ℕ) → Option Line
 line_of_words [] = Some Blank
@@ -57,6 +68,7 @@ line_of_words (kind ∷ words) =
     else if bytes_eq kind (codes "set") then set_line words
     else if bytes_eq kind (codes "pool") then pool_line words
     else if bytes_eq kind (codes "at") then at_line words
+    else if bytes_eq kind (codes "turn") then turn_line words
     else None
 
 unfoldable pub line_of : List ℕ → Option Line

@@ -1,22 +1,56 @@
 -- The lines that are printed of outcomes.
-use Rattle.std.specs.Prelude.{ℕ, ◌+◌, List, [], ◌∷◌, ◌++◌, slice_index, Option, Some, None, codes}
+use Rattle.std.specs.Prelude.{ℕ, ◌+◌, List, [], ◌∷◌, ◌++◌, map, slice_index, encode_utf8_all}
+use Rattle.std.specs.Prelude.{Option, Some, None, codes, if◌then◌else◌}
 use Rattle.std.specs.Fmt.{decimal}
+use Rattle.std.specs.Int.{is_in_range}
+use Rattle.expiry.specs.declared.due_item.DueItem.{DueItem}
+use Rattle.expiry.specs.declared.due_item.DueItem.TheVariants.{RegistrationOver, Interrogate}
+use Rattle.expiry.specs.declared.due_item.DueItem.TheVariants.{Silent, Retry, KeptOver, PoolTurn}
 use Rattle.hex.specs.Hex.{encode_upper}
 use Rattle.pools.specs.declared.interface.Lend.{Lend}
 use Rattle.pools.specs.declared.interface.Lend.TheVariants.{Lent, Refused, Wait}
 use Rattle.ras_module.specs.declared.address.Address.{Address}
 use Rattle.ras_core.specs.declared.outcome.Datagram.{Datagram}
+use Rattle.ras_core.specs.declared.outcome.IgnoredCause.{IgnoredCause}
 use Rattle.ras_core.specs.declared.outcome.IgnoredCause.TheVariants.{TooLong, Unreadable, NotServed}
+use Rattle.ras_core.specs.declared.outcome.IgnoredCause.TheVariants.{Busy, UnknownEndpoint}
 use Rattle.ras_core.specs.declared.outcome.Note.{Note}
-use Rattle.ras_core.specs.declared.outcome.Note.TheVariants.{Served, Ignored}
+use Rattle.ras_core.specs.declared.outcome.Note.TheVariants.{Served, Kept, Ignored, Done, Idle}
 use Rattle.ras_core.specs.declared.outcome.Outcome.{Outcome}
+
+-- the character with this code of 16 bits; the codes of surrogates stand for no character, and
+-- U+FFFD is written in their place
+abbrev pub character_of : ℕ → ℕ
+character_of code = if is_in_range 0xD800 0xDFFF code then 0xFFFD else code
+
+-- the characters of an identifier, in UTF-8
+abbrev pub identifier_text : List ℕ → List ℕ
+identifier_text id = encode_utf8_all (map character_of id)
+
+-- why a datagram was ignored
+abbrev pub cause_text : IgnoredCause → List ℕ
+cause_text TooLong = codes "too-long"
+cause_text Unreadable = codes "unreadable"
+cause_text NotServed = codes "not-served"
+cause_text Busy = codes "busy"
+cause_text UnknownEndpoint = codes "unknown-endpoint"
+
+-- what was due: with the identifier of the endpoint, or with the birth of the kept entry
+abbrev pub item_text : DueItem → List ℕ
+item_text (RegistrationOver id) = codes "registration-over " ++ identifier_text id
+item_text (Interrogate id) = codes "interrogate " ++ identifier_text id
+item_text (Silent id) = codes "silent " ++ identifier_text id
+item_text (Retry born) = codes "retry " ++ decimal born
+item_text (KeptOver born) = codes "kept-over " ++ decimal born
+item_text PoolTurn = codes "pool-turn"
 
 -- what happened
 abbrev pub note_text : Note → List ℕ
 note_text Served = codes "served"
-note_text (Ignored TooLong) = codes "ignored too-long"
-note_text (Ignored Unreadable) = codes "ignored unreadable"
-note_text (Ignored NotServed) = codes "ignored not-served"
+note_text Kept = codes "kept"
+note_text (Ignored cause) = codes "ignored " ++ cause_text cause
+note_text (Done item) = codes "done " ++ item_text item
+note_text Idle = codes "idle"
 
 -- what the pool answered, where one was asked; units are of 100 bit/s
 abbrev pub answer_text : Option Lend → List ℕ
@@ -24,6 +58,11 @@ answer_text None = []
 answer_text (Some (Lent units)) = codes " lent " ++ decimal units
 answer_text (Some Refused) = codes " refused"
 answer_text (Some Wait) = codes " wait"
+
+-- the birth of the kept entry that was dropped, where one was
+abbrev pub dropped_text : Option ℕ → List ℕ
+dropped_text None = []
+dropped_text (Some born) = codes " dropped " ++ decimal born
 
 -- `A.B.C.D:PORT`
 abbrev pub address_text : Address → List ℕ
@@ -40,11 +79,13 @@ output_text None = []
 output_text (Some datagram) =
     codes " > " ++ address_text datagram.to ++ codes " " ++ encode_upper datagram.bytes
 
--- the line of the outcome of an event with this number: `N NOTE`, the pool's answer and the output
+-- the line of the outcome of an event with this number: `N NOTE`, the pool's answer, the entry that
+-- was dropped, and the output
 abbrev pub outcome_line : ℕ → Outcome → List ℕ
 outcome_line number outcome =
     decimal number ++ codes " " ++ note_text outcome.note
-    ++ answer_text outcome.answer ++ output_text outcome.output ++ codes "\n"
+    ++ answer_text outcome.answer ++ dropped_text outcome.dropped
+    ++ output_text outcome.output ++ codes "\n"
 
 abbrev pub outcome_lines_from : ℕ → List Outcome → List ℕ
 outcome_lines_from number [] = []

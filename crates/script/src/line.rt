@@ -1,8 +1,9 @@
 //! The lines of a script.
 
-ghost use Rattle.std.specs.Prelude.{◌≡◌, ◌-◌, ◌^◌, IfOk};
-ghost use Rattle.script.specs.Fields.{number_of, octets_of};
-ghost use Rattle.script.specs.Lines.{zone_line, set_line, pool_line, event_of, at_line, line_of};
+ghost use Rattle.std.specs.Prelude.{◌≡◌, IfOk};
+ghost use Rattle.script.specs.Fields.{octets_of};
+ghost use Rattle.script.specs.Lines.{zone_line, set_line, pool_line, moment_of, event_of, at_line};
+ghost use Rattle.script.specs.Lines.{turn_line, line_of};
 
 use crate::address::address_of;
 use crate::name::name_of;
@@ -95,7 +96,7 @@ fn event_of(
 }
 
 fn moment_of(word: &[u8]) -> Option<Moment>
-    ensures { result ≡ number_of 0 (2 ^ 53 - 1) word.now }
+    ensures { result ≡ moment_of word.now }
 {
     match number_of(0, (1 << 53) - 1, word) {
         Some(number) => Moment::new(number),
@@ -120,6 +121,16 @@ fn at_line(alloc: Global, mut words: Words) -> Result<Option<Line>, AllocError>
     }
 }
 
+fn turn_line(mut words: Words) -> Option<Line>
+    ensures { result ≡ turn_line words.entry }
+{
+    let moment = words.next_word()?;
+    match words.next_word() {
+        Some(_) => None,
+        None => Some(Line::At(Event::Turn(moment_of(moment)?))),
+    }
+}
+
 /// What a line says; None where it isn't understood.
 #[tactic(auto, unfolding(crate::specs::Lines::line_of))]
 pub fn line_of(alloc: Global, line: &[u8]) -> Result<Option<Line>, AllocError>
@@ -137,6 +148,8 @@ pub fn line_of(alloc: Global, line: &[u8]) -> Result<Option<Line>, AllocError>
         Ok(pool_line(words))
     } else if is_word(kind, "at") {
         at_line(alloc, words)
+    } else if is_word(kind, "turn") {
+        Ok(turn_line(words))
     } else {
         Ok(None)
     }

@@ -3,23 +3,84 @@
 ghost use Rattle.std.specs.Prelude.{◌≡◌, ◌+◌, ◌<◌, ◌^◌, OnOk, slice_index};
 ghost use Rattle.std.specs.Io.KnownBytes.{Appends};
 ghost use Rattle.hex.specs.Hex.{encode_upper, upper_digits};
-ghost use Rattle.script.specs.Prints.{note_text, answer_text, address_text, output_text};
-ghost use Rattle.script.specs.Prints.{outcome_line, outcome_lines};
+ghost use Rattle.script.specs.Prints.{character_of, identifier_text, cause_text, item_text};
+ghost use Rattle.script.specs.Prints.{note_text, answer_text, dropped_text, address_text};
+ghost use Rattle.script.specs.Prints.{output_text, outcome_line, outcome_lines};
 
 use pools::Lend;
-use ras_core::{Datagram, IgnoredCause, Note, Outcome};
-use ras_module::Address;
+use ras_core::{Datagram, DueItem, IgnoredCause, Note, Outcome};
+use ras_module::{Address, EndpointId};
 use std::io;
 use std::io::Write;
 
-fn note_text(note: Note) -> &'static str
-    ensures { result.now ≡ note_text note }
+/// The character with this code; U+FFFD where it has none.
+fn character_of(code: u16) -> char
+    ensures { result ≡ character_of code }
+{
+    match char::from_u32(u32::from(code)) {
+        Some(character) => character,
+        None => char::REPLACEMENT_CHARACTER,
+    }
+}
+
+fn write_identifier<W: Write>(id: &EndpointId, out: &mut W) -> io::Result<()>
+    ensures { OnOk result (Appends (W.contents out.old) (W.contents out.new)
+        (identifier_text id.now)) }
+{
+    for code in id.as_slice() {
+        write!(out, "{}", character_of(*code))?;
+    }
+    Ok(())
+}
+
+fn cause_text(cause: IgnoredCause) -> &'static str
+    ensures { result.now ≡ cause_text cause }
+{
+    match cause {
+        IgnoredCause::TooLong => "too-long",
+        IgnoredCause::Unreadable => "unreadable",
+        IgnoredCause::NotServed => "not-served",
+        IgnoredCause::Busy => "busy",
+        IgnoredCause::UnknownEndpoint => "unknown-endpoint",
+    }
+}
+
+fn write_item<W: Write>(item: &DueItem, out: &mut W) -> io::Result<()>
+    ensures { OnOk result (Appends (W.contents out.old) (W.contents out.new)
+        (item_text item.now)) }
+{
+    match item {
+        DueItem::RegistrationOver(id) => {
+            out.write_all(b"registration-over ")?;
+            write_identifier(id, out)
+        }
+        DueItem::Interrogate(id) => {
+            out.write_all(b"interrogate ")?;
+            write_identifier(id, out)
+        }
+        DueItem::Silent(id) => {
+            out.write_all(b"silent ")?;
+            write_identifier(id, out)
+        }
+        DueItem::Retry(born) => write!(out, "retry {born}"),
+        DueItem::KeptOver(born) => write!(out, "kept-over {born}"),
+        DueItem::PoolTurn => out.write_all(b"pool-turn"),
+    }
+}
+
+fn write_note<W: Write>(note: &Note, out: &mut W) -> io::Result<()>
+    ensures { OnOk result (Appends (W.contents out.old) (W.contents out.new)
+        (note_text note.now)) }
 {
     match note {
-        Note::Served => "served",
-        Note::Ignored(IgnoredCause::TooLong) => "ignored too-long",
-        Note::Ignored(IgnoredCause::Unreadable) => "ignored unreadable",
-        Note::Ignored(IgnoredCause::NotServed) => "ignored not-served",
+        Note::Served => out.write_all(b"served"),
+        Note::Kept => out.write_all(b"kept"),
+        Note::Ignored(cause) => write!(out, "ignored {}", cause_text(*cause)),
+        Note::Done(item) => {
+            out.write_all(b"done ")?;
+            write_item(item, out)
+        }
+        Note::Idle => out.write_all(b"idle"),
     }
 }
 
@@ -61,6 +122,16 @@ fn write_answer<W: Write>(answer: &Option<Lend>, out: &mut W) -> io::Result<()>
     }
 }
 
+fn write_dropped<W: Write>(dropped: Option<u64>, out: &mut W) -> io::Result<()>
+    ensures { OnOk result (Appends (W.contents out.old) (W.contents out.new)
+        (dropped_text dropped)) }
+{
+    match dropped {
+        None => Ok(()),
+        Some(born) => write!(out, " dropped {born}"),
+    }
+}
+
 fn write_output<W: Write>(output: &Option<Datagram>, out: &mut W) -> io::Result<()>
     ensures { OnOk result (Appends (W.contents out.old) (W.contents out.new)
         (output_text output.now)) }
@@ -80,8 +151,10 @@ fn write_outcome<W: Write>(number: usize, outcome: &Outcome, out: &mut W) -> io:
     ensures { OnOk result (Appends (W.contents out.old) (W.contents out.new)
         (outcome_line number outcome.now)) }
 {
-    write!(out, "{number} {}", note_text(outcome.note))?;
+    write!(out, "{number} ")?;
+    write_note(&outcome.note, out)?;
     write_answer(&outcome.answer, out)?;
+    write_dropped(outcome.dropped, out)?;
     write_output(&outcome.output, out)?;
     out.write_all(b"\n")
 }

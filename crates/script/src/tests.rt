@@ -1,8 +1,8 @@
 use crate::print::write_outcomes;
 use crate::{RunFault, ScriptFault, read_script, run_script};
 use pools::{FixedPool, Lend, Pool, PoolSpec, StepPool};
-use ras_core::{Datagram, Event, IgnoredCause, Network, Note, Outcome};
-use ras_module::{Address, Octets};
+use ras_core::{Datagram, DueItem, Event, IgnoredCause, Network, Note, Outcome};
+use ras_module::{Address, EndpointId, Name, Octets};
 use std::alloc::Global;
 use std::io;
 use std::test::Fail;
@@ -14,7 +14,7 @@ fn fault_of(alloc: Global, text: &[u8]) -> Option<ScriptFault> {
 
 #[test]
 fn the_first_bad_line_is_named(rt: HostRuntime) {
-    let bad_lines: [&[u8]; 44] = [
+    let bad_lines: [&[u8]; 50] = [
         b"zone",
         b"zone gk",
         b"zone gk 10.0.0.1:1719 x",
@@ -44,7 +44,13 @@ fn the_first_bad_line_is_named(rt: HostRuntime) {
         b"at 0 from 10.0.0.5:1719 0g",
         b"at 0 from 10.0.0.5:1719 00 00",
         b"at 0 from",
-        b"turn 0",
+        b"turn",
+        b"turn 0 0",
+        b"turn 9007199254740992",
+        b"turn -1",
+        b"turn 0x1",
+        b"turn 0 from 10.0.0.5:1719",
+        b"turn0",
         b"pool",
         b"pool fixed",
         b"pool fixed 1000000000001",
@@ -71,10 +77,11 @@ fn the_first_bad_line_is_named(rt: HostRuntime) {
 
 #[test]
 fn faults_come_in_their_order(rt: HostRuntime) {
-    let scripts: [(&[u8], ScriptFault); 12] = [
+    let scripts: [(&[u8], ScriptFault); 15] = [
         (b"", ScriptFault::NoZone),
         (b"\n  \n", ScriptFault::NoZone),
         (b"at 0 from 10.0.0.5:1719", ScriptFault::NoZone),
+        (b"turn 0", ScriptFault::NoZone),
         (
             b"at 0 from 10.0.0.5:1719\n\nx\ny\n",
             ScriptFault::BadLine(3),
@@ -84,6 +91,14 @@ fn faults_come_in_their_order(rt: HostRuntime) {
         (
             b"zone gk 10.0.0.1:1719\nat 0 from 10.0.0.5:1719\nset asks 1\n",
             ScriptFault::BadLine(3),
+        ),
+        (
+            b"zone gk 10.0.0.1:1719\nturn 0\nset asks 1\n",
+            ScriptFault::BadLine(3),
+        ),
+        (
+            b"turn 0\nzone gk 10.0.0.1:1719\n",
+            ScriptFault::BadLine(2),
         ),
         (
             b"at 0 from 10.0.0.5:1719\n\nzone gk 10.0.0.1:1719\n",
@@ -147,7 +162,7 @@ fn one_octet_past_the_limit_is_read(rt: HostRuntime) -> Result<(), Fail> {
 fn a_script_is_read(rt: HostRuntime) -> Result<(), Fail> {
     let mut input: &[u8] =
         b"zone old 10.9.9.9:9\n\nset limit 3000\n set  asks 016 \nset limit 4000\n\
-        zone g\xC3\xA9 10.0.0.1:1719\nat 0012 from 255.0.0.05:65535 0aBf\nat 9007199254740991 from 0.0.0.0:0";
+        zone g\xC3\xA9 10.0.0.1:1719\nat 0 from 10.0.0.5:1719\n";
     let script = read_script(rt.alloc(), &mut input)?;
     let parts = script.config.parts();
     assert_eq!(rt; parts.identifier.as_slice(), [103, 233].as_slice());
@@ -162,21 +177,49 @@ fn a_script_is_read(rt: HostRuntime) -> Result<(), Fail> {
         (parts.limit, parts.asks, parts.call_limit),
         (4000, 16, 20_000)
     );
-    let events = script.events.into_vec();
-    assert_eq!(rt; events.len(), 2);
-    let Event::Datagram(source, octets, moment) = &events[0];
-    assert_eq!(rt;
-        *source,
-        Address {
-            ip: [255, 0, 0, 5],
-            port: 65535
+    Ok(())
+}
+
+/// Whether this is a datagram with this source, with these octets, at this millisecond.
+fn is_datagram(event: &Event, source: Address, octets: &[u8], milliseconds: u64) -> bool {
+    match event {
+        Event::Datagram(from, bytes, moment) => {
+            *from == source
+                && bytes.as_slice() == octets
+                && moment.milliseconds() == milliseconds
         }
-    );
-    assert_eq!(rt; octets.as_slice(), [0x0A, 0xBF].as_slice());
-    assert_eq!(rt; moment.milliseconds(), 12);
-    let Event::Datagram(_, octets, moment) = &events[1];
-    assert_eq!(rt; octets.as_slice().len(), 0);
-    assert_eq!(rt; moment.milliseconds(), 9_007_199_254_740_991);
+        Event::Turn(_) => false,
+    }
+}
+
+/// Whether this is a turn at this millisecond.
+fn is_turn(event: &Event, milliseconds: u64) -> bool {
+    match event {
+        Event::Datagram(..) => false,
+        Event::Turn(moment) => moment.milliseconds() == milliseconds,
+    }
+}
+
+#[test]
+fn events_are_read(rt: HostRuntime) -> Result<(), Fail> {
+    let mut input: &[u8] =
+        b"zone gk 10.0.0.1:1719\nat 0012 from 255.0.0.05:65535 0aBf\nturn 9007199254740991\n\n\
+        at 9007199254740991 from 0.0.0.0:0\n  turn   00 ";
+    let script = read_script(rt.alloc(), &mut input)?;
+    let events = script.events.as_slice();
+    assert_eq!(rt; events.len(), 4);
+    let source = Address {
+        ip: [255, 0, 0, 5],
+        port: 65535,
+    };
+    assert!(rt; is_datagram(&events[0], source, &[0x0A, 0xBF], 12));
+    assert!(rt; is_turn(&events[1], 9_007_199_254_740_991));
+    let source = Address {
+        ip: [0, 0, 0, 0],
+        port: 0,
+    };
+    assert!(rt; is_datagram(&events[2], source, &[], 9_007_199_254_740_991));
+    assert!(rt; is_turn(&events[3], 0));
     Ok(())
 }
 
@@ -197,20 +240,102 @@ fn each_setting_has_its_key(rt: HostRuntime) -> Result<(), Fail> {
     Ok(())
 }
 
-fn ignored(cause: IgnoredCause) -> Outcome {
-    Outcome {
-        answer: None,
-        output: None,
-        note: Note::Ignored(cause),
-        given: None,
-    }
+/// What is printed of an outcome that is the first of its run.
+fn line_of(alloc: Global, outcome: Outcome) -> Result<Vec<u8>, Fail> {
+    let mut out = Vec::new(alloc);
+    write_outcomes(&[outcome], &mut out)?;
+    Ok(out)
+}
+
+/// What is printed where this happened, and nothing more.
+fn line_with(alloc: Global, note: Note) -> Result<Vec<u8>, Fail> {
+    line_of(
+        alloc,
+        Outcome {
+            answer: None,
+            output: None,
+            note,
+            dropped: None,
+            given: None,
+        },
+    )
 }
 
 #[test]
-fn each_outcome_has_its_line(rt: HostRuntime) -> Result<(), Fail> {
+fn each_note_has_its_text(rt: HostRuntime) -> Result<(), Fail> {
+    for (note, text) in [
+        (Note::Served, "1 served\n"),
+        (Note::Kept, "1 kept\n"),
+        (
+            Note::Ignored(IgnoredCause::TooLong),
+            "1 ignored too-long\n",
+        ),
+        (
+            Note::Ignored(IgnoredCause::Unreadable),
+            "1 ignored unreadable\n",
+        ),
+        (
+            Note::Ignored(IgnoredCause::NotServed),
+            "1 ignored not-served\n",
+        ),
+        (Note::Ignored(IgnoredCause::Busy), "1 ignored busy\n"),
+        (
+            Note::Ignored(IgnoredCause::UnknownEndpoint),
+            "1 ignored unknown-endpoint\n",
+        ),
+        (Note::Done(DueItem::Retry(0)), "1 done retry 0\n"),
+        (
+            Note::Done(DueItem::KeptOver(u64::MAX)),
+            "1 done kept-over 18446744073709551615\n",
+        ),
+        (Note::Done(DueItem::PoolTurn), "1 done pool-turn\n"),
+        (Note::Idle, "1 idle\n"),
+    ] {
+        let line = line_with(rt.alloc(), note)?;
+        assert_eq!(rt; line.as_slice(), text.as_bytes());
+    }
+    Ok(())
+}
+
+#[test]
+fn an_endpoint_is_named(rt: HostRuntime) -> Result<(), Fail> {
+    let Some(characters) = Name::new(&[0x30, 0x30, 0x30, 0x31]) else {
+        panic!(rt; "four characters make an identifier");
+    };
+    let id = EndpointId::new(characters);
+    for (item, text) in [
+        (
+            DueItem::RegistrationOver(id),
+            "1 done registration-over 0001\n",
+        ),
+        (DueItem::Interrogate(id), "1 done interrogate 0001\n"),
+        (DueItem::Silent(id), "1 done silent 0001\n"),
+    ] {
+        let line = line_with(rt.alloc(), Note::Done(item))?;
+        assert_eq!(rt; line.as_slice(), text.as_bytes());
+    }
+    Ok(())
+}
+
+#[test]
+fn an_identifier_is_written_in_utf_8(rt: HostRuntime) -> Result<(), Fail> {
+    let Some(characters) = Name::new(&[0x41, 0xE9, 0x20AC, 0xD800, 0xDFFF, 0xE000]) else {
+        panic!(rt; "six characters make an identifier");
+    };
+    let line = line_with(
+        rt.alloc(),
+        Note::Done(DueItem::Silent(EndpointId::new(characters))),
+    )?;
+    let text = b"1 done silent A\xC3\xA9\xE2\x82\xAC\xEF\xBF\xBD\xEF\xBF\xBD\xEE\x80\x80\n";
+    assert_eq!(rt; line.as_slice(), text.as_slice());
+    Ok(())
+}
+
+#[test]
+fn answer_and_dropped_entry_and_output_follow_the_note(rt: HostRuntime) -> Result<(), Fail> {
     let mut outcomes = Vec::new(rt.alloc());
     outcomes.push(Outcome {
-        answer: None,
+        answer: Some(Lend::Wait),
         output: Some(Datagram {
             to: Address {
                 ip: [10, 0, 0, 255],
@@ -219,23 +344,28 @@ fn each_outcome_has_its_line(rt: HostRuntime) -> Result<(), Fail> {
             bytes: Octets::from_vec([0x04, 0x80, 0xAF].to_vec(rt.alloc())?),
         }),
         note: Note::Served,
+        dropped: Some(0),
         given: None,
     })?;
-    outcomes.push(ignored(IgnoredCause::TooLong))?;
-    outcomes.push(ignored(IgnoredCause::Unreadable))?;
-    outcomes.push(ignored(IgnoredCause::NotServed))?;
-    for answer in [Lend::Lent(1280), Lend::Refused, Lend::Wait] {
+    for (answer, dropped) in [
+        (Some(Lend::Lent(1280)), None),
+        (Some(Lend::Refused), None),
+        (None, Some(1280)),
+        (Some(Lend::Lent(4_294_967_295)), Some(u64::MAX)),
+    ] {
         outcomes.push(Outcome {
-            answer: Some(answer),
+            answer,
             output: None,
-            note: Note::Served,
+            note: Note::Done(DueItem::Retry(7)),
+            dropped,
             given: None,
         })?;
     }
     let mut out = Vec::new(rt.alloc());
     write_outcomes(&outcomes, &mut out)?;
-    let lines = b"1 served > 10.0.0.255:1719 0480AF\n2 ignored too-long\n3 ignored unreadable\n\
-        4 ignored not-served\n5 served lent 1280\n6 served refused\n7 served wait\n";
+    let lines = b"1 served wait dropped 0 > 10.0.0.255:1719 0480AF\n2 done retry 7 lent 1280\n\
+        3 done retry 7 refused\n4 done retry 7 dropped 1280\n\
+        5 done retry 7 lent 4294967295 dropped 18446744073709551615\n";
     assert_eq!(rt; out.as_slice(), lines.as_slice());
     Ok(())
 }
