@@ -2,7 +2,6 @@
 use Rattle.std.specs.Prelude.{ℕ, ◌≡◌, ◌<◌, ◌==◌, ◌&&◌, Bool, zero, suc, List, [], length, take}
 use Rattle.std.specs.Prelude.{Option, is_none, Result, Ok, Err}
 use Rattle.std.specs.Io.KnownBytes.{Keeps, Appends}
-use Rattle.pools.specs.declared.interface.Figures.{Figures}
 use Rattle.pools.specs.Account.{Account}
 use Rattle.pools.specs.Accounts.{pool_fault}
 use Rattle.ras_core.specs.declared.config.ConfigParts.{ConfigParts}

@@ -96,10 +96,7 @@ fn faults_come_in_their_order(rt: HostRuntime) {
             b"zone gk 10.0.0.1:1719\nturn 0\nset asks 1\n",
             ScriptFault::BadLine(3),
         ),
-        (
-            b"turn 0\nzone gk 10.0.0.1:1719\n",
-            ScriptFault::BadLine(2),
-        ),
+        (b"turn 0\nzone gk 10.0.0.1:1719\n", ScriptFault::BadLine(2)),
         (
             b"at 0 from 10.0.0.5:1719\n\nzone gk 10.0.0.1:1719\n",
             ScriptFault::BadLine(3),
@@ -184,9 +181,7 @@ fn a_script_is_read(rt: HostRuntime) -> Result<(), Fail> {
 fn is_datagram(event: &Event, source: Address, octets: &[u8], milliseconds: u64) -> bool {
     match event {
         Event::Datagram(from, bytes, moment) => {
-            *from == source
-                && bytes.as_slice() == octets
-                && moment.milliseconds() == milliseconds
+            *from == source && bytes.as_slice() == octets && moment.milliseconds() == milliseconds
         }
         Event::Turn(_) => false,
     }
@@ -266,10 +261,7 @@ fn each_note_has_its_text(rt: HostRuntime) -> Result<(), Fail> {
     for (note, text) in [
         (Note::Served, "1 served\n"),
         (Note::Kept, "1 kept\n"),
-        (
-            Note::Ignored(IgnoredCause::TooLong),
-            "1 ignored too-long\n",
-        ),
+        (Note::Ignored(IgnoredCause::TooLong), "1 ignored too-long\n"),
         (
             Note::Ignored(IgnoredCause::Unreadable),
             "1 ignored unreadable\n",

@@ -1,4 +1,4 @@
-use Rattle.std.proofs.Common.{rules, ◌≡◌, ◌<◌, ◌+◌, sym, ap, ◌∙◌, subst, List, ℕ, length, get_or, take}
+use Rattle.std.proofs.Common.{rules, ◌<◌, sym, subst, List, ℕ, length, get_or, take}
 use Rattle.std.specs.Prelude.{encode_utf8}
 use Rattle.std.specs.Io.KnownBytes.{Appends}
 use Rattle.script.specs.Prints.{character_of, identifier_text}

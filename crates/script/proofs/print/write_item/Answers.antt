@@ -1,4 +1,4 @@
-use Rattle.std.proofs.Common.{◌≡◌, sym, subst, codes}
+use Rattle.std.proofs.Common.{sym, subst, codes}
 use Rattle.std.specs.Prelude.{OnOk}
 use Rattle.std.specs.Io.KnownBytes.{Appends}
 use Rattle.expiry.specs.declared.due_item.DueItem.{DueItem}

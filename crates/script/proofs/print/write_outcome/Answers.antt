@@ -1,9 +1,9 @@
-use Rattle.std.proofs.Common.{◌≡◌, ◌++◌, List, ℕ, codes, subst}
+use Rattle.std.proofs.Common.{◌++◌, List, ℕ, codes, subst}
 use Rattle.std.specs.Prelude.{OnOk}
 use Rattle.std.specs.Fmt.{decimal}
 use Rattle.std.specs.Io.KnownBytes.{Appends}
 use Rattle.script.specs.Prints.{note_text, answer_text, dropped_text, output_text}
-use Rattle.script.proofs.KnownBytes.{appends_then, appends_then_on_ok}
+use Rattle.script.proofs.KnownBytes.{appends_then_on_ok}
 use Rattle.script.proofs.Printing.{line_flat}
 use Rattle.script.proofs.print.write_outcome.Goals as goal
 
