@@ -22,9 +22,9 @@ how much bandwidth a call may take. This program answers them.";
 const REPLAY_ABOUT: &str = "Answers the datagrams of a script, and prints the answers";
 
 const REPLAY_LONG_ABOUT: &str = "\
-Reads a script on standard input, gives its datagrams to a gatekeeper one after the other, and
-prints a line for each on standard output. Nothing goes over a network, and time is what the
-script says.";
+Reads a script on standard input, gives its datagrams and the turns of its timers to a gatekeeper
+one after the other, and prints a line for each on standard output. Nothing goes over a network,
+and time is what the script says.";
 
 const REPLAY_HELP: &str = "\
 The script (at most 1,048,576 octets; words are parted by spaces, blank lines are passed over):
@@ -38,11 +38,12 @@ The script (at most 1,048,576 octets; words are parted by spaces, blank lines ar
   pool paced LIMIT BURST       a pool that lends at most BURST units between two turns
   pool .. for A.B.C.D/BITS     a pool for calls that endpoints of this network open
   at MS from ADDRESS HEX       at millisecond MS a datagram comes from ADDRESS, with these octets
+  turn MS                      at millisecond MS one thing is done that is due, where anything is
 
-Lines of zone, set and pool stand before the first datagram; of repeated lines of zone, or of set
-with one key, the last counts. There are at most 16 pools. A call has its bandwidth from the first
-pool whose network holds the address of the endpoint that opens it; a pool without a network holds
-every address, and the last pool has none. Without a pool line there is one fixed pool of the
+Lines of zone, set and pool stand before the first of at or turn; of repeated lines of zone, or of
+set with one key, the last counts. There are at most 16 pools. A call has its bandwidth from the
+first pool whose network holds the address of the endpoint that opens it; a pool without a network
+holds every address, and the last pool has none. Without a pool line there is one fixed pool of the
 zone's limit.
 For example, a terminal at 10.0.0.5 asks who its gatekeeper is (a GRQ, GatekeeperRequest):
   zone gk 10.0.0.1:1719
@@ -52,10 +53,22 @@ The line that is printed says that datagram 1 was served, and what is sent to wh
 GatekeeperConfirm: the gatekeeper is \"gk\" at 10.0.0.1:1719):
   1 served > 10.0.0.5:1719 04800000060008914A0002020067006B000A00000106B7
 
-Where a pool was asked, the line goes on with ` lent K`, ` refused` or ` wait` behind `served`.
+Behind its number a line says what happened:
+  served                       the request was served, or an endpoint's sign of life was heard
+  kept                         the datagram came before, and its kept reply was sent again
+  ignored CAUSE                nothing was done; CAUSE is too-long, unreadable, not-served, busy (as
+                               many replies are kept as may be) or unknown-endpoint
+  done registration-over ID    the time to live of this endpoint's registration was over
+  done interrogate ID          this endpoint in a call was asked for a sign of life
+  done silent ID               this endpoint in a call gave none, and its calls ended
+  done retry B                 a request that a pool made wait was served again
+  done kept-over B             a kept reply was over, and went
+  done pool-turn               the pools made their turn
+  idle                         nothing was due
 
-A datagram without an answer is `ignored`, and the line says why: `too-long`, `unreadable` or
-`not-served`.
+B counts the datagrams and turns before the one whose reply is kept. Where a pool was asked, the
+line goes on with ` lent K`, ` refused` or ` wait`; where a reply that was over went, to make room
+for this one, with ` dropped B`; and where something is sent, with ` > ADDRESS HEX`.
 
 Exit status: 0 done, 1 the script was refused, 2 wrong words on the command line, 3 out of
 memory, 4 a standard stream failed. Status 1, 3 and 4 come with one line on standard error.";
