@@ -369,13 +369,14 @@ fn a_script_is_run(rt: HostRuntime) -> Result<(), Fail> {
         b"zone gk 10.0.0.1:1719\nat 0 from 10.0.0.5:1719\nat 0 from 10.0.0.5:1719 ",
     )?;
     text.resize(text.len() + 2 * 4097, b'0')?;
-    text.extend_from_slice(b"\nat 0 from 10.0.0.5:1719 80\n")?;
+    text.extend_from_slice(b"\nat 0 from 10.0.0.5:1719 80\nturn 999\nturn 1000\nturn 0\n")?;
     let script = read_script(rt.alloc(), &mut text.as_slice())?;
     let mut out = Vec::new(rt.alloc());
     let mut pools = Vec::new(rt.alloc());
     pools.push(FixedPool::new(100_000))?;
     run_script(rt.alloc(), script, pools, &mut out)?;
-    let lines = b"1 ignored unreadable\n2 ignored too-long\n3 ignored not-served\n";
+    let lines = b"1 ignored unreadable\n2 ignored too-long\n3 ignored not-served\n4 idle\n\
+        5 done pool-turn\n6 idle\n";
     assert_eq!(rt; out.as_slice(), lines.as_slice());
     Ok(())
 }
