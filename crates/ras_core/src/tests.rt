@@ -41,6 +41,13 @@ const RCF: [u8; 45] = [
     0x00, 0x30, 0x00, 0x30, 0x00, 0x31, 0x0A, 0x88, 0x02, 0x00, 0x3B, 0x01, 0x00,
 ];
 
+/// The same as it registers anew, while the confirm of 0001 is kept and 0002 is registered.
+const RCF_ANEW: [u8; 45] = [
+    0x12, 0xC0, 0x00, 0x01, 0x06, 0x00, 0x08, 0x91, 0x4A, 0x00, 0x02, 0x01, 0x00, 0x0A, 0x00, 0x00,
+    0x05, 0x06, 0xB8, 0x01, 0x01, 0x00, 0x43, 0x40, 0x20, 0x00, 0x67, 0x00, 0x6B, 0x06, 0x00, 0x30,
+    0x00, 0x30, 0x00, 0x30, 0x00, 0x33, 0x0A, 0x88, 0x02, 0x00, 0x3B, 0x01, 0x00,
+];
+
 /// RegistrationRequest with keepAlive, of 0009.
 const KEEP_ALIVE: [u8; 48] = [
     0x0E, 0x00, 0x00, 0x01, 0x06, 0x00, 0x08, 0x91, 0x4A, 0x00, 0x02, 0x00, 0x01, 0x00, 0x0A, 0x00,
@@ -153,6 +160,7 @@ fn sent(alloc: Global, bytes: &[u8]) -> Result<Outcome, Fail> {
             bytes: Octets::from_vec(bytes.to_vec(alloc)?),
         }),
         note: Note::Served,
+        dropped: None,
         given: None,
     })
 }
@@ -181,6 +189,69 @@ fn discovery_is_confirmed_or_rejected(rt: HostRuntime) -> Result<(), Fail> {
     let alloc = rt.alloc();
     let mut zone = zone(alloc)?;
     let passed = is_discovered(alloc, &mut zone);
+    drop(zone);
+    assert!(rt; passed?);
+    Ok(())
+}
+
+/// Whether the request of this moment is answered so, and so noted.
+fn is_noted(
+    alloc: Global,
+    zone: &mut Zone<FixedPool>,
+    milliseconds: u64,
+    note: Note,
+) -> Result<bool, Fail> {
+    let outcome = zone.step(event(alloc, &GRQ, milliseconds)?)?;
+    Ok(outcome.output == sent(alloc, &GCF)?.output && outcome.note == note)
+}
+
+/// Whether the same request is told the same for 10,000 milliseconds, and then served again.
+fn is_repeated(alloc: Global, zone: &mut Zone<FixedPool>) -> Result<bool, Fail> {
+    Ok(
+        is_noted(alloc, zone, 0, Note::Served)?
+            && is_noted(alloc, zone, 9_999, Note::Kept)?
+            && is_noted(alloc, zone, 10_000, Note::Served)?
+            && zone.steps() == 3,
+    )
+}
+
+#[test]
+fn a_repeat_gets_its_kept_reply(rt: HostRuntime) -> Result<(), Fail> {
+    let mut zone = zone(rt.alloc())?;
+    let passed = is_repeated(rt.alloc(), &mut zone);
+    drop(zone);
+    assert!(rt; passed?);
+    Ok(())
+}
+
+/// Whether this is what is noted of a copy of a turn at this moment, and nothing is sent.
+fn is_turned(
+    alloc: Global,
+    zone: &mut Zone<FixedPool>,
+    milliseconds: u64,
+    note: Note,
+) -> Result<bool, Fail> {
+    let turn = Event::Turn(Moment::new(milliseconds).ok_or("a moment")?);
+    let outcome = zone.step(turn.copy()?)?;
+    Ok(outcome.output.is_none() && outcome.note == note)
+}
+
+/// Whether the pools make a turn each 1,000 milliseconds.
+fn are_turned(alloc: Global, zone: &mut Zone<FixedPool>) -> Result<bool, Fail> {
+    let pools = Note::Done(DueItem::PoolTurn);
+    Ok(
+        is_turned(alloc, zone, 999, Note::Idle)?
+            && is_turned(alloc, zone, 1_000, pools)?
+            && is_turned(alloc, zone, 1_999, Note::Idle)?
+            && is_turned(alloc, zone, 2_500, pools)?
+            && is_turned(alloc, zone, 3_499, Note::Idle)?,
+    )
+}
+
+#[test]
+fn the_pools_make_turns(rt: HostRuntime) -> Result<(), Fail> {
+    let mut zone = zone(rt.alloc())?;
+    let passed = are_turned(rt.alloc(), &mut zone);
     drop(zone);
     assert!(rt; passed?);
     Ok(())
@@ -308,20 +379,20 @@ fn come_and_go(alloc: Global, zone: &mut Zone<FixedPool>) -> Result<bool, Fail> 
             && is_answered(alloc, zone, 7, &DUPLICATE_RRQ, &DUPLICATE_RRJ, false, 2)?
             && is_answered(alloc, zone, 5, &RRQ, &RCF, false, 2)?
             && is_answered(alloc, zone, 5, &URQ, &UCF, false, 1)?
-            && is_answered(alloc, zone, 5, &RRQ, &RCF, true, 2)?
+            && is_answered(alloc, zone, 5, &RRQ, &RCF_ANEW, true, 2)?
             && are_listed(zone)?,
     )
 }
 
-/// Whether 0001 and 0002 are registered, the first with what it was granted at moment 1,000.
+/// Whether 0002 and 0003 are registered, the second with what it was granted at moment 1,000.
 fn are_listed(zone: &Zone<FixedPool>) -> Result<bool, Fail> {
     let endpoints = zone.endpoints()?;
     let [first, second] = endpoints.as_slice() else {
         return Ok(false);
     };
-    let is_first = first.identifier.as_slice() == [48, 48, 48, 49].as_slice();
-    let is_second = second.identifier.as_slice() == [48, 48, 48, 50].as_slice();
-    Ok(is_first && is_second && first.deadline == 61_000 && first.heard == 1_000)
+    let is_first = first.identifier.as_slice() == [48, 48, 48, 50].as_slice();
+    let is_second = second.identifier.as_slice() == [48, 48, 48, 51].as_slice();
+    Ok(is_first && is_second && second.deadline == 61_000 && second.heard == 1_000)
 }
 
 #[test]
