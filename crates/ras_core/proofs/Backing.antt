@@ -1,5 +1,5 @@
 -- Calls stay backed by the pools, within the limits, as they open, change and end.
-use Rattle.std.proofs.Common.{◌≡◌, ◌<◌, ◌≤◌, ◌+◌, ◌^◌, All, ℕ, Bool, true, false, List, [], length, refl, sym, ◌∙◌, ap, subst, arith, Some, None}
+use Rattle.std.proofs.Common.{◌≡◌, ◌<◌, ◌≤◌, ◌+◌, ◌^◌, All, ℕ, Bool, true, false, List, length, refl, sym, ◌∙◌, ap, subst, arith, Some, None}
 use Rattle.std.specs.Prelude.{Option, IsSome, IsTrue, slice_set}
 use Rattle.std.specs.FinMap as fin
 use Rattle.std.proofs.lemmas.List.{length-map, length-set}
@@ -25,8 +25,8 @@ use Rattle.ras_core.specs.declared.change.Purpose.{Purpose}
 use Rattle.ras_core.specs.declared.change.Purpose.TheVariants.{Opening, Raising}
 use Rattle.ras_core.specs.Pools.{figures_at, figures_of, figures_after_return, pools_after_answer, pools_after_return, pools_after_end}
 use Rattle.ras_core.specs.Parts.{Usage, IsBacked, with_usage}
-use Rattle.ras_core.specs.Changes.{IsBandWidth, IsEnterable, IsGrantable, IsOpenable, IsJoinable, IsLowerable, IsRaisable, IsPurpose, IsQuestion, granted_calls, calls_after_answer}
-use Rattle.ras_core.specs.Soundness.{HasCounts, IsLentTo}
+use Rattle.ras_core.specs.Changes.{IsBandWidth, IsEnterable, IsGrantable, IsOpenable, IsJoinable, IsLowerable, IsPurpose, IsQuestion, granted_calls, calls_after_answer}
+use Rattle.ras_core.specs.Soundness.{HasCounts}
 use Rattle.ras_core.proofs.Agreeing.{is_there}
 use Rattle.ras_core.proofs.PoolFigures.{figures_there}
 use Rattle.ras_core.proofs.Lending.{lent-opened, lent-opened_empty, lent-joined, lent-refused, lent-waiting, lent-part, lent-raised, lent-lowered, lent-left}

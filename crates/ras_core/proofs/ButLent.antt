@@ -1,11 +1,10 @@
 -- Pools of which nothing changes but what they have lent.
-use Rattle.std.proofs.Common.{◌≡◌, ◌≢◌, ◌<◌, ◌+◌, ℕ, List, length, get_or, refl, sym, ◌∙◌, ap, subst, Some, None, arith}
-use Rattle.std.specs.Prelude.{Option, All}
+use Rattle.std.proofs.Common.{◌<◌, ◌+◌, ℕ, List, length, refl, sym, ◌∙◌, subst, Some, None, arith}
+use Rattle.std.specs.Prelude.{Option}
 use Rattle.std.proofs.lemmas.List.{get_or_default, length-set}
 use Rattle.keyed.proofs.Decide.{by_place}
 use Rattle.pools.specs.declared.interface.Figures.{Figures}
 use Rattle.pools.specs.Account.{opening_account}
-use Rattle.ras_core.specs.declared.change.CallChange.{CallChange}
 use Rattle.ras_core.specs.declared.change.CallChange.TheVariants.{Opening, Joining, Lowering, Leaving}
 use Rattle.ras_core.specs.declared.change.Change.{Change}
 use Rattle.ras_core.specs.declared.change.Change.TheVariants.{Nothing, Endpoint, Calls}

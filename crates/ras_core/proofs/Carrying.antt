@@ -1,5 +1,5 @@
 -- What is decided about a request, once it is carried out and its reply is kept, is what it comes to.
-use Rattle.std.proofs.Common.{◌≡◌, ◌≤◌, ◌+◌, ℕ, length, Bool, true, false, List, refl, sym, ◌∙◌, ap, subst, Some, None}
+use Rattle.std.proofs.Common.{◌≡◌, ◌≤◌, ◌+◌, ℕ, length, List, refl, sym, ◌∙◌, ap, subst, Some, None}
 use Rattle.std.specs.Prelude.{Option, IfSome}
 use Rattle.std.specs.Option.{IsSomeAnd}
 use Rattle.std.specs.FinMap as fin
@@ -9,7 +9,6 @@ use Rattle.ras_module.specs.declared.request.Request.{Request}
 use Rattle.ras_codec.specs.Replies.{encoding_of}
 use Rattle.kept_replies.specs.declared.key.KeptKey.{KeptKey}
 use Rattle.kept_replies.specs.Kept.{KeptReplies, KeptTable, NonePasses, Passes, is_over, left_in}
-use Rattle.pools.specs.declared.interface.Lend.{Lend}
 use Rattle.ras_core.specs.declared.change.Change.{Change}
 use Rattle.ras_core.specs.declared.change.Decision.{Decision}
 use Rattle.ras_core.specs.declared.job.Job.{Job}
@@ -17,7 +16,7 @@ use Rattle.ras_core.specs.declared.job.Occasion.{Occasion}
 use Rattle.ras_core.specs.declared.job.Occasion.TheVariants.{First, Again}
 use Rattle.ras_core.specs.declared.outcome.Outcome.{Outcome}
 use Rattle.ras_core.specs.State.{Zone, State, Last, Running, RunningZone}
-use Rattle.ras_core.specs.Plans.{Served, Ask, Plan, Settled, Naming, Asking, with_heard}
+use Rattle.ras_core.specs.Plans.{Served, Plan, Settled, Naming, Asking, with_heard}
 use Rattle.ras_core.specs.Keeping.{Task, answered, plan_at, with_reply}
 use Rattle.ras_core.specs.Machine.{Serving, ended, note_at, plan_answer}
 use Rattle.pools.specs.declared.interface.Figures.{Figures}

@@ -1,7 +1,7 @@
 -- An endpoint that leaves all its calls, one after another in any order, leaves the same.
-use Rattle.std.proofs.Common.{◌≡◌, ◌≢◌, ◌<◌, ◌≤◌, ◌+◌, ℕ, Bool, true, false, cond, List, [], ◌∷◌, length, get_or, refl, sym, ◌∙◌, ap, subst, Some, None, arith}
+use Rattle.std.proofs.Common.{◌≡◌, ◌<◌, ◌≤◌, ℕ, Bool, true, false, cond, List, [], ◌∷◌, length, get_or, refl, sym, ◌∙◌, ap, subst, Some, None, arith}
 use Rattle.std.specs.Prelude.{Option, All, is_some, option_and_then, not, nat_eq, filter, ◌||◌, IsSome, if◌then◌else◌}
-use Rattle.std.specs.List.{fold, find, list_any}
+use Rattle.std.specs.List.{fold, list_any}
 use Rattle.std.specs.Ordering.{eq_by_cmp}
 use Rattle.std.specs.Cmp.Lexicographic.{pointwise}
 use Rattle.std.specs.FinMap as fin
@@ -218,13 +218,13 @@ module _ (endpoint : List ℕ) where
       let pools : all.pools ≡ new.pools =
       ext_get_or (opening_account 0).figures all.pools new.pools (same_pools.each ∙ sym left.pools.each)
       (λ i below.
-        let here : i < length z.pools = omega (arith, below, same_pools.each) in
-        let x = same_pools.same i here in
-        let y = left.pools.same i here in
-        same_figures (figures_at all.pools i) (figures_at new.pools i)
-        (x.limit ∙ sym y.limit) (x.refusals ∙ sym y.refusals) (x.waits ∙ sym y.waits)
-        (all_backed.lent i below ∙ (ap (λ (calls : OpenCalls). in_use_of calls i) calls
-        ∙ sym (backed.lent i (omega (arith, here, left.pools.each)))))) in
+      let here : i < length z.pools = omega (arith, below, same_pools.each) in
+      let x = same_pools.same i here in
+      let y = left.pools.same i here in
+      same_figures (figures_at all.pools i) (figures_at new.pools i)
+      (x.limit ∙ sym y.limit) (x.refusals ∙ sym y.refusals) (x.waits ∙ sym y.waits)
+      (all_backed.lent i below ∙ (ap (λ (calls : OpenCalls). in_use_of calls i) calls
+      ∙ sym (backed.lent i (omega (arith, here, left.pools.each)))))) in
       over_else z (fin.keys z.calls) ∙ (λ j. record z { calls = calls j; pools = pools j }) where
         same_figures : (f g : Figures) → f.limit ≡ g.limit → f.refusals ≡ g.refusals → f.waits ≡ g.waits
             → f.lent ≡ g.lent → f ≡ g

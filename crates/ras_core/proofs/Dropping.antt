@@ -1,6 +1,6 @@
 -- What the kept replies are after one was dropped, and after one was added.
-use Rattle.std.proofs.Common.{Bor, ◌≡◌, ◌≢◌, ◌<◌, ◌≤◌, ◌+◌, ℕ, Bool, true, false, refl, sym, ◌∙◌, ap, subst, Some, None, arith}
-use Rattle.std.specs.Prelude.{Option, IsSome, IfSome, Contains, List, [], ◌↔◌, is_some}
+use Rattle.std.proofs.Common.{Bor, ◌≡◌, ◌<◌, ◌+◌, ℕ, Bool, true, false, refl, sym, ◌∙◌, ap, subst, Some, None, arith}
+use Rattle.std.specs.Prelude.{Option, IfSome, Contains, List, ◌↔◌, is_some}
 use Rattle.registrations.specs.Registry.{Live, IsUnused}
 use Rattle.ras_core.specs.Fresh.{IsFreshFor}
 use Rattle.std.specs.Option.{IsSomeAnd, option_copied, option_map}

@@ -1,6 +1,6 @@
 -- The endpoints of the calls' legs stay registered.
 use Rattle.std.proofs.Common.{◌≡◌, ◌+◌, ℕ, List, length, get_or, refl, sym, ◌∙◌, ap, subst, Some, None}
-use Rattle.std.specs.Prelude.{Option, Result, Ok, Err, OnOk, OnErr, IfSome, IsSome, All}
+use Rattle.std.specs.Prelude.{Option, Result, Ok, Err, OnOk, OnErr, IfSome, IsSome}
 use Rattle.std.specs.Option.{option_map}
 use Rattle.std.specs.FinMap as fin
 use Rattle.std.proofs.lemmas.Cmp.{nat_list_cmp_total}
@@ -10,8 +10,6 @@ use Rattle.keyed.specs.Maps.{update}
 use Rattle.keyed.proofs.Maps.{by_key, Changed-insert, Changed-remove, Changed-update}
 use Rattle.registrations.specs.declared.registration.Registration.{Registration}
 use Rattle.registrations.specs.Registry.{Live, after_hear, after_rewrite, with_deadline}
-use Rattle.admission.specs.declared.call.Call.{Call}
-use Rattle.admission.specs.declared.leg.Leg.{Leg}
 use Rattle.admission.specs.Calls.{EachLeg, OpenCalls, freed_by_leave, legs_of}
 use Rattle.admission.proofs.Soundness.{EachLeg-open, EachLeg-join, EachLeg-set_units, EachLeg-leave, EachLeg-other, IsInNoCall-zero}
 use Rattle.pools.specs.declared.interface.Figures.{Figures}

@@ -1,6 +1,6 @@
 -- What pools have lent stays what their calls use, as calls open, change and end.
-use Rattle.std.proofs.Common.{◌≡◌, ◌≢◌, ◌<◌, ◌≤◌, ◌+◌, ◌-◌, ℕ, zero, Bool, true, false, List, length, slice_set, nat_eq, refl, sym, ◌∙◌, ap, subst, arith, Some, None}
-use Rattle.std.specs.Prelude.{if◌then◌else◌, IsSome}
+use Rattle.std.proofs.Common.{◌≡◌, ◌≢◌, ◌<◌, ◌≤◌, ◌+◌, ℕ, zero, Bool, true, false, List, length, slice_set, nat_eq, refl, sym, ◌∙◌, ap, subst, arith, Some, None}
+use Rattle.std.specs.Prelude.{if◌then◌else◌}
 use Rattle.std.specs.FinMap as fin
 use Rattle.std.proofs.lemmas.List.{length-set}
 use Rattle.std.proofs.lemmas.Bool.Decides.{nat_tests}
@@ -9,12 +9,11 @@ use Rattle.keyed.proofs.Decide.{by_place}
 use Rattle.ras_module.specs.declared.call_key.CallKey.{CallKey}
 use Rattle.admission.specs.declared.call.Call.{Call}
 use Rattle.admission.specs.declared.leg.Leg.{Leg}
-use Rattle.admission.specs.Calls.{OpenCalls, in_use, in_use_of, units_from, new_call, with_leg, with_units, after_leave, freed_by_leave}
+use Rattle.admission.specs.Calls.{OpenCalls, in_use_of, units_from, new_call, with_leg, with_units, after_leave, freed_by_leave}
 use Rattle.admission.specs.Legs.{has_other}
 use Rattle.admission.proofs.Leaving.{freed-other, freed-last}
 use Rattle.admission.proofs.Soundness.{in_use_of-open, in_use_of-join, in_use_of-set_units, in_use_of-left, in_use_of-ended, total-part}
 use Rattle.pools.specs.declared.interface.Figures.{Figures}
-use Rattle.pools.specs.declared.interface.Lend.{Lend}
 use Rattle.pools.specs.declared.interface.Lend.TheVariants.{Lent, Refused, Wait}
 use Rattle.pools.specs.Account.{figures_after_answer}
 use Rattle.ras_core.specs.Pools.{figures_at, pools_after_answer, pools_after_return, pools_after_end, figures_after_return}

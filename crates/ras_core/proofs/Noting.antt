@@ -1,10 +1,9 @@
 -- Steps in which no request is served.
-use Rattle.std.proofs.Common.{Bor, ◌≡◌, ◌<◌, ◌≤◌, ◌+◌, ℕ, Bool, true, false, List, refl, sym, ◌∙◌, ap, subst, Some, None, arith}
+use Rattle.std.proofs.Common.{Bor, ◌≡◌, ◌<◌, ◌≤◌, ◌+◌, ℕ, Bool, true, List, refl, sym, ap, subst, Some, None, arith}
 use Rattle.std.specs.Prelude.{Option, IsTrue, is_some, if◌then◌else◌}
-use Rattle.std.specs.Option.{IsSomeAnd, option_copied, option_map}
+use Rattle.std.specs.Option.{IsSomeAnd, option_copied}
 use Rattle.std.proofs.lemmas.Bool.Decides.{nat_tests}
 use Rattle.std.specs.FinMap as fin
-use Rattle.kept_replies.specs.Kept.{KeptReplies}
 use Rattle.registrations.specs.declared.registration.Registration.{Registration}
 use Rattle.expiry.specs.declared.due_item.DueItem.{DueItem}
 use Rattle.expiry.specs.declared.times.Times.{Times}
@@ -15,13 +14,13 @@ use Rattle.ras_core.specs.declared.outcome.IgnoredCause.TheVariants.{UnknownEndp
 use Rattle.ras_core.specs.declared.outcome.Note.{Note}
 use Rattle.ras_core.specs.declared.outcome.Note.TheVariants as note
 use Rattle.ras_core.specs.declared.outcome.Outcome.{Outcome}
-use Rattle.ras_core.specs.State.{Running, RunningZone, State, Zone}
+use Rattle.ras_core.specs.State.{Running, RunningZone, Zone}
 use Rattle.ras_core.specs.Turns.{IsDueIn, effect, without_legs_of}
-use Rattle.ras_core.specs.Machine.{Hearing, Doing, Ignoring, response_course, course_answer}
+use Rattle.ras_core.specs.Machine.{Hearing, Doing, Ignoring, response_course}
 use Rattle.ras_core.specs.Changes.{heard_at}
 use Rattle.ras_core.specs.Leaving.{AreSameButLent}
 use Rattle.ras_core.specs.Soundness.{AreBornBefore}
-use Rattle.ras_core.specs.Steps.{Does, HasFewOctets, IsAllowed, ask_in, choices_of, lasts_after}
+use Rattle.ras_core.specs.Steps.{Does, HasFewOctets}
 use Rattle.ras_core.proofs.ButLent.{counts_same, same_after_end}
 use Rattle.ras_core.proofs.Departing.{over_else}
 use Rattle.ras_core.proofs.Dropping.{born_same}

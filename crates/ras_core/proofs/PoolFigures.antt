@@ -1,6 +1,6 @@
 -- The figures and the last requests of pools, as their accounts change.
 use Rattle.std.proofs.Common.{◌≡◌, ◌≢◌, ◌<◌, ◌≤◌, ◌+◌, ◌^◌, IsTrue, ℕ, List, [], ◌∷◌, length, map, get_or, set, All, refl, sym, ◌∙◌, ap, arith, Some}
-use Rattle.std.proofs.lemmas.List.{map-set, length-set, get_or-set_other}
+use Rattle.std.proofs.lemmas.List.{map-set, get_or-set_other}
 use Rattle.std.proofs.lemmas.List.Elements.{All-map, All-set}
 use Rattle.std.proofs.lemmas.Grind.{get_or-set_at}
 use Rattle.std.proofs.Math.ListN as seq

@@ -1,8 +1,7 @@
 -- Requests that wait, and are served again.
-use Rattle.std.proofs.Common.{◌≡◌, ◌<◌, ◌≤◌, ◌+◌, ℕ, Bool, List, refl, sym, ◌∙◌, ap, subst, Some, None, arith}
-use Rattle.std.specs.Prelude.{Option, Result, Ok, Err, IfOk, IsTrue}
-use Rattle.std.specs.Option.{IsSomeAnd, option_map}
-use Rattle.std.specs.Map.Iter.{deref_pair}
+use Rattle.std.proofs.Common.{◌≡◌, ℕ, List, refl, sym, ◌∙◌, ap, subst, Some, None}
+use Rattle.std.specs.Prelude.{Option, Result, Ok, Err, IfOk}
+use Rattle.std.specs.Option.{IsSomeAnd}
 use Rattle.std.specs.FinMap as fin
 use Rattle.keyed.proofs.Decide.{same_some}
 use Rattle.ras_module.specs.declared.reply.Reply.{Reply}
@@ -11,14 +10,12 @@ use Rattle.ras_module.specs.declared.request.Request.TheVariants.{Grq, Rrq, Urq,
 use Rattle.pools.specs.declared.interface.Lend.{Lend}
 use Rattle.kept_replies.specs.declared.key.KeptKey.{KeptKey}
 use Rattle.kept_replies.specs.declared.entry.KeptEntry.{KeptEntry}
-use Rattle.kept_replies.specs.declared.entry.KeptState.{KeptState}
 use Rattle.kept_replies.specs.declared.entry.KeptState.TheVariants.{Done, Pending}
-use Rattle.kept_replies.specs.Kept.{KeptReplies, AreBornApart, births, left_in}
+use Rattle.kept_replies.specs.Kept.{AreBornApart, births, left_in}
 use Rattle.kept_replies.proofs.Births.{births-has}
 use Rattle.expiry.specs.declared.due_item.DueItem.TheVariants.{Retry}
 use Rattle.ras_core.specs.declared.job.Job.{Job}
-use Rattle.ras_core.specs.declared.job.Occasion.TheVariants.{First, Again}
-use Rattle.ras_core.specs.declared.outcome.Note.{Note}
+use Rattle.ras_core.specs.declared.job.Occasion.TheVariants.{Again}
 use Rattle.ras_core.specs.declared.outcome.Outcome.{Outcome}
 use Rattle.ras_core.specs.State.{Running, State, Zone}
 use Rattle.ras_core.specs.Plans.{Plan, Settled, Naming, Asking}

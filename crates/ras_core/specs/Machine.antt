@@ -26,11 +26,11 @@ use Rattle.ras_core.specs.declared.outcome.IgnoredCause.TheVariants.{TooLong, Un
 use Rattle.ras_core.specs.declared.outcome.Note.{Note}
 use Rattle.ras_core.specs.declared.outcome.Note.TheVariants as note
 use Rattle.ras_core.specs.declared.outcome.Outcome.{Outcome}
-use Rattle.ras_core.specs.State.{Zone, State, with_live, heard_now}
+use Rattle.ras_core.specs.State.{State, with_live, heard_now}
 use Rattle.ras_core.specs.Plans.{Served, Ask, Plan, Settled, Naming, Asking}
 use Rattle.ras_core.specs.Requests.{endpoint_of, plan_of}
 use Rattle.ras_core.specs.Keeping.{Task, Progress, answered, by_answer, is_repeat, kept_after, plan_at, with_answered_pool}
-use Rattle.ras_core.specs.Turns.{Effect, effect}
+use Rattle.ras_core.specs.Turns.{effect}
 
 -- What was chosen in a step: the identifier that was handed out, the answer of the pool that was asked,
 -- the birth of the kept entry that was dropped, and the item that was done of those that are due.

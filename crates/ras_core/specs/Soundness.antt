@@ -1,5 +1,5 @@
 -- What holds of every zone.
-use Rattle.std.specs.Prelude.{◌≡◌, ◌<◌, ◌≤◌, ◌+◌, ◌^◌, ℕ, List, length, None, Some, IsSome, Contains, All}
+use Rattle.std.specs.Prelude.{◌≡◌, ◌<◌, ◌≤◌, ◌+◌, ◌^◌, ℕ, List, length, Some, IsSome, Contains, All}
 use Rattle.std.specs.FinMap.{get, len}
 use Rattle.ras_module.specs.declared.alias.Alias.{Alias}
 use Rattle.registrations.specs.declared.registration.Registration.{Registration}

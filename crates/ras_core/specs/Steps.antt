@@ -1,5 +1,5 @@
 -- Steps of the machine, and runs.
-use Rattle.std.specs.Prelude.{ℕ, ◌≡◌, ◌≤◌, ◌<◌, ◌+◌, ◌++◌, All, List, [], ◌∷◌, length, slice_set, Some, Option, None, IfSome}
+use Rattle.std.specs.Prelude.{ℕ, ◌≡◌, ◌≤◌, ◌+◌, ◌++◌, All, List, [], ◌∷◌, length, slice_set, Some, Option, None, IfSome}
 use Rattle.std.specs.List.{zip}
 use Rattle.std.specs.Option.{IsSomeAnd}
 use Rattle.std.specs.FinMap.{get, len}

@@ -1,10 +1,9 @@
 -- What is due, and what it comes to (H.323, status of calls; H.225.0, timeToLive, InfoRequest).
-use Rattle.std.specs.Prelude.{ℕ, ◌+◌, ◌==◌, List, Option, None, Some, if◌then◌else◌}
+use Rattle.std.specs.Prelude.{ℕ, ◌+◌, ◌==◌, List, Option, None, if◌then◌else◌}
 use Rattle.std.specs.List.{fold}
 use Rattle.std.specs.Option.{option_map}
 use Rattle.std.specs.FinMap.{get, keys, remove}
 use Rattle.keyed.specs.Maps.{update}
-use Rattle.ras_module.specs.declared.address.Address.{Address}
 use Rattle.ras_module.specs.declared.reply.Reply.TheVariants.{Irq}
 use Rattle.ras_codec.specs.Replies.{encoding_of}
 use Rattle.registrations.specs.declared.registration.Registration.{Registration}

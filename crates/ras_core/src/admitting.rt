@@ -11,8 +11,8 @@ ghost use Rattle.ras_core.specs.Changes.{Concludes, Decides, IsFor};
 
 use crate::calling::Admission;
 use crate::change::{CallChange, Change, Conclusion, Decision, Purpose, Question};
-use crate::services::Services;
 use crate::moment::Moment;
+use crate::services::Services;
 use admission::{Call, Leg};
 use pools::Pool;
 use ras_module::{Address, AdmissionRejectReason, Reply};

@@ -7,8 +7,8 @@ ghost use Rattle.ras_core.specs.Changes.{Concludes, IsFor};
 
 use crate::calling::BandwidthChange;
 use crate::change::{CallChange, Change, Conclusion, Decision, Purpose, Question};
-use crate::services::Services;
 use crate::moment::Moment;
+use crate::services::Services;
 use admission::Call;
 use pools::Pool;
 use ras_module::{BandRejectReason, Reply};

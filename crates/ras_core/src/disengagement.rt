@@ -6,8 +6,8 @@ ghost use Rattle.ras_core.specs.Changes.{Decides};
 
 use crate::calling::Disengagement;
 use crate::change::{CallChange, Change, Decision};
-use crate::services::Services;
 use crate::moment::Moment;
+use crate::services::Services;
 use pools::Pool;
 use ras_module::{DisengageRejectReason, Reply};
 

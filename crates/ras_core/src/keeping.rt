@@ -149,9 +149,7 @@ pub fn keep(
     ensures dropped { IsDropped kept.old job.key job.occasion result }
 {
     if waits {
-        return keep_request(
-            kept, now, job, born, request, reply, term.retry, term.times,
-        );
+        return keep_request(kept, now, job, born, request, reply, term.retry, term.times);
     }
     keep_reply(kept, now, job, born, reply, term.until)
 }

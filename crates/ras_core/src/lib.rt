@@ -28,9 +28,9 @@ mod turns;
 mod unregistration;
 mod zone;
 
-pub use expiry::DueItem;
 pub use config::{Config, ConfigFault, ConfigParts};
 pub use event::Event;
+pub use expiry::DueItem;
 pub use fault::{NewFault, StepFault};
 pub use moment::Moment;
 pub use network::{Network, Networks};

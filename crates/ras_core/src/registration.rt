@@ -10,9 +10,9 @@ ghost use Rattle.ras_core.specs.Changes.{Decides};
 ghost use Rattle.ras_core.specs.Fresh.{IsFreshFor};
 
 use crate::change::{Change, Decision, EndpointChange};
-use crate::services::Services;
 use crate::moment::Moment;
 use crate::registering::{Entry, Registering};
+use crate::services::Services;
 use kept_replies::Kept;
 use pools::Pool;
 use ras_module::{Address, EndpointId, RegistrationRejectReason, Reply, ReplyAliases, TimeToLive};

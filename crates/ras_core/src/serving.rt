@@ -131,9 +131,7 @@ impl<P: Pool> Machine<P> {
         write_into(&reply, &mut bytes).unwrap();
         let kept = &mut self.kept;
         let start = now.milliseconds();
-        let dropped = keep(
-            kept, start, job, self.steps, request, reply, waits, term,
-        );
+        let dropped = keep(kept, start, job, self.steps, request, reply, waits, term);
         let output = Datagram {
             to,
             bytes: Octets::from_vec(bytes),
@@ -339,12 +337,7 @@ impl<P: Pool> Machine<P> {
     }
 
     /// Serves a request about a call.
-    fn serve_call(
-        &mut self,
-        now: Moment,
-        job: Job,
-        request: Request,
-    ) -> Result<Outcome, AllocError>
+    fn serve_call(&mut self, now: Moment, job: Job, request: Request) -> Result<Outcome, AllocError>
         requires calls { IsAboutCalls request }
         requires counts { All (HasCounts (2 ^ 63)) self.old.state.zone.pools }
         requires job { IsJob self.old.state now job }

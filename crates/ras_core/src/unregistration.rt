@@ -6,9 +6,9 @@ ghost use Rattle.ras_core.specs.Unregistering.{leaving, unregistration};
 ghost use Rattle.ras_core.specs.Changes.{Decides};
 
 use crate::change::{Change, Decision, EndpointChange};
-use crate::services::Services;
 use crate::moment::Moment;
 use crate::registering::Unregistering;
+use crate::services::Services;
 use pools::Pool;
 use ras_module::{EndpointId, Reply, UnregRejectReason};
 

@@ -1,17 +1,13 @@
-use Rattle.std.proofs.Common.{◌≡◌, ◌^◌, ◌<◌, ℕ, All, refl, sym, ap, ◌∙◌, subst, arith, Some, None}
+use Rattle.std.proofs.Common.{◌≡◌, ◌^◌, ◌<◌, ℕ, All, refl, sym, ap, ◌∙◌, subst, Some}
 use Rattle.std.specs.Prelude.{slice_set}
-use Rattle.std.specs.FinMap as fin
-use Rattle.keyed.specs.Maps.{update}
-use Rattle.admission.specs.Calls.{after_leave, freed_by_leave, leg_at, new_call, with_leg, with_units}
-use Rattle.ras_core.specs.Changes.{IsJoinable, IsLowerable, IsOpenable, IsEnterable, IsQuestion, calls_after_answer}
+use Rattle.ras_core.specs.Changes.{IsQuestion, calls_after_answer}
 use Rattle.pools.specs.declared.interface.Figures.{Figures}
 use Rattle.pools.specs.Account.{IsAnswer, MayAsk}
 use Rattle.pools.specs.Accounts.{account_at}
 use Rattle.ras_core.specs.Soundness.{HasCounts}
-use Rattle.ras_core.specs.Parts.{Lending, Usage, with_usage}
-use Rattle.ras_core.specs.Pools.{figures_at, figures_of, lasts_of, pools_after_answer, pools_after_return, pools_after_end}
-use Rattle.ras_core.proofs.Agreeing.{on_ok, if_ok}
-use Rattle.ras_core.proofs.PoolFigures.{figures-answer, figures-return, figures_there, lasts-answer, lasts-return}
+use Rattle.ras_core.specs.Parts.{Lending, with_usage}
+use Rattle.ras_core.specs.Pools.{figures_at, figures_of, lasts_of, pools_after_answer}
+use Rattle.ras_core.proofs.PoolFigures.{figures-answer, figures_there, lasts-answer}
 use Rattle.ras_core.proofs.Backing.{IsBacked-answer, IsBacked-is, enterable, may_ask, usage_in}
 use Rattle.ras_core.proofs.bandwidth.Bandwidth.ask.Goals as goal
 

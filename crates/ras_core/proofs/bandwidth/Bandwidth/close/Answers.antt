@@ -1,5 +1,4 @@
 use Rattle.std.proofs.Common.{◌≡◌, All, ap, sym, ◌∙◌, subst}
-use Rattle.pools.specs.declared.interface.Figures.{Figures}
 use Rattle.ras_core.specs.Parts.{Lending}
 use Rattle.ras_core.specs.Pools.{figures_of, figures_without_loans, lasts_of}
 use Rattle.ras_core.proofs.PoolFigures.{figures-close, lasts-close, repaid}

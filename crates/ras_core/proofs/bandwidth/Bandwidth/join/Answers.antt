@@ -1,10 +1,8 @@
-use Rattle.std.proofs.Common.{refl, sym, ap, ◌∙◌, subst, arith}
-use Rattle.ras_core.specs.Changes.{IsJoinable, IsLowerable, IsOpenable, IsQuestion}
-use Rattle.ras_core.specs.Parts.{Lending, Usage, with_usage}
-use Rattle.ras_core.specs.Pools.{figures_of, pools_after_return, pools_after_end}
+use Rattle.std.proofs.Common.{refl, sym, subst}
+use Rattle.ras_core.specs.Changes.{IsJoinable}
+use Rattle.ras_core.specs.Parts.{Lending, with_usage}
 use Rattle.ras_core.proofs.Agreeing.{on_ok}
-use Rattle.ras_core.proofs.PoolFigures.{figures-answer, figures-return, figures_there, lasts-answer, lasts-return}
-use Rattle.ras_core.proofs.Backing.{IsBacked-answer, IsBacked-is, IsBacked-join, IsBacked-leave, IsBacked-lower, IsBacked-open, back_is_lent, call_with_leg, usage_in}
+use Rattle.ras_core.proofs.Backing.{IsBacked-is, IsBacked-join, usage_in}
 use Rattle.ras_core.proofs.bandwidth.Bandwidth.join.Goals as goal
 
 pub invariant_of-self : goal.invariant_of-self

@@ -1,14 +1,12 @@
-use Rattle.std.proofs.Common.{◌≡◌, refl, sym, ap, ◌∙◌, subst, arith, Some, None}
+use Rattle.std.proofs.Common.{◌≡◌, sym, ap, ◌∙◌, subst, arith}
 use Rattle.std.specs.Prelude.{IsSome}
 use Rattle.std.proofs.lemmas.List.{length-map}
-use Rattle.keyed.specs.Maps.{update}
-use Rattle.admission.specs.Calls.{after_leave, freed_by_leave, leg_at, new_call, with_leg, with_units}
-use Rattle.ras_core.specs.Changes.{IsJoinable, IsLowerable, IsOpenable, IsQuestion}
-use Rattle.ras_core.specs.Parts.{Lending, Usage, with_usage}
+use Rattle.admission.specs.Calls.{after_leave, freed_by_leave, leg_at}
+use Rattle.ras_core.specs.Parts.{Lending, with_usage}
 use Rattle.ras_core.specs.Pools.{figures_of, lasts_of, pools_after_return, pools_after_end}
 use Rattle.ras_core.proofs.Agreeing.{on_ok, if_ok}
-use Rattle.ras_core.proofs.PoolFigures.{figures-answer, figures-return, figures_there, lasts-answer, lasts-return}
-use Rattle.ras_core.proofs.Backing.{IsBacked-answer, IsBacked-is, IsBacked-join, IsBacked-leave, IsBacked-lower, IsBacked-open, back_is_lent, call_with_leg, freed_is_lent, freed_pool, usage_in}
+use Rattle.ras_core.proofs.PoolFigures.{figures-return, figures_there, lasts-return}
+use Rattle.ras_core.proofs.Backing.{IsBacked-is, IsBacked-leave, call_with_leg, freed_is_lent, freed_pool, usage_in}
 use Rattle.ras_core.proofs.bandwidth.Bandwidth.leave.Goals as goal
 
 pub take_back-requires-clause-pool : goal.take_back-requires-clause-pool

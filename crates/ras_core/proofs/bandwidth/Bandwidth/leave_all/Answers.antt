@@ -1,4 +1,4 @@
-use Rattle.std.proofs.Common.{◌≡◌, ◌<◌, ◌∙◌, ap, refl, subst, sym, None}
+use Rattle.std.proofs.Common.{◌<◌, ◌∙◌, ap, refl, subst, sym, None}
 use Rattle.std.specs.Prelude.{IsSome}
 use Rattle.std.specs.FinMap as fin
 use Rattle.admission.specs.Calls.{IsInNoCall, leg_at, legs_of}

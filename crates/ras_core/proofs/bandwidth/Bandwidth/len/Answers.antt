@@ -1,4 +1,4 @@
-use Rattle.std.proofs.Common.{◌≤◌, All, subst, refl}
+use Rattle.std.proofs.Common.{◌≤◌, All, subst}
 use Rattle.admission.specs.Calls.{EachCall, IsCall}
 use Rattle.ras_core.specs.Parts.{Lending}
 use Rattle.ras_core.proofs.PoolFigures.{within_limits}

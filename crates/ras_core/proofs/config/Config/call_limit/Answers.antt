@@ -1,4 +1,4 @@
-use Rattle.std.proofs.Common.{◌<◌, ◌^◌, ◌≤◌, ℕ, arith}
+use Rattle.std.proofs.Common.{arith}
 use Rattle.ras_core.proofs.RangesKept.{limits}
 use Rattle.ras_core.proofs.config.Config.call_limit.Goals as goal
 

@@ -1,11 +1,10 @@
-use Rattle.std.proofs.Common.{rules, ◌≡◌, ◌≤◌, ◌+◌, ◌∙◌, ℕ, List, Some, None, length, ap, subst, sym}
+use Rattle.std.proofs.Common.{rules, ◌≡◌, ◌∙◌, ℕ, List, Some, None, ap, subst, sym}
 use Rattle.std.specs.Prelude.{IfSome}
 use Rattle.ras_codec.specs.Replies.{encoding_of}
 use Rattle.kept_replies.specs.Kept.{KeptReplies, Passes, is_over}
-use Rattle.pools.specs.Account.{IsAnswer}
 use Rattle.ras_core.specs.declared.outcome.Note.{Note}
 use Rattle.ras_core.specs.State.{Running, RunningZone, State}
-use Rattle.ras_core.specs.Pools.{figures_at, pools_after_answer}
+use Rattle.ras_core.specs.Pools.{pools_after_answer}
 use Rattle.ras_core.specs.Keeping.{kept_as, plan_at, term_of}
 use Rattle.ras_core.specs.Machine.{Serving}
 use Rattle.ras_core.specs.Changes.{Asks, ask_of, calls_after_answer, heard_at, reply_of}
@@ -69,7 +68,7 @@ returns-clause-does g c plan asks =
     let services_is : services ≡ heard_at asked job.occasion now (Some id) =
     c.hear.ensures ∙ ap (λ (z : RunningZone). heard_at z job.occasion now (Some id)) asked_is in
     let kept_is : kept ≡ kept_as i.kept.kept job.key job.occasion dropped i.steps request reply w
-        (term_of i.services.zone.config now) =
+    (term_of i.services.zone.config now) =
     c.keep-dropped.ensures.kept
     ∙ (λ j. kept_as (c.reserve.ensures.kept j) job.key job.occasion dropped i.steps request reply w (c.term-term.ensures.same j)) in
     let reply_is : reply ≡ reply_of q answer w i.services.zone.config.delay =

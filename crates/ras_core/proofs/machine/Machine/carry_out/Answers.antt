@@ -1,11 +1,11 @@
-use Rattle.std.proofs.Common.{◌≡◌, ◌≤◌, ◌+◌, ◌∙◌, ℕ, List, Some, None, length, ap, subst, sym}
+use Rattle.std.proofs.Common.{◌≡◌, ◌≤◌, ◌+◌, ◌∙◌, ℕ, Some, None, length, ap, subst, sym}
 use Rattle.std.specs.Prelude.{IfSome}
 use Rattle.ras_codec.specs.Replies.{encoding_of}
 use Rattle.kept_replies.specs.Kept.{KeptReplies, Passes, is_over}
 use Rattle.ras_core.specs.declared.outcome.Datagram.{Datagram}
 use Rattle.ras_core.specs.declared.outcome.Note.{Note}
 use Rattle.ras_core.specs.State.{Running, RunningZone}
-use Rattle.ras_core.specs.Keeping.{plan_at, term_of, with_reply}
+use Rattle.ras_core.specs.Keeping.{plan_at, with_reply}
 use Rattle.ras_core.specs.Machine.{Serving}
 use Rattle.ras_core.specs.Changes.{Decides, changed, heard_at}
 use Rattle.ras_core.specs.Soundness.{AreBornBefore}
@@ -42,7 +42,7 @@ returns-clause-does g c plan request decides =
     let until_is : c.term-term.result.until ≡ now + i.services.zone.config.window =
     ap (λ t. t.until) c.term-term.ensures.same in
     let kept_is : kept ≡ with_reply i.kept.kept job.key job.occasion dropped i.steps d.reply
-        (now + i.services.zone.config.window) =
+    (now + i.services.zone.config.window) =
     c.keep_reply-dropped.ensures.kept
     ∙ (λ j. with_reply (c.reserve.ensures.kept j) job.key job.occasion dropped i.steps d.reply (until_is j)) in
     let over = subst (λ (k : KeptReplies). IfSome dropped (Passes (is_over now) k)) c.reserve.ensures.kept

@@ -1,13 +1,13 @@
-use Rattle.std.proofs.Common.{◌≡◌, ◌+◌, ◌∙◌, refl, ap, subst, sym, Some, None}
-use Rattle.ras_core.specs.State.{Running, RunningZone, State, Zone}
+use Rattle.std.proofs.Common.{◌+◌, refl, ap, subst, sym, None}
+use Rattle.ras_core.specs.State.{Running}
 use Rattle.ras_core.specs.declared.outcome.Outcome.{Outcome}
 use Rattle.ras_core.specs.Machine.{Doing}
 use Rattle.ras_core.specs.Turns.{IsDueIn}
 use Rattle.ras_core.specs.Soundness.{AreBornBefore}
 use Rattle.ras_core.specs.Steps.{Does}
 use Rattle.ras_core.proofs.ButLent.{same_after_end}
-use Rattle.ras_core.proofs.Dropping.{born_dropped, born_same}
-use Rattle.ras_core.proofs.Noting.{does_item, noted_outcome, settings_stay}
+use Rattle.ras_core.proofs.Dropping.{born_dropped}
+use Rattle.ras_core.proofs.Noting.{does_item}
 use Rattle.expiry.specs.declared.due_item.DueItem.TheVariants as due_item
 use Rattle.ras_core.proofs.machine.Machine.expire.Goals as goal
 

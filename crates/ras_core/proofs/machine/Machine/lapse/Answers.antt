@@ -1,20 +1,21 @@
-use Rattle.std.proofs.Common.{◌≡◌, ◌∙◌, refl, ap, subst, sym, Some, None}
+use Rattle.std.proofs.Common.{◌∙◌, refl, ap, subst, sym, None}
 use Rattle.ras_core.specs.declared.config.ConfigParts.{ConfigParts}
-use Rattle.ras_core.specs.State.{Running, RunningZone, State, Zone}
+use Rattle.ras_core.specs.State.{Running, Zone}
 use Rattle.ras_core.specs.declared.outcome.Outcome.{Outcome}
 use Rattle.ras_core.specs.Machine.{Doing}
 use Rattle.ras_core.specs.Turns.{IsDueIn}
 use Rattle.ras_core.specs.Steps.{Does}
-use Rattle.ras_core.proofs.ButLent.{same_after_end}
-use Rattle.ras_core.proofs.Dropping.{born_dropped, born_same}
-use Rattle.ras_core.proofs.Noting.{does_item, noted_outcome, settings_stay}
+use Rattle.ras_core.proofs.Dropping.{born_same}
+use Rattle.ras_core.proofs.Noting.{does_item, settings_stay}
 use Rattle.expiry.specs.declared.due_item.DueItem.TheVariants as due_item
 use Rattle.ras_core.proofs.machine.Machine.lapse.Goals as goal
 
 pub invariant_of-self : goal.invariant_of-self
-invariant_of-self g c =
-    (c.self.invariant.0 ∙ sym (ap (λ (z : Zone). z.config.kept) c.lapse.ensures.zone
-    ∙ ap (λ (config : ConfigParts). config.kept) (settings_stay c.self.inside.services.zone c.args.id)), c.self.invariant.1)
+invariant_of-self g c = (
+  c.self.invariant.0 ∙ sym (ap (λ (z : Zone). z.config.kept) c.lapse.ensures.zone
+      ∙ ap (λ (config : ConfigParts). config.kept) (settings_stay c.self.inside.services.zone c.args.id)),
+  c.self.invariant.1,
+)
 
 pub returns-clause-does : goal.returns-clause-does
 returns-clause-does g c =

@@ -18,5 +18,5 @@ returns-clause-does g c =
     (subst (Decides z c.args.now settled) (sym c.reply-decision.ensures) (record {
       possible = tt;
       is = ap (λ reply. Some (unchanged z reply)) (sym (c.discover.ensures
-      ∙ ap (λ (m : Running). discovery m.state.zone c.args.seq c.args.gatekeeper) c.self.view_is));
+          ∙ ap (λ (m : Running). discovery m.state.zone c.args.seq c.args.gatekeeper) c.self.view_is));
     }))))

@@ -1,4 +1,4 @@
-use Rattle.std.proofs.Common.{◌≡◌, ◌+◌, ◌∙◌, refl, ap, subst, sym, Some, None}
+use Rattle.std.proofs.Common.{◌≡◌, ◌+◌, ◌∙◌, refl, ap, subst, sym, None}
 use Rattle.expiry.specs.declared.due_item.DueItem.TheVariants.{PoolTurn}
 use Rattle.ras_core.specs.declared.outcome.Outcome.{Outcome}
 use Rattle.ras_core.specs.State.{Running, RunningZone}

@@ -15,13 +15,13 @@ invariant_of-self g c =
     let possible = subst (λ x. IsPossible c.args.self.now.zone x) c.in-Endpoint.is c.requires in
     let here = subst (λ (m : RunningZone). IsPossible m.zone (Endpoint change)) (sym c.self.view_is) possible in
     record {
-        endpoints = c.apply.ensures.most ∙ parts.endpoints;
-        calls = parts.calls;
-        limit = parts.limit;
-        call_limit = parts.call_limit;
-        pools = parts.pools;
-        legs = legs-endpoint_result c.apply.result i.endpoints c.apply.new.self u.calls c.args.now change
-            parts.legs here.1 c.apply.ensures.live c.apply.ensures.err;
+      endpoints = c.apply.ensures.most ∙ parts.endpoints;
+      calls = parts.calls;
+      limit = parts.limit;
+      call_limit = parts.call_limit;
+      pools = parts.pools;
+      legs = legs-endpoint_result c.apply.result i.endpoints c.apply.new.self u.calls c.args.now change
+          parts.legs here.1 c.apply.ensures.live c.apply.ensures.err;
     }
 
 pub invariant_of-self-in-Calls : goal.invariant_of-self-in-Calls
@@ -34,4 +34,4 @@ invariant_of-self-in-Calls g c =
     let here = subst (λ (m : RunningZone). IsPossible m.zone (Calls change)) (sym c.self.view_is) possible in
     let can = subst (λ (u : Usage). IsCallChange u change) (sym (usage_is i.config i.endpoints u parts)) here.0 in
     AreParts-change i.config i.endpoints u parts c.apply-in-Calls.result c.apply-in-Calls.new.self.usage change
-          can here.1 c.apply-in-Calls.ensures.ok c.apply-in-Calls.ensures.err
+    can here.1 c.apply-in-Calls.ensures.ok c.apply-in-Calls.ensures.err

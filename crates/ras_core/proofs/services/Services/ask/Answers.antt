@@ -1,12 +1,11 @@
-use Rattle.std.proofs.Common.{◌<◌, ◌^◌, ◌∙◌, sym, ap, subst, ℕ}
+use Rattle.std.proofs.Common.{◌∙◌, sym, ap, subst}
 use Rattle.std.proofs.lemmas.List.{length-set}
 use Rattle.ras_core.specs.State.{RunningZone}
 use Rattle.std.specs.Prelude.{IfSome}
 use Rattle.pools.specs.Account.{figures_after_answer}
-use Rattle.ras_core.specs.Parts.{AreParts, Usage, usage_of, with_usage}
+use Rattle.ras_core.specs.Parts.{AreParts, Usage, with_usage}
 use Rattle.ras_core.specs.Pools.{figures_at, pools_after_answer}
 use Rattle.ras_core.specs.Changes.{IsRegistered, calls_after_answer, leg_of_purpose}
-use Rattle.ras_core.proofs.Backing.{is_band_width}
 use Rattle.ras_core.proofs.Legs.{AreParts-calls, legs-answer}
 use Rattle.ras_core.proofs.services.Services.ask.Goals as goal
 
@@ -21,9 +20,9 @@ invariant_of-self-2 g c =
     (sym c.self.view_is) c.requires.leg in
     let pools = pools_after_answer old.pools q.pool answer in
     subst (λ (u : Usage). AreParts i.config i.endpoints u)
-          (sym (c.ask.ensures.usage
-          ∙ ap (λ (u : Usage). with_usage u (calls_after_answer q answer u.calls) (pools_after_answer u.pools q.pool answer))
-          c.reserve.ensures.usage))
-          (AreParts-calls i.config i.endpoints old parts (calls_after_answer q answer old.calls) pools
-          (length-set old.pools q.pool (figures_after_answer (figures_at old.pools q.pool) answer))
-          (legs-answer i.endpoints.live old.calls q answer parts.legs leg))
+    (sym (c.ask.ensures.usage
+    ∙ ap (λ (u : Usage). with_usage u (calls_after_answer q answer u.calls) (pools_after_answer u.pools q.pool answer))
+    c.reserve.ensures.usage))
+    (AreParts-calls i.config i.endpoints old parts (calls_after_answer q answer old.calls) pools
+    (length-set old.pools q.pool (figures_after_answer (figures_at old.pools q.pool) answer))
+    (legs-answer i.endpoints.live old.calls q answer parts.legs leg))

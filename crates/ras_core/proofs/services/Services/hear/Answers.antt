@@ -9,11 +9,11 @@ invariant_of-self g c =
     let parts = c.self.invariant in
     let u = i.bandwidth.usage in
     record {
-        endpoints = c.hear.ensures.most ∙ parts.endpoints;
-        calls = parts.calls;
-        limit = parts.limit;
-        call_limit = parts.call_limit;
-        pools = parts.pools;
-        legs = subst (λ live. HaveEndpoints live u.calls) (sym c.hear.ensures.live)
-            (legs-heard i.endpoints.live u.calls c.args.now c.in-Some.id parts.legs);
+      endpoints = c.hear.ensures.most ∙ parts.endpoints;
+      calls = parts.calls;
+      limit = parts.limit;
+      call_limit = parts.call_limit;
+      pools = parts.pools;
+      legs = subst (λ live. HaveEndpoints live u.calls) (sym c.hear.ensures.live)
+          (legs-heard i.endpoints.live u.calls c.args.now c.in-Some.id parts.legs);
     }

@@ -1,6 +1,6 @@
-use Rattle.std.proofs.Common.{◌≡◌, ◌≤◌, ◌<◌, ◌^◌, ◌∙◌, ap, subst, sym}
+use Rattle.std.proofs.Common.{◌≡◌, ◌∙◌, subst, sym}
 use Rattle.ras_core.specs.State.{RunningZone, Zone}
-use Rattle.ras_core.specs.Parts.{AreParts, IsBacked, Usage, usage_of}
+use Rattle.ras_core.specs.Parts.{IsBacked, Usage, usage_of}
 use Rattle.ras_core.specs.Changes.{IsRegistered}
 use Rattle.ras_core.specs.Leaving.{HaveLeft, IsOther}
 use Rattle.ras_core.specs.Turns.{without_legs_of}

@@ -1,4 +1,4 @@
-use Rattle.std.proofs.Common.{◌≡◌, ◌∙◌, All, ap, refl, sym, subst, arith, List, length}
+use Rattle.std.proofs.Common.{◌≡◌, All, refl, sym, subst, arith, length}
 use Rattle.std.specs.FinMap as fin
 use Rattle.std.proofs.lemmas.List.{length-map}
 use Rattle.admission.proofs.Soundness.{EachCall-empty}
@@ -19,11 +19,11 @@ invariant_of-result g c =
     let as_many : length u.pools ≡ length c.args.config.networks =
     omega (arith, length-map c.args.pools (λ a. a.figures), c.requires.each) in
     subst (λ (u : Usage). AreParts c.args.config c.new-endpoints.result u) (sym c.new-bandwidth.ensures.usage)
-          (subst (λ (roll : Roll). AreParts c.args.config roll u) (sym c.new-endpoints.ensures) (record {
-            endpoints = c.endpoints.ensures.same;
-            calls = refl;
-            limit = refl;
-            call_limit = refl;
-            pools = as_many;
-            legs = EachCall-empty (λ call. All (IsRegistered fin.empty) call.legs);
-          }))
+    (subst (λ (roll : Roll). AreParts c.args.config roll u) (sym c.new-endpoints.ensures) (record {
+      endpoints = c.endpoints.ensures.same;
+      calls = refl;
+      limit = refl;
+      call_limit = refl;
+      pools = as_many;
+      legs = EachCall-empty (λ call. All (IsRegistered fin.empty) call.legs);
+    }))

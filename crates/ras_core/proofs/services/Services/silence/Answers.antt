@@ -1,5 +1,4 @@
 use Rattle.std.proofs.Common.{◌∙◌, ap, subst, sym}
-use Rattle.std.specs.FinMap as fin
 use Rattle.registrations.specs.Registry.{after_calm}
 use Rattle.ras_core.specs.State.{RunningZone, Zone, with_live}
 use Rattle.ras_core.specs.Soundness.{HaveEndpoints}
