@@ -3,6 +3,7 @@ use Rattle.std.specs.Prelude.{ℕ, ◌≡◌, ◌≤◌, ◌+◌, ◌++◌, All,
 use Rattle.std.specs.List.{zip}
 use Rattle.std.specs.Option.{IsSomeAnd}
 use Rattle.std.specs.FinMap.{get, len}
+use Rattle.admission.specs.Calls.{in_use}
 use Rattle.pools.specs.declared.interface.Lend.{Lend}
 use Rattle.pools.specs.Account.{IsAnswer}
 use Rattle.kept_replies.specs.declared.key.KeptKey.{KeptKey}
@@ -22,7 +23,7 @@ use Rattle.pools.specs.declared.interface.Figures.{Figures}
 use Rattle.ras_module.specs.declared.request.Request.{Request}
 use Rattle.ras_module.specs.declared.request.Request.TheVariants.{Arq, Brq, Drq, Irr}
 use Rattle.ras_core.specs.State.{State, Running, Last}
-use Rattle.ras_core.specs.Soundness.{AreBornBefore, HasCounts}
+use Rattle.ras_core.specs.Soundness.{AreBornBefore, HasCounts, IsLentTo, Sound}
 use Rattle.ras_core.specs.Pools.{figures_at}
 use Rattle.ras_core.specs.Plans.{Ask, Plan, Settled, Naming, Asking}
 use Rattle.ras_core.specs.Fresh.{IsFreshFor}
@@ -82,12 +83,31 @@ abbrev pub Run : State → List (Event × Outcome) → State → Type 0
 Run z [] after = after ≡ z
 Run z (entry ∷ entries) after = (mid : State) × Step z entry.0 entry.1 mid × Run mid entries after
 
--- What was added to the outcomes is one outcome for each event, and with the events it is a run.
+-- a run whose every state is sound
+abbrev pub SoundRun : State → List (Event × Outcome) → State → Type 0
+SoundRun s [] after = after ≡ s
+SoundRun s (entry ∷ entries) after =
+    (mid : State) × Step s entry.0 entry.1 mid × Sound mid × SoundRun mid entries after
+
+-- this holds of each state that such a run comes to
+abbrev pub EachState : (P : State → Type 0) (s : State) (entries : List (Event × Outcome)) (after : State)
+    → SoundRun s entries after → Type 0
+EachState P s [] after run = Unit {0}
+EachState P s (entry ∷ entries) after run = P run.0 × EachState P run.0 entries after run.3
+
+-- bandwidth in use is within the zone's limit, and each pool has lent what its calls use
+pub record IsWithinLimit (s : State) : Type 0 where
+  pub limit : in_use s.zone.calls ≤ s.zone.config.limit
+  pub lent : IsLentTo s.zone.pools s.zone.calls
+
+-- What was added to the outcomes is one outcome for each event, and with the events it is a run, of
+-- which every state is sound.
 pub record RunsOn (z : State) (events : List Event) (old new : List Outcome) (after : State) : Type 0 where
   pub made : List Outcome
   pub added : new ≡ old ++ made
   pub each : length made ≡ length events
   pub run : Run z (zip events made) after
+  pub sound : SoundRun z (zip events made) after
 
 -- which pool is asked for how many units
 abbrev pub ask_in_plan : Plan → Option Ask

@@ -16,6 +16,7 @@ mod event;
 mod fault;
 mod job;
 mod keeping;
+mod laws;
 mod machine;
 mod moment;
 mod network;
@@ -32,6 +33,10 @@ pub use config::{Config, ConfigFault, ConfigParts};
 pub use event::Event;
 pub use expiry::DueItem;
 pub use fault::{NewFault, StepFault};
+pub use laws::{
+    a_repeat_gets_its_kept_reply, a_turn_is_idle_only_where_nothing_is_due,
+    bandwidth_is_within_the_limit_all_along,
+};
 pub use moment::Moment;
 pub use network::{Network, Networks};
 pub use outcome::{Datagram, IgnoredCause, Note, Outcome};

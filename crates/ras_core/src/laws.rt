@@ -1,0 +1,46 @@
+//! What holds of every step, whatever the zone is.
+
+ghost use Rattle.std.specs.Prelude.{◌≡◌, ◌≤◌, ◌+◌, ℕ, List, IsTrue, Ok, Some, length, max};
+ghost use Rattle.std.specs.FinMap.{get};
+ghost use Rattle.ras_module.specs.declared.address.Address.{Address};
+ghost use Rattle.ras_module.specs.declared.request.Request.{Request};
+ghost use Rattle.ras_codec.specs.Messages.{message_reading};
+ghost use Rattle.ras_codec.specs.Replies.{encoding_of};
+ghost use Rattle.kept_replies.specs.declared.entry.KeptEntry.{KeptEntry};
+ghost use Rattle.kept_replies.specs.Kept.{reply_in};
+ghost use Rattle.ras_core.specs.declared.outcome.Outcome.{Outcome};
+ghost use Rattle.ras_core.specs.State.{State};
+ghost use Rattle.ras_core.specs.Keeping.{is_repeat};
+ghost use Rattle.ras_core.specs.Turns.{IsNothingDueIn};
+ghost use Rattle.ras_core.specs.Steps.{EachState, IsServed, IsWithinLimit, SoundRun, Step};
+
+use crate::event::Event;
+use crate::outcome::Note;
+
+/// A datagram that came before, from the same address with the same octets, gets the reply that is kept
+/// for it, and nothing changes but the clock and the number of steps: while its window isn't over, and,
+/// where the reply confirms a registration, while that is there.
+pub fn a_repeat_gets_its_kept_reply()
+    ensures { (s : State) (source : Address) (bytes : List ℕ) (moment : ℕ) (request : Request)
+        (entry : KeptEntry) (outcome : Outcome) (after : State)
+        → length bytes ≤ 4096 → message_reading bytes ≡ Ok (Some request) → IsServed request
+        → get s.kept (record { source = source; bytes = bytes }) ≡ Some entry
+        → IsTrue (is_repeat s (max s.clock moment) entry)
+        → Step s (Event.Datagram source bytes moment) outcome after
+        → (outcome.output ≡ Some (record { to = source; bytes = encoding_of (reply_in entry.state) }))
+        × (after ≡ record s { clock = max s.clock moment; steps = s.steps + 1 }) }
+{}
+
+/// A turn is idle only where nothing is due.
+pub fn a_turn_is_idle_only_where_nothing_is_due()
+    ensures { (s : State) (moment : ℕ) (outcome : Outcome) (after : State)
+        → Step s (Event.Turn moment) outcome after → outcome.note ≡ Note.Idle
+        → IsNothingDueIn s (max s.clock moment) }
+{}
+
+/// In every state of a sound run, bandwidth in use, the sum over the calls, is within the zone's limit,
+/// and each pool has lent what its calls use. The runs of `Zone::run` are sound.
+pub fn bandwidth_is_within_the_limit_all_along()
+    ensures { (s : State) (entries : List (Event × Outcome)) (after : State)
+        (run : SoundRun s entries after) → EachState IsWithinLimit s entries after run }
+{}
