@@ -2,7 +2,7 @@
 
 use crate::meter::MeteredPool;
 use pools::PoolSet;
-use ras_core::{Config, ConfigParts, Event, Moment, Networks, Outcome, StepFault, Zone};
+use ras_core::{Config, ConfigParts, Event, Moment, Networks, Note, Outcome, StepFault, Zone};
 use ras_module::{Address, Name, Octets};
 use std::alloc::Global;
 use std::sync::Arc;
@@ -139,12 +139,20 @@ fn zone(alloc: Global) -> Result<Metered, &'static str> {
     Err("no zone was made")
 }
 
+/// A moment at which the second endpoint, which takes part in a call, was silent for long. Of what is due
+/// then, the search finds that first.
+const SILENT: u64 = 30_012;
+
+/// A turn at a moment, where there are no octets, else the datagram.
 fn event(alloc: Global, bytes: &[u8], milliseconds: u64) -> Option<Event> {
     let source = Address {
         ip: [10, 0, 0, 5],
         port: 1719,
     };
     let moment = Moment::new(milliseconds)?;
+    if bytes.is_empty() {
+        return Some(Event::Turn(moment));
+    }
     let bytes = bytes.to_vec(alloc).ok()?;
     Some(Event::Datagram(source, Octets::from_vec(bytes), moment))
 }
@@ -188,14 +196,25 @@ fn step(
     Err("a step was refused twice")
 }
 
+/// What a step did, in a word.
+fn word(note: &Note) -> &'static str {
+    match note {
+        Note::Served => "served",
+        Note::Kept => "kept",
+        Note::Ignored(_) => "ignored",
+        Note::Done(_) => "done",
+        Note::Idle => "idle",
+    }
+}
+
 fn show(rt: &impl Print, outcome: &Outcome) -> Result<(), &'static str> {
-    let note = outcome.note;
+    let note = word(&outcome.note);
     let printed = match &outcome.output {
         Some(datagram) => {
             let bytes = datagram.bytes.as_slice();
-            println!(rt; "{note:?} {bytes:?}")
+            println!(rt; "{note} {bytes:?}")
         }
-        None => println!(rt; "{note:?}"),
+        None => println!(rt; "{note}"),
     };
     printed.map_err(|_| "standard output failed")
 }
@@ -206,7 +225,8 @@ fn step_by_step(rt: &impl Print, alloc: Global, metered: &mut Metered) -> Result
         let outcome = step(alloc, metered, bytes, i as u64)?;
         show(rt, &outcome)?;
     }
-    Ok(())
+    let outcome = step(alloc, metered, &[], SILENT)?;
+    show(rt, &outcome)
 }
 
 /// The requests, step by step, in a zone of their own.
@@ -221,6 +241,7 @@ fn events(alloc: Global) -> Option<Vec<Event>> {
     for (i, bytes) in REQUESTS.iter().enumerate() {
         events.push(event(alloc, bytes, i as u64)?).ok()?;
     }
+    events.push(event(alloc, &[], SILENT)?).ok()?;
     Some(events)
 }
 
