@@ -37,14 +37,6 @@ pub get_after_drop : (kept : KeptReplies) (dropped : Option ℕ) (key : KeptKey)
 get_after_drop kept None key entry there = there
 get_after_drop kept (Some born) key entry there = get_without kept (fin.get (births kept) born) key entry there
 
--- what wasn't there is not left
-pub absent_after_drop : (kept : KeptReplies) (dropped : Option ℕ) (key : KeptKey)
-    → fin.get kept key ≡ None → fin.get (after_drop kept dropped) key ≡ None
-absent_after_drop kept dropped key absent = cases (fin.get (after_drop kept dropped) key) refl where
-  cases : (w : Option KeptEntry) → fin.get (after_drop kept dropped) key ≡ w → w ≡ None
-  cases None is = refl
-  cases (Some entry) is = absurd (cc (sym absent ∙ get_after_drop kept dropped key entry is))
-
 module _ (kept : KeptReplies) (apart : AreBornApart kept) (test : KeptEntry → Bool) (born : ℕ) where
   -- a place becomes free
   pub fewer : Passes test kept born → fin.len kept ≡ fin.len (without_birth kept born) + 1

@@ -1,6 +1,6 @@
 -- What holds of every step.
-use Rattle.std.proofs.Common.{◌≡◌, ◌≤◌, ◌<◌, ◌+◌, ℕ, Bool, true, false, List, [], ◌∷◌, length, refl, sym, ◌∙◌, ap, subst, Some, None, arith}
-use Rattle.std.specs.Prelude.{Option, Result, Ok, IsTrue, nat_lt, max, if◌then◌else◌}
+use Rattle.std.proofs.Common.{◌≡◌, ◌≤◌, ◌+◌, ℕ, Bool, true, false, List, [], ◌∷◌, length, sym, ◌∙◌, ap, subst, Some, None, arith}
+use Rattle.std.specs.Prelude.{Option, Ok, IsTrue, nat_lt, max, if◌then◌else◌}
 use Rattle.std.proofs.lemmas.Bool.Decides.{nat_tests}
 use Rattle.std.specs.FinMap as fin
 use Rattle.keyed.proofs.Decide.{same_some}
@@ -22,7 +22,7 @@ use Rattle.ras_core.specs.Plans.{Plan}
 use Rattle.ras_core.specs.Requests.{plan_of}
 use Rattle.ras_core.specs.Keeping.{is_repeat}
 use Rattle.ras_core.specs.Turns.{IsNothingDueIn}
-use Rattle.ras_core.specs.Machine.{Answer, Choices, Course, Ignoring, Repeating, Serving, at_moment, course, course_answer, datagram_course, first, keyed_course, machine, most_steps, planned_course, read_course, request_course, serving, turn_course}
+use Rattle.ras_core.specs.Machine.{Answer, Course, Ignoring, Repeating, at_moment, course, course_answer, datagram_course, first, keyed_course, most_steps, planned_course, read_course, serving, turn_course}
 use Rattle.ras_core.specs.Steps.{EachState, IsAllowed, IsServed, IsWithinLimit, SoundRun, Step, choices_of, item_of}
 use Rattle.ras_core.proofs.Retrying.{plan_there}
 

@@ -93,14 +93,6 @@ All-answer most pools i answer h below =
     (counts-answer most (figures_at pools i) answer (h i (opening_account 0).figures below))
     (All-more most pools h)
 
-pub All-return : (most : ℕ) (pools : List Figures) (i n : ℕ)
-    → All (HasCounts most) pools → i < length pools
-    → All (HasCounts most) (pools_after_return pools i n)
-All-return most pools i n h below =
-    let here = h i (opening_account 0).figures below in
-    All-set (HasCounts most) pools i (figures_after_return (figures_at pools i) n)
-    (record { refusals = here.refusals; waits = here.waits }) h
-
 -- pools that are closed have nothing lent, and keep all else
 pub figures-close : (accounts : List Account)
     → figures_of (map account_without_loans accounts) ≡ figures_without_loans (figures_of accounts)

@@ -10,7 +10,7 @@ use Rattle.ras_module.specs.declared.request.Request.TheVariants.{Grq, Rrq, Urq,
 use Rattle.pools.specs.declared.interface.Lend.{Lend}
 use Rattle.kept_replies.specs.declared.key.KeptKey.{KeptKey}
 use Rattle.kept_replies.specs.declared.entry.KeptEntry.{KeptEntry}
-use Rattle.kept_replies.specs.declared.entry.KeptState.TheVariants.{Done, Pending}
+use Rattle.kept_replies.specs.declared.entry.KeptState.TheVariants.{Pending}
 use Rattle.kept_replies.specs.Kept.{AreBornApart, births, left_in}
 use Rattle.kept_replies.proofs.Births.{births-has}
 use Rattle.expiry.specs.declared.due_item.DueItem.TheVariants.{Retry}
@@ -22,7 +22,7 @@ use Rattle.ras_core.specs.Plans.{Plan, Settled, Naming, Asking}
 use Rattle.ras_core.specs.Requests.{plan_of}
 use Rattle.ras_core.specs.Keeping.{Task}
 use Rattle.ras_core.specs.Turns.{IsDueIn}
-use Rattle.ras_core.specs.Machine.{Choices, Doing, Serving, again_course, note_at, plan_answer, retry_course, retry_in_course, serving, with_answer, with_name}
+use Rattle.ras_core.specs.Machine.{Choices, Serving, again_course, note_at, plan_answer, retry_course, retry_in_course, serving, with_answer, with_name}
 use Rattle.ras_core.specs.Room.{IsDropped}
 use Rattle.ras_core.specs.Steps.{Does, DropsFor, IsAgain, IsServed, Serves, choices_of}
 
@@ -89,10 +89,6 @@ module _ (old : Running) (now born : ℕ) (job : Job) (request : Request) (may :
 -- the entry of a request that waits
 module _ (s : State) (apart : AreBornApart s.kept) (now born : ℕ) (key : KeptKey) (entry : KeptEntry)
     (found : fin.get (births s.kept) born ≡ Some (key, entry)) where
-  pub waits_not : (reply : Reply) (until : ℕ) → entry.state ≡ Done reply until
-      → retry_course s now born (fin.get (births s.kept) born) ≡ Doing (Retry born)
-  waits_not reply until is = ap (retry_course s now born) found ∙ ap (retry_in_course s now key born) is
-
   module _ (request : Request) (reply : Reply) (retry left : ℕ) (is : entry.state ≡ Pending request reply retry left) where
     pub waits_so : retry_course s now born (fin.get (births s.kept) born)
         ≡ retry_in_course s now key born (Pending request reply retry left)

@@ -1,15 +1,12 @@
 -- Runs go on by one step.
 use Rattle.std.proofs.Common.{◌≡◌, ℕ, ◌+◌, ◌<◌, List, [], ◌∷◌, ◌++◌, length, take, get_or, refl, sym, ◌∙◌, ap, subst, append_assoc, arith, length-append}
-use Rattle.std.proofs.lemmas.List.{take_more, append-nil}
+use Rattle.std.proofs.lemmas.List.{take_more}
 use Rattle.std.specs.List.{zip}
 use Rattle.ras_core.specs.declared.event.Event.{Event}
 use Rattle.ras_core.specs.declared.outcome.Outcome.{Outcome}
 use Rattle.ras_core.specs.State.{State}
 use Rattle.ras_core.specs.Steps.{Step, Run, RunsOn, SoundRun}
 use Rattle.ras_core.specs.Soundness.{Sound}
-
-pub run_of_nothing : (z : State) (old : List Outcome) → RunsOn z [] old old z
-run_of_nothing z old = record { made = []; added = sym (append-nil old); each = refl; run = refl; sound = refl }
 
 run_more : (z mid after : State) (events : List Event) (made : List Outcome) (event : Event) (outcome : Outcome)
     → length made ≡ length events → Run z (zip events made) mid → Step mid event outcome after
