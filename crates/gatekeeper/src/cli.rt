@@ -29,9 +29,7 @@ and time is what the script says.";
 const REPLAY_HELP: &str = "\
 The script (at most 1,048,576 octets; words are parted by spaces, blank lines are passed over):
   zone NAME ADDRESS            the zone's name, and the gatekeeper's address as A.B.C.D:PORT
-  set KEY NUMBER               a setting of the zone; KEY is limit, call_limit, time_to_live,
-                               endpoints, calls, kept, window, silence, delay, retries, asks,
-                               ask_wait or pool_turn
+  set KEY NUMBER               a setting of the zone, of those below
   pool fixed LIMIT             a pool of bandwidth for calls; LIMIT and all other amounts are in
                                units of 100 bit/s
   pool step LIMIT STEP         a pool that lends whole steps of STEP units
@@ -39,6 +37,21 @@ The script (at most 1,048,576 octets; words are parted by spaces, blank lines ar
   pool .. for A.B.C.D/BITS     a pool for calls that endpoints of this network open
   at MS from ADDRESS HEX       at millisecond MS a datagram comes from ADDRESS, with these octets
   turn MS                      at millisecond MS one thing is done that is due, where anything is
+
+Settings, with their ranges and what they are where no line sets them (ms is milliseconds):
+  limit         1 to 1000000000000  100000  units of all calls together
+  call_limit    1 to 4294967295      20000  units of one call
+  time_to_live  1 to 4294967295         60  seconds that a registration is granted, at most
+  endpoints     1 to 20000            1000  how many may be registered
+  calls         1 to 20000            1000  how many may be open
+  kept          1 to 65536            4096  how many replies may be kept
+  window        1 to 3600000         10000  ms for which a reply is kept
+  silence       1 to 3600000         30000  ms after which a silent endpoint in a call is asked
+  delay         1 to 65535             500  ms after which a request that waits is served again
+  retries       1 to 16                  3  how often it is served again
+  asks          1 to 16                  3  how often a silent endpoint is asked for a sign of life
+  ask_wait      1 to 3600000          5000  ms that it has for each answer
+  pool_turn     1 to 86400000         1000  ms from one turn of the pools to the next
 
 Lines of zone, set and pool stand before the first of at or turn; of repeated lines of zone, or of
 set with one key, the last counts. There are at most 16 pools. A call has its bandwidth from the
@@ -71,7 +84,9 @@ line goes on with ` lent K`, ` refused` or ` wait`; where a reply that was over 
 for this one, with ` dropped B`; and where something is sent, with ` > ADDRESS HEX`.
 
 Exit status: 0 done, 1 the script was refused, 2 wrong words on the command line, 3 out of
-memory, 4 a standard stream failed. Status 1, 3 and 4 come with one line on standard error.";
+memory, 4 a standard stream failed. Status 1, 3 and 4 come with one line on standard error:
+`line N: not understood` names the first line that is none of the above, or has a number out of
+its range.";
 
 fn matched<'a>(alloc: Global, words: &'a [String]) -> Result<ArgMatches<'a>, Error> {
     let replay = Command::new(alloc, "replay")

@@ -3,17 +3,19 @@
 //! leaves the zone as it was, a call of a table its table, and the same call with memory then
 //! gives the answer that it would have given.
 //!
-//! Before the trials it asks for memory once for each octet of its standard input, and once more
-//! behind them. `rt try` refuses the request of one number in all runs of one build: inputs of
-//! rising lengths have each request of the trials refused in turn, up to the one behind them,
-//! which ends the program with a status of its own. `./check` runs it so.
+//! Its input is a script, which it runs step by step, or at once behind a line `run`, and whose lines it
+//! prints; where there is no script, the tables and the values have their turn. First it asks for memory
+//! once for each empty line at the head of the input, and at last once more. `rt try` refuses the request of
+//! one number in all runs of one build: with more and more empty lines each request of the trials is refused
+//! in turn, up to the one behind them, which ends the program with a status of its own. `./check` runs it so.
 #![tactic(auto)]
 
 mod copies;
 mod meter;
+mod rehearsal;
 mod tables;
-mod trial;
 
+use rehearsal::{Way, rehearse};
 use std::alloc::Global;
 use std::io::Read;
 use std::process::ExitCode;
@@ -21,7 +23,7 @@ use std::process::ExitCode;
 const INPUT: &str = "standard input failed";
 
 /// The octets that the input has at most.
-const MOST: usize = 4096;
+const MOST: usize = 8192;
 
 /// The exit status where the request behind the trials is refused.
 const REFUSED_BEHIND: u8 = 3;
@@ -32,24 +34,36 @@ fn is_given(alloc: Global) -> bool {
     taken.reserve(1).is_ok()
 }
 
-/// Asks for memory once for each octet of the input.
-fn ask_before(reader: &mut impl Read, alloc: Global) -> Result<(), &'static str> {
-    let mut octet = [0; 1];
+/// Reads the input, and answers how many octets it has. This takes no memory.
+fn read_input(reader: &mut impl Read, text: &mut [u8; MOST]) -> Result<usize, &'static str> {
+    let mut length = 0;
     for _ in 0..MOST {
-        match reader.read(&mut octet) {
-            Ok(0) => return Ok(()),
-            Ok(_) => {
-                let _ = is_given(alloc);
-            }
+        if length == MOST {
+            return Err("the input is too long");
+        }
+        match reader.read(&mut text[length..]) {
+            Ok(0) => return Ok(length),
+            Ok(more) => length += more,
             Err(_) => return Err(INPUT),
         }
     }
     Err(INPUT)
 }
 
-fn trials(rt: &impl Print, alloc: Global) -> Result<(), &'static str> {
-    trial::steps(rt, alloc)?;
-    trial::runs(rt, alloc)?;
+/// Asks for memory once for each empty line at the head of the input, and answers what is behind them.
+fn ask_before(alloc: Global, text: &[u8]) -> &[u8] {
+    let lines = text
+        .iter()
+        .position(|octet| *octet != b'\n')
+        .unwrap_or(text.len());
+    for _ in 0..lines {
+        let _ = is_given(alloc);
+    }
+    &text[lines..]
+}
+
+/// The calls of the tables, and the copies of values.
+fn try_parts(alloc: Global) -> Result<(), &'static str> {
     tables::aliases(alloc)?;
     tables::registrations(alloc)?;
     tables::calls(alloc)?;
@@ -57,8 +71,16 @@ fn trials(rt: &impl Print, alloc: Global) -> Result<(), &'static str> {
 }
 
 fn run(rt: &(impl Input + Print), alloc: Global) -> Result<(), &'static str> {
-    ask_before(&mut rt.reader(), alloc)?;
-    trials(rt, alloc)
+    let mut text = [0; MOST];
+    let length = read_input(&mut rt.reader(), &mut text)?;
+    let script = ask_before(alloc, &text[..length]);
+    if script.is_empty() {
+        return try_parts(alloc);
+    }
+    match script.strip_prefix(b"run\n") {
+        Some(script) => rehearse(rt, alloc, script, Way::Run),
+        None => rehearse(rt, alloc, script, Way::Steps),
+    }
 }
 
 fn main(rt: HostRuntime) -> ExitCode {

@@ -1,30 +1,24 @@
-//! A pool whose loans are seen from outside.
+//! Pools whose loans are seen from outside.
 
-use pools::{FixedPool, Lend, Pool};
+use pools::{Lend, Pool};
 use std::sync::Arc;
 use std::sync::atomic::{AtomicU64, Ordering};
 
-/// A pool that tells a meter what it has lent.
-pub struct MeteredPool {
-    pool: FixedPool,
+/// A pool that tells a meter what it lends and takes back. Several pools may share one meter, which then
+/// shows what they have lent together.
+pub struct Metered<P: Pool> {
+    pool: P,
     meter: Arc<AtomicU64>,
 }
 
-impl MeteredPool {
-    pub fn new(limit: u64, meter: Arc<AtomicU64>) -> MeteredPool {
-        MeteredPool {
-            pool: FixedPool::new(limit),
-            meter,
-        }
-    }
-
-    fn tell(&self) {
-        self.meter.store(self.pool.lent(), Ordering::SeqCst);
+impl<P: Pool> Metered<P> {
+    pub fn new(pool: P, meter: Arc<AtomicU64>) -> Metered<P> {
+        Metered { pool, meter }
     }
 }
 
-impl Pool for MeteredPool {
-    ghost account = { λ m. m.pool };
+impl<P: Pool> Pool for Metered<P> {
+    ghost account = { λ m. P.account m.pool };
 
     fn limit(&self) -> u64 {
         self.pool.limit()
@@ -48,13 +42,15 @@ impl Pool for MeteredPool {
 
     fn lend(&mut self, asked: u64) -> Lend {
         let answer = self.pool.lend(asked);
-        self.tell();
+        if let Lend::Lent(units) = answer {
+            let _ = self.meter.fetch_add(units, Ordering::SeqCst);
+        }
         answer
     }
 
     fn take_back(&mut self, n: u64) {
         self.pool.take_back(n);
-        self.tell();
+        let _ = self.meter.fetch_sub(n, Ordering::SeqCst);
     }
 
     fn turn(&mut self) {
@@ -62,9 +58,9 @@ impl Pool for MeteredPool {
     }
 }
 
-impl Drop for MeteredPool {
+impl<P: Pool> Drop for Metered<P> {
     fn drop(self) {
-        let MeteredPool { pool, meter } = self;
+        let Metered { pool, meter } = self;
         drop(pool);
         drop(meter);
     }

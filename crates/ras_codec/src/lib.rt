@@ -21,6 +21,3 @@ pub use fault::ReadFault;
 pub use laws::{one_reply, room_is_enough, written_reads_back};
 pub use message::read;
 pub use reply::write_into;
-
-#[cfg(test)]
-mod tests;

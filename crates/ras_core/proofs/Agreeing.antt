@@ -17,8 +17,8 @@ use Rattle.registrations.proofs.Consistent.{IsAt-found}
 use Rattle.registrations.proofs.Agreement.{Agree-insert, Agree-rewrite, Agree-update, conflicts_are, free_for_new, free_for_old}
 use Rattle.ras_core.specs.declared.registering.Entry.{Entry}
 use Rattle.ras_core.specs.State.{heard_now}
-use Rattle.ras_core.specs.Parts.{Roll}
-use Rattle.ras_core.specs.Changes.{IsAddable, IsRewritable}
+use Rattle.ras_core.specs.inside.Parts.{Roll}
+use Rattle.ras_core.specs.inside.Changes.{IsAddable, IsRewritable}
 
 -- what nobody holds is held by no other
 pub free_of_others : (held : Held) (alias : Alias) (id : List ℕ) → fin.get held alias ≡ None → IsHeldByAnother held alias id → ⊥

@@ -16,15 +16,18 @@ use Rattle.ras_core.specs.declared.job.Job.{Job}
 use Rattle.ras_core.specs.declared.job.Occasion.{Occasion}
 use Rattle.ras_core.specs.declared.job.Occasion.TheVariants.{First, Again}
 use Rattle.ras_core.specs.declared.outcome.Outcome.{Outcome}
-use Rattle.ras_core.specs.State.{State, Last, Running, RunningZone}
+use Rattle.ras_core.specs.State.{State, Last, Running}
+use Rattle.ras_core.specs.inside.Parts.{RunningZone}
 use Rattle.ras_core.specs.Plans.{Served, Plan, Asking}
 use Rattle.ras_core.specs.Pools.{figures_at, pools_after_answer}
 use Rattle.ras_core.specs.Requests.{seq_of}
 use Rattle.ras_core.specs.Keeping.{Progress, Task, answered, answered_by, in_progress, kept_as, plan_at, term_of, waits, with_answered_pool}
 use Rattle.ras_core.specs.Machine.{Answer, Serving, ended, note_at, plan_answer}
-use Rattle.ras_core.specs.Changes.{Asks, ask_of, calls_after_answer, granted_by, heard_at, refused_by, reply_of}
+use Rattle.ras_core.specs.inside.Decisions.{Asks, ask_of, calls_after_answer, granted_by, refused_by, reply_of}
+use Rattle.ras_core.specs.inside.Changes.{heard_at}
 use Rattle.ras_core.specs.Soundness.{AreBornBefore, HasCounts}
-use Rattle.ras_core.specs.Steps.{Does, IsJob, IsTimely, MayChoose, ask_in_plan, choices_of, lasts_after}
+use Rattle.ras_core.specs.inside.Serving.{Does, IsJob}
+use Rattle.ras_core.specs.Steps.{IsTimely, MayChoose, ask_in_plan, choices_of, lasts_after}
 use Rattle.ras_core.proofs.PoolFigures.{All-answer}
 use Rattle.ras_core.proofs.Carrying.{timely_of}
 use Rattle.ras_core.proofs.Dropping.{born_with_reply, born_with_request}

@@ -24,8 +24,9 @@ use Rattle.ras_core.specs.declared.change.Question.{Question}
 use Rattle.ras_core.specs.declared.change.Purpose.{Purpose}
 use Rattle.ras_core.specs.declared.change.Purpose.TheVariants.{Opening, Raising}
 use Rattle.ras_core.specs.Pools.{figures_at, figures_of, figures_after_return, pools_after_answer, pools_after_return, pools_after_end}
-use Rattle.ras_core.specs.Parts.{Usage, IsBacked, with_usage}
-use Rattle.ras_core.specs.Changes.{IsBandWidth, IsEnterable, IsGrantable, IsOpenable, IsJoinable, IsLowerable, IsPurpose, IsQuestion, granted_calls, calls_after_answer}
+use Rattle.ras_core.specs.inside.Parts.{Usage, IsBacked, with_usage}
+use Rattle.ras_core.specs.inside.Decisions.{IsBandWidth, IsEnterable, IsGrantable, IsPurpose, IsQuestion, granted_calls, calls_after_answer}
+use Rattle.ras_core.specs.inside.Changes.{IsOpenable, IsJoinable, IsLowerable}
 use Rattle.ras_core.specs.Soundness.{HasCounts}
 use Rattle.ras_core.proofs.Agreeing.{is_there}
 use Rattle.ras_core.proofs.PoolFigures.{figures_there}

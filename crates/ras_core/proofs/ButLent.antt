@@ -11,10 +11,10 @@ use Rattle.ras_core.specs.declared.change.Change.TheVariants.{Nothing, Endpoint,
 use Rattle.admission.specs.Calls.{freed_by_leave}
 use Rattle.ras_core.specs.State.{Zone}
 use Rattle.ras_core.specs.Pools.{figures_at, figures_after_return, pools_after_end}
-use Rattle.ras_core.specs.Changes.{after_change}
-use Rattle.ras_core.specs.Leaving.{AreSameButLent, IsSameButLent}
+use Rattle.ras_core.specs.inside.Changes.{after_change}
+use Rattle.ras_core.specs.inside.Leaving.{AreSameButLent, IsSameButLent}
 use Rattle.ras_core.specs.Soundness.{HasCounts}
-use Rattle.ras_core.specs.Steps.{CountsOneMore}
+use Rattle.ras_core.specs.inside.Serving.{CountsOneMore}
 use Rattle.ras_core.proofs.PoolFigures.{figures_here, figures_elsewhere}
 
 -- the pools but for what they have lent

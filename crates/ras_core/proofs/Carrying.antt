@@ -15,15 +15,18 @@ use Rattle.ras_core.specs.declared.job.Job.{Job}
 use Rattle.ras_core.specs.declared.job.Occasion.{Occasion}
 use Rattle.ras_core.specs.declared.job.Occasion.TheVariants.{First, Again}
 use Rattle.ras_core.specs.declared.outcome.Outcome.{Outcome}
-use Rattle.ras_core.specs.State.{Zone, State, Last, Running, RunningZone}
+use Rattle.ras_core.specs.State.{Zone, State, Last, Running}
+use Rattle.ras_core.specs.inside.Parts.{RunningZone}
 use Rattle.ras_core.specs.Plans.{Served, Plan, Settled, Naming, Asking, with_heard}
 use Rattle.ras_core.specs.Keeping.{Task, answered, plan_at, with_reply}
 use Rattle.ras_core.specs.Machine.{Serving, ended, note_at, plan_answer}
 use Rattle.pools.specs.declared.interface.Figures.{Figures}
-use Rattle.ras_core.specs.Changes.{Decides, after_change, changed, heard_at, resolved}
-use Rattle.ras_core.specs.Room.{IsPlaced}
+use Rattle.ras_core.specs.inside.Decisions.{Decides, resolved}
+use Rattle.ras_core.specs.inside.Changes.{after_change, changed, heard_at}
+use Rattle.ras_core.specs.inside.Room.{IsPlaced}
 use Rattle.ras_core.specs.Soundness.{AreBornBefore}
-use Rattle.ras_core.specs.Steps.{CountsOneMore, Does, IsFresh, IsJob, IsOccasion, IsTimely, MayChoose, ask_in_plan, choices_of, lasts_after}
+use Rattle.ras_core.specs.inside.Serving.{CountsOneMore, Does, IsJob, IsOccasion}
+use Rattle.ras_core.specs.Steps.{IsFresh, IsTimely, MayChoose, ask_in_plan, choices_of, lasts_after}
 use Rattle.ras_core.proofs.ButLent.{counts_same, same_after_change}
 use Rattle.ras_core.proofs.Dropping.{born_with_reply}
 

@@ -12,7 +12,7 @@ use Rattle.ras_core.specs.declared.change.Change.TheVariants.{Endpoint}
 use Rattle.ras_core.specs.declared.change.EndpointChange.TheVariants.{Renewal}
 use Rattle.ras_core.specs.State.{Zone}
 use Rattle.ras_core.specs.Registering.{keep_alive, named, has_moved, confirmation, deadline, rejection}
-use Rattle.ras_core.specs.Changes.{Decides, resolved, served}
+use Rattle.ras_core.specs.inside.Decisions.{Decides, resolved, served}
 use Rattle.ras_core.specs.Plans.{Settled}
 use Rattle.ras_core.proofs.Agreeing.{is_there}
 

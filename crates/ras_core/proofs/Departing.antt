@@ -23,9 +23,9 @@ use Rattle.pools.specs.declared.interface.Figures.{Figures}
 use Rattle.pools.specs.Account.{opening_account}
 use Rattle.ras_core.specs.State.{Zone}
 use Rattle.ras_core.specs.Pools.{figures_at, pools_after_end}
-use Rattle.ras_core.specs.Parts.{IsBacked, Usage, usage_of, with_usage}
+use Rattle.ras_core.specs.inside.Parts.{IsBacked, Usage, usage_of, with_usage}
 use Rattle.ras_core.specs.Disengaging.{without_leg_of}
-use Rattle.ras_core.specs.Leaving.{AreLeft, AreSameButLent, HaveLeft, rest_of}
+use Rattle.ras_core.specs.inside.Leaving.{AreLeft, AreSameButLent, HaveLeft, rest_of}
 use Rattle.ras_core.specs.Turns.{without_legs_of}
 use Rattle.ras_core.proofs.ButLent.{same_after_end, same_through}
 use Rattle.ras_core.proofs.Backing.{IsBacked-is, IsBacked-leave, call_with_leg}

@@ -18,7 +18,7 @@ use Rattle.kept_replies.proofs.Births.{births-has}
 use Rattle.kept_replies.proofs.KeyOrder.{key_cmp_total, key_cmp-IsAntisymmetric}
 use Rattle.ras_core.specs.declared.job.Occasion.{Occasion}
 use Rattle.ras_core.specs.declared.job.Occasion.TheVariants.{First, Again}
-use Rattle.ras_core.specs.Room.{HasPlaceIn}
+use Rattle.ras_core.specs.inside.Room.{HasPlaceIn}
 use Rattle.ras_core.specs.Keeping.{after_drop, with_reply, with_request}
 use Rattle.ras_core.specs.Soundness.{AreBornBefore}
 

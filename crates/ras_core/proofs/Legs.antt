@@ -25,10 +25,11 @@ use Rattle.pools.specs.declared.interface.Lend.TheVariants.{Lent, Refused, Wait}
 use Rattle.ras_core.specs.State.{heard_now}
 use Rattle.ras_core.specs.Pools.{figures_after_return, figures_at}
 use Rattle.ras_core.specs.declared.config.ConfigParts.{ConfigParts}
-use Rattle.ras_core.specs.Parts.{AreParts, Roll, Usage, with_usage}
-use Rattle.ras_core.specs.Leaving.{IsOther}
+use Rattle.ras_core.specs.inside.Parts.{AreParts, Roll, Usage, with_usage}
+use Rattle.ras_core.specs.inside.Leaving.{IsOther}
 use Rattle.ras_core.specs.Soundness.{HaveEndpoints}
-use Rattle.ras_core.specs.Changes.{IsCallChange, IsFree, IsRegistered, after_endpoint_change, calls_after, calls_after_answer, granted_calls, leg_added, leg_of_purpose, pools_after}
+use Rattle.ras_core.specs.inside.Changes.{IsCallChange, IsFree, IsRegistered, after_endpoint_change, calls_after, leg_added, pools_after}
+use Rattle.ras_core.specs.inside.Decisions.{calls_after_answer, granted_calls, leg_of_purpose}
 use Rattle.ras_core.proofs.Backing.{call_with_leg, length-after_end}
 
 -- who was registered is so still

@@ -14,13 +14,15 @@ use Rattle.ras_core.specs.declared.outcome.IgnoredCause.TheVariants.{UnknownEndp
 use Rattle.ras_core.specs.declared.outcome.Note.{Note}
 use Rattle.ras_core.specs.declared.outcome.Note.TheVariants as note
 use Rattle.ras_core.specs.declared.outcome.Outcome.{Outcome}
-use Rattle.ras_core.specs.State.{Running, RunningZone, Zone}
+use Rattle.ras_core.specs.State.{Running, Zone}
+use Rattle.ras_core.specs.inside.Parts.{RunningZone}
 use Rattle.ras_core.specs.Turns.{IsDueIn, effect, without_legs_of}
 use Rattle.ras_core.specs.Machine.{Hearing, Doing, Ignoring, response_course}
-use Rattle.ras_core.specs.Changes.{heard_at}
-use Rattle.ras_core.specs.Leaving.{AreSameButLent}
+use Rattle.ras_core.specs.inside.Changes.{heard_at}
+use Rattle.ras_core.specs.inside.Leaving.{AreSameButLent}
 use Rattle.ras_core.specs.Soundness.{AreBornBefore}
-use Rattle.ras_core.specs.Steps.{Does, HasFewOctets}
+use Rattle.ras_core.specs.inside.Serving.{Does}
+use Rattle.ras_core.specs.Steps.{HasFewOctets}
 use Rattle.ras_core.proofs.ButLent.{counts_same, same_after_end}
 use Rattle.ras_core.proofs.Departing.{over_else}
 use Rattle.ras_core.proofs.Dropping.{born_same}

@@ -10,7 +10,7 @@ use Rattle.ras_core.specs.declared.change.Purpose.TheVariants.{Raising}
 use Rattle.ras_core.specs.State.{Zone}
 use Rattle.ras_core.specs.Bandwidth.{lowering, raising, resizing, room, staying, wanted}
 use Rattle.ras_core.specs.Plans.{Settled, Asking}
-use Rattle.ras_core.specs.Changes.{Asks}
+use Rattle.ras_core.specs.inside.Decisions.{Asks}
 
 module _ (z : Zone) (q : BandwidthChange) (call : Call) (w r n : ℕ) where
   pub Asks-resizing : fin.get z.calls q.call ≡ Some call → call.pool < length z.pools

@@ -23,8 +23,9 @@ use Rattle.ras_core.specs.Requests.{plan_of}
 use Rattle.ras_core.specs.Keeping.{Task}
 use Rattle.ras_core.specs.Turns.{IsDueIn}
 use Rattle.ras_core.specs.Machine.{Choices, Serving, again_course, note_at, plan_answer, retry_course, retry_in_course, serving, with_answer, with_name}
-use Rattle.ras_core.specs.Room.{IsDropped}
-use Rattle.ras_core.specs.Steps.{Does, DropsFor, IsAgain, IsServed, Serves, choices_of}
+use Rattle.ras_core.specs.inside.Room.{IsDropped}
+use Rattle.ras_core.specs.inside.Serving.{Does, DropsFor, IsAgain, Serves}
+use Rattle.ras_core.specs.Steps.{IsServed, choices_of}
 
 -- what holds where a call succeeded, by two of its clauses
 pub if_ok_by_both : {A B : Type 0} (P Q R : A → Type 0) (r : Result A B) → IfOk r P → IfOk r Q

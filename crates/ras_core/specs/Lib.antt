@@ -12,12 +12,9 @@ pub mod Bandwidth
 pub mod Disengaging
 pub mod Requests
 pub mod Keeping
-pub mod Room
 pub mod Fresh
 pub mod Turns
 pub mod Machine
 pub mod Soundness
-pub mod Parts
-pub mod Leaving
-pub mod Changes
 pub mod Steps
+pub mod inside

@@ -62,13 +62,14 @@ serving job dropped now request plan = Serving (record {
 abbrev pub first : KeptKey → Job
 first key = record { key = key; occasion = First }
 
--- a reply has to find a place: where as many are kept as may be, one that is over is dropped for it
-abbrev pub entering : State → ℕ → KeptKey → Request → Plan → Option ℕ → Course
-entering s now key request plan None = Ignoring Busy
-entering s now key request plan (Some born) = serving (first key) (Some born) now request plan
+-- where as many replies are kept as may be, one that is over is dropped to make a place
+abbrev pub full_course : ℕ → KeptKey → Request → Plan → Option ℕ → Course
+full_course now key request plan None = Ignoring Busy
+full_course now key request plan (Some born) = serving (first key) (Some born) now request plan
 
--- A datagram that came before is answered by what is kept; one whose entry is over, or confirms a
--- registration that has gone, is served anew in its place.
+-- A datagram that came before is answered by what is kept. One whose entry is over, or confirms a
+-- registration that has gone, is served anew, and its reply takes the entry's place; so it needs no
+-- other, however many are kept.
 abbrev pub keyed_course : State → ℕ → KeptKey → Request → Plan → Option ℕ → Option KeptEntry → Course
 keyed_course s now key request plan dropped (Some entry) =
     if is_repeat s now entry
@@ -76,7 +77,7 @@ keyed_course s now key request plan dropped (Some entry) =
     else serving (first key) None now request plan
 keyed_course s now key request plan dropped None =
     if len s.kept == s.zone.config.kept
-    then entering s now key request plan dropped
+    then full_course now key request plan dropped
     else serving (first key) None now request plan
 
 -- an InfoRequestResponse of an endpoint that is registered is a sign of life
@@ -109,7 +110,8 @@ datagram_course s now key dropped =
     then Ignoring TooLong
     else read_course s now key dropped (message_reading key.bytes)
 
--- a request that waits is served again
+-- A request that waits is served again. (Only such requests wait as have a plan, and what is due for a retry
+-- waits: the cases without a plan or without an entry that waits are never met, and nothing would be done.)
 abbrev pub again : KeptKey → ℕ → ℕ → Job
 again key born left = record { key = key; occasion = Again born left }
 
@@ -153,7 +155,7 @@ course s what choices = course_at s (moment_of s what) what choices
 abbrev pub Answer : Type 0
 Answer = Option (Outcome × State)
 
--- where a request isn't served
+-- where no request is served: nothing was chosen, and this is the note
 abbrev pub noted : Note → Option Datagram → State → Answer
 noted what output s = Some (
   record { output = output; note = what; given = None; answer = None; dropped = None },

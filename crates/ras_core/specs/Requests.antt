@@ -2,11 +2,6 @@
 use Rattle.std.specs.Prelude.{ℕ, List, Option, None, Some}
 use Rattle.ras_module.specs.declared.request.Request.{Request}
 use Rattle.ras_module.specs.declared.request.Request.TheVariants.{Grq, Rrq, Urq, Arq, Brq, Drq, Irr}
-use Rattle.ras_core.specs.declared.calling.Admission.{Admission}
-use Rattle.ras_core.specs.declared.calling.BandwidthChange.{BandwidthChange}
-use Rattle.ras_core.specs.declared.calling.Disengagement.{Disengagement}
-use Rattle.ras_core.specs.declared.registering.Registering.{Registering}
-use Rattle.ras_core.specs.declared.registering.Unregistering.{Unregistering}
 use Rattle.ras_core.specs.State.{Zone}
 use Rattle.ras_core.specs.Plans.{Plan, Settled, unchanged}
 use Rattle.ras_core.specs.Discovery.{discovery}
@@ -35,22 +30,6 @@ endpoint_of (Arq seq endpoint dest dest_address asked call answer) = Some endpoi
 endpoint_of (Brq seq endpoint call asked) = Some endpoint
 endpoint_of (Drq seq endpoint call) = Some endpoint
 endpoint_of (Irr seq endpoint) = Some endpoint
-
--- the requests as they are served
-abbrev pub rrq_of : Registering → Request
-rrq_of q = Rrq q.seq q.call_signal q.ras q.aliases q.gatekeeper q.time_to_live q.keep_alive q.endpoint
-
-abbrev pub urq_of : Unregistering → Request
-urq_of q = Urq q.seq q.call_signal q.endpoint
-
-abbrev pub arq_of : Admission → Request
-arq_of q = Arq q.seq q.endpoint q.dest q.dest_address q.asked q.call q.answer
-
-abbrev pub brq_of : BandwidthChange → Request
-brq_of q = Brq q.seq q.endpoint q.call q.asked
-
-abbrev pub drq_of : Disengagement → Request
-drq_of q = Drq q.seq q.endpoint q.call
 
 -- what it comes to; an InfoRequestResponse is no request that is answered
 abbrev pub plan_of : Zone → ℕ → Request → Option Plan

@@ -66,8 +66,3 @@ Last = Option (ℕ × Lend)
 pub record Running : Type 0 where
   pub state : State
   pub lasts : List Last
-
--- and its zone alone
-pub record RunningZone : Type 0 where
-  pub zone : Zone
-  pub lasts : List Last

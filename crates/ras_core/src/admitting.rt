@@ -7,7 +7,7 @@ ghost use Rattle.ras_core.specs.Admission.{admission, destination, entering_call
 ghost use Rattle.ras_core.specs.Admission.{taking_part};
 ghost use Rattle.ras_core.specs.Networks.{pool_of};
 ghost use Rattle.ras_core.specs.Bandwidth.{room, wanted};
-ghost use Rattle.ras_core.specs.Changes.{Concludes, Decides, IsFor};
+ghost use Rattle.ras_core.specs.inside.Decisions.{Concludes, Decides, IsFor};
 
 use crate::calling::Admission;
 use crate::change::{CallChange, Change, Conclusion, Decision, Purpose, Question};

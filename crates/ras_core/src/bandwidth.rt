@@ -9,10 +9,12 @@ ghost use Rattle.admission.specs.Calls.{legs_of, new_call, with_leg, with_units}
 ghost use Rattle.pools.specs.Account.{IsAnswer, is_idle};
 ghost use Rattle.ras_core.specs.Pools.{figures_at, figures_of, figures_without_loans, lasts_of};
 ghost use Rattle.ras_core.specs.Pools.{pools_after_answer, pools_after_end, pools_after_return};
-ghost use Rattle.ras_core.specs.Changes.{IsCallChange, IsEnterable, IsJoinable, IsLowerable, IsOpenable, IsQuestion};
-ghost use Rattle.ras_core.specs.Changes.{ask_of, calls_after, calls_after_answer, pools_after};
-ghost use Rattle.ras_core.specs.Parts.{IsBacked, with_usage};
-ghost use Rattle.ras_core.specs.Leaving.{HaveLeft};
+ghost use Rattle.ras_core.specs.inside.Changes.{IsCallChange, IsJoinable, IsLowerable, IsOpenable};
+ghost use Rattle.ras_core.specs.inside.Decisions.{IsEnterable, IsQuestion};
+ghost use Rattle.ras_core.specs.inside.Decisions.{ask_of, calls_after_answer};
+ghost use Rattle.ras_core.specs.inside.Changes.{calls_after, pools_after};
+ghost use Rattle.ras_core.specs.inside.Parts.{IsBacked, with_usage};
+ghost use Rattle.ras_core.specs.inside.Leaving.{HaveLeft};
 ghost use Rattle.ras_core.specs.Soundness.{HasCounts};
 ghost use Rattle.ras_core.specs.Steps.{lasts_after};
 
@@ -38,7 +40,7 @@ impl<P: Pool> Model for Bandwidth<P> {
     ghost use Rattle.std.specs.Coded.{codes};
     ghost use Rattle.std.specs.FinMap as fin;
     ghost use Rattle.ras_core.specs.Pools.{figures_of, lasts_of};
-    ghost use Rattle.ras_core.specs.Parts.{IsBacked, Lending};
+    ghost use Rattle.ras_core.specs.inside.Parts.{IsBacked, Lending};
 
     ghost Value = { Lending };
 

@@ -3,7 +3,7 @@
 ghost use Rattle.std.specs.Prelude.{◌≡◌, ◌≤◌, ◌-◌, None, Some};
 ghost use Rattle.std.specs.FinMap as fin;
 ghost use Rattle.ras_core.specs.Bandwidth.{bandwidth, resizing};
-ghost use Rattle.ras_core.specs.Changes.{Concludes, IsFor};
+ghost use Rattle.ras_core.specs.inside.Decisions.{Concludes, IsFor};
 
 use crate::calling::BandwidthChange;
 use crate::change::{CallChange, Change, Conclusion, Decision, Purpose, Question};

@@ -1,7 +1,7 @@
 //! What requests about calls ask for.
 
 ghost use Rattle.std.specs.Prelude.{◌≡◌};
-ghost use Rattle.ras_core.specs.Requests.{arq_of, brq_of};
+ghost use Rattle.ras_core.specs.inside.Serving.{arq_of, brq_of};
 
 use ras_module::{Address, AliasList, CallKey, EndpointId, Request, RequestSeqNum};
 

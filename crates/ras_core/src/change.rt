@@ -1,7 +1,7 @@
 //! What is decided about a request, before anything changes.
 
 ghost use Rattle.std.specs.Prelude.{◌≡◌, None};
-ghost use Rattle.ras_core.specs.Changes.{granted_reply, refused_reply, reply_of, IsAnswered, IsBandWidth};
+ghost use Rattle.ras_core.specs.inside.Decisions.{granted_reply, refused_reply, reply_of, IsAnswered, IsBandWidth};
 
 use crate::registering::Entry;
 use admission::Leg;

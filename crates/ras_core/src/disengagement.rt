@@ -2,7 +2,7 @@
 
 ghost use Rattle.std.specs.Prelude.{◌≡◌, None};
 ghost use Rattle.ras_core.specs.Disengaging.{disengagement};
-ghost use Rattle.ras_core.specs.Changes.{Decides};
+ghost use Rattle.ras_core.specs.inside.Decisions.{Decides};
 
 use crate::calling::Disengagement;
 use crate::change::{CallChange, Change, Decision};

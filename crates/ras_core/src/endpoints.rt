@@ -9,7 +9,7 @@ ghost use Rattle.registrations.specs.Agreement.{registered_elsewhere};
 ghost use Rattle.ras_core.specs.State.{heard_now};
 ghost use Rattle.ras_core.specs.Fresh.{IsFreshFor};
 ghost use Rattle.ras_core.specs.Admission.{registered_with, translation};
-ghost use Rattle.ras_core.specs.Changes.{IsAddable, IsEndpointChange, IsRewritable, after_endpoint_change};
+ghost use Rattle.ras_core.specs.inside.Changes.{IsAddable, IsEndpointChange, IsRewritable, after_endpoint_change};
 ghost use Rattle.ras_core.specs.Soundness.{HaveAliasesApart};
 
 use crate::change::EndpointChange;
@@ -33,7 +33,7 @@ impl Model for Endpoints {
     ghost use Rattle.std.specs.Coded.{codes};
     ghost use Rattle.std.specs.FinMap as map;
     ghost use Rattle.registrations.specs.Agreement.{Agree};
-    ghost use Rattle.ras_core.specs.Parts.{Roll};
+    ghost use Rattle.ras_core.specs.inside.Parts.{Roll};
 
     ghost Value = { Roll };
 

@@ -4,7 +4,7 @@ ghost use Rattle.std.specs.Prelude.{◌≡◌, ◌<◌, ◌≤◌, ◌↔◌, No
 ghost use Rattle.std.specs.FinMap as fin;
 ghost use Rattle.kept_replies.specs.Kept.{Passes, is_over};
 ghost use Rattle.ras_core.specs.Keeping.{after_drop, kept_as, may_wait, with_reply, with_request};
-ghost use Rattle.ras_core.specs.Room.{HasPlaceIn, HasRoom, IsDropped, IsPlaced};
+ghost use Rattle.ras_core.specs.inside.Room.{HasPlaceIn, HasRoom, IsDropped, IsPlaced};
 ghost use Rattle.ras_core.specs.Soundness.{AreBornBefore};
 
 use crate::job::{Job, Occasion};

@@ -41,8 +41,3 @@ pub use moment::Moment;
 pub use network::{Network, Networks};
 pub use outcome::{Datagram, IgnoredCause, Note, Outcome};
 pub use zone::Zone;
-
-#[cfg(test)]
-mod call_tests;
-#[cfg(test)]
-mod tests;

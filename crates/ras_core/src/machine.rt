@@ -8,7 +8,8 @@ ghost use Rattle.pools.specs.Account.{is_idle};
 ghost use Rattle.ras_core.specs.State.{opening};
 ghost use Rattle.ras_core.specs.Pools.{figures_of, figures_without_loans, lasts_of};
 ghost use Rattle.ras_core.specs.Machine.{course, course_at, most_steps};
-ghost use Rattle.ras_core.specs.Steps.{Does, HasFewOctets, Step, ask_in, choices_of, lasts_after};
+ghost use Rattle.ras_core.specs.inside.Serving.{Does};
+ghost use Rattle.ras_core.specs.Steps.{HasFewOctets, Step, ask_in, choices_of, lasts_after};
 ghost use Rattle.ras_core.specs.Soundness.{AreBornBefore, HasCounts, Sound};
 
 use crate::config::Config;

@@ -6,7 +6,7 @@ ghost use Rattle.registrations.specs.Registry.{at_address};
 ghost use Rattle.registrations.specs.Agreement.{registered_elsewhere};
 ghost use Rattle.ras_core.specs.Registering.{confirmation, deadline, granted, has_moved};
 ghost use Rattle.ras_core.specs.Registering.{entering, full, keep_alive, named, registration};
-ghost use Rattle.ras_core.specs.Changes.{Decides};
+ghost use Rattle.ras_core.specs.inside.Decisions.{Decides};
 ghost use Rattle.ras_core.specs.Fresh.{IsFreshFor};
 
 use crate::change::{Change, Decision, EndpointChange};

@@ -6,7 +6,7 @@ ghost use Rattle.std.specs.FinMap as fin;
 ghost use Rattle.keyed.specs.Maps.{update};
 ghost use Rattle.registrations.specs.Registry.{IsListOf, after_ask};
 ghost use Rattle.admission.specs.Calls.{EachLeg, in_use};
-ghost use Rattle.ras_core.specs.Leaving.{AreSameButLent, IsOther};
+ghost use Rattle.ras_core.specs.inside.Leaving.{AreSameButLent, IsOther};
 ghost use Rattle.pools.specs.Account.{IsAnswer, is_idle};
 ghost use Rattle.expiry.specs.Due.{IsDue, IsNothingDue};
 ghost use Rattle.ras_core.specs.State.{empty_zone, with_live};
@@ -14,9 +14,11 @@ ghost use Rattle.ras_core.specs.Keeping.{term_of};
 ghost use Rattle.ras_core.specs.Turns.{times_of, without_endpoint, without_legs_of, without_silent};
 ghost use Rattle.ras_core.specs.Pools.{figures_at, figures_of, figures_without_loans, lasts_of};
 ghost use Rattle.ras_core.specs.Pools.{pools_after_answer};
-ghost use Rattle.ras_core.specs.Parts.{usage_of};
-ghost use Rattle.ras_core.specs.Changes.{IsPossible, IsQuestion, IsRegistered};
-ghost use Rattle.ras_core.specs.Changes.{ask_of, calls_after_answer, changed, heard_at, leg_of_purpose};
+ghost use Rattle.ras_core.specs.inside.Parts.{usage_of};
+ghost use Rattle.ras_core.specs.inside.Changes.{IsPossible, IsRegistered};
+ghost use Rattle.ras_core.specs.inside.Decisions.{IsQuestion};
+ghost use Rattle.ras_core.specs.inside.Decisions.{ask_of, calls_after_answer, leg_of_purpose};
+ghost use Rattle.ras_core.specs.inside.Changes.{changed, heard_at};
 ghost use Rattle.ras_core.specs.Steps.{lasts_after};
 ghost use Rattle.ras_core.specs.Soundness.{HasCounts, SoundZone};
 
@@ -50,8 +52,8 @@ impl<P: Pool> Model for Services<P> {
     ghost use Rattle.std.specs.Prelude.{◌≡◌, length};
     ghost use Rattle.std.specs.Coded.{codes};
     ghost use Rattle.std.specs.FinMap as map;
-    ghost use Rattle.ras_core.specs.State.{RunningZone};
-    ghost use Rattle.ras_core.specs.Parts.{AreParts};
+    ghost use Rattle.ras_core.specs.inside.Parts.{RunningZone};
+    ghost use Rattle.ras_core.specs.inside.Parts.{AreParts};
 
     ghost Value = { RunningZone };
 

@@ -3,13 +3,16 @@
 ghost use Rattle.std.specs.Prelude.{◌≡◌, ◌≤◌, ◌^◌, All, length, IfOk, IfSome, None, OnErr, Some};
 ghost use Rattle.ras_codec.specs.Replies.{encoding_of};
 ghost use Rattle.ras_core.specs.Plans.{Plan};
-ghost use Rattle.ras_core.specs.Parts.{usage_of};
+ghost use Rattle.ras_core.specs.inside.Parts.{usage_of};
 ghost use Rattle.ras_core.specs.Keeping.{Task, plan_at};
 ghost use Rattle.ras_core.specs.Machine.{Serving};
-ghost use Rattle.ras_core.specs.Changes.{Asks, Concludes, Decides, IsPossible, IsQuestion, IsRegistered};
-ghost use Rattle.ras_core.specs.Changes.{MayConclude, leg_of_purpose};
-ghost use Rattle.ras_core.specs.Requests.{arq_of, brq_of, drq_of, rrq_of, seq_of, urq_of};
-ghost use Rattle.ras_core.specs.Steps.{Does, DropsFor, IsAboutCalls, IsFresh, IsJob, IsServed, Serves};
+ghost use Rattle.ras_core.specs.inside.Decisions.{Asks, Concludes, Decides, IsQuestion};
+ghost use Rattle.ras_core.specs.inside.Changes.{IsPossible, IsRegistered};
+ghost use Rattle.ras_core.specs.inside.Decisions.{MayConclude, leg_of_purpose};
+ghost use Rattle.ras_core.specs.inside.Serving.{arq_of, brq_of, drq_of, rrq_of, urq_of};
+ghost use Rattle.ras_core.specs.Requests.{seq_of};
+ghost use Rattle.ras_core.specs.inside.Serving.{Does, DropsFor, IsAboutCalls, IsJob, Serves};
+ghost use Rattle.ras_core.specs.Steps.{IsFresh, IsServed};
 ghost use Rattle.ras_core.specs.Soundness.{AreBornBefore, HasCounts};
 
 use crate::calling::{Admission, BandwidthChange, Disengagement};

@@ -5,7 +5,8 @@ ghost use Rattle.std.specs.FinMap as fin;
 ghost use Rattle.kept_replies.specs.Kept.{births};
 ghost use Rattle.ras_core.specs.Machine.{Doing, retry_course, turn_course};
 ghost use Rattle.ras_core.specs.Turns.{IsDueIn, IsNothingDueIn, next_interrogation};
-ghost use Rattle.ras_core.specs.Steps.{Does, IsWaitingRequest, item_of};
+ghost use Rattle.ras_core.specs.inside.Serving.{Does, IsWaitingRequest};
+ghost use Rattle.ras_core.specs.Steps.{item_of};
 ghost use Rattle.ras_core.specs.Soundness.{AreBornBefore, HasCounts};
 
 use crate::job::{Job, Occasion};

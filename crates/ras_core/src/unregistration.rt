@@ -3,7 +3,7 @@
 ghost use Rattle.std.specs.Prelude.{◌≡◌, None};
 ghost use Rattle.std.specs.Option.{option_map};
 ghost use Rattle.ras_core.specs.Unregistering.{leaving, unregistration};
-ghost use Rattle.ras_core.specs.Changes.{Decides};
+ghost use Rattle.ras_core.specs.inside.Decisions.{Decides};
 
 use crate::change::{Change, Decision, EndpointChange};
 use crate::moment::Moment;

@@ -18,8 +18,6 @@ mod run;
 mod setting;
 
 pub use fault::{RunFault, ScriptFault};
+pub use print::write_outcomes;
 pub use read::{Events, Script, read_script};
 pub use run::run_script;
-
-#[cfg(test)]
-mod tests;

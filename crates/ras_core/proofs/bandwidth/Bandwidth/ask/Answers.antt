@@ -1,11 +1,11 @@
 use Rattle.std.proofs.Common.{◌≡◌, ◌^◌, ◌<◌, ℕ, All, refl, sym, ap, ◌∙◌, subst, Some}
 use Rattle.std.specs.Prelude.{slice_set}
-use Rattle.ras_core.specs.Changes.{IsQuestion, calls_after_answer}
+use Rattle.ras_core.specs.inside.Decisions.{IsQuestion, calls_after_answer}
 use Rattle.pools.specs.declared.interface.Figures.{Figures}
 use Rattle.pools.specs.Account.{IsAnswer, MayAsk}
 use Rattle.pools.specs.Accounts.{account_at}
 use Rattle.ras_core.specs.Soundness.{HasCounts}
-use Rattle.ras_core.specs.Parts.{Lending, with_usage}
+use Rattle.ras_core.specs.inside.Parts.{Lending, with_usage}
 use Rattle.ras_core.specs.Pools.{figures_at, figures_of, lasts_of, pools_after_answer}
 use Rattle.ras_core.proofs.PoolFigures.{figures-answer, figures_there, lasts-answer}
 use Rattle.ras_core.proofs.Backing.{IsBacked-answer, IsBacked-is, enterable, may_ask, usage_in}

@@ -1,5 +1,5 @@
 use Rattle.std.proofs.Common.{◌≡◌, All, ap, sym, ◌∙◌, subst}
-use Rattle.ras_core.specs.Parts.{Lending}
+use Rattle.ras_core.specs.inside.Parts.{Lending}
 use Rattle.ras_core.specs.Pools.{figures_of, figures_without_loans, lasts_of}
 use Rattle.ras_core.proofs.PoolFigures.{figures-close, lasts-close, repaid}
 use Rattle.ras_core.proofs.bandwidth.Bandwidth.close.Goals as goal

@@ -1,6 +1,6 @@
 use Rattle.std.proofs.Common.{refl, sym, subst}
-use Rattle.ras_core.specs.Changes.{IsJoinable}
-use Rattle.ras_core.specs.Parts.{Lending, with_usage}
+use Rattle.ras_core.specs.inside.Changes.{IsJoinable}
+use Rattle.ras_core.specs.inside.Parts.{Lending, with_usage}
 use Rattle.ras_core.proofs.Agreeing.{on_ok}
 use Rattle.ras_core.proofs.Backing.{IsBacked-is, IsBacked-join, usage_in}
 use Rattle.ras_core.proofs.bandwidth.Bandwidth.join.Goals as goal

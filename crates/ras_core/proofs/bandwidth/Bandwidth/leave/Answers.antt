@@ -2,7 +2,7 @@ use Rattle.std.proofs.Common.{◌≡◌, sym, ap, ◌∙◌, subst, arith}
 use Rattle.std.specs.Prelude.{IsSome}
 use Rattle.std.proofs.lemmas.List.{length-map}
 use Rattle.admission.specs.Calls.{after_leave, freed_by_leave, leg_at}
-use Rattle.ras_core.specs.Parts.{Lending, with_usage}
+use Rattle.ras_core.specs.inside.Parts.{Lending, with_usage}
 use Rattle.ras_core.specs.Pools.{figures_of, lasts_of, pools_after_return, pools_after_end}
 use Rattle.ras_core.proofs.Agreeing.{on_ok, if_ok}
 use Rattle.ras_core.proofs.PoolFigures.{figures-return, figures_there, lasts-return}

@@ -2,8 +2,8 @@ use Rattle.std.proofs.Common.{◌<◌, ◌∙◌, ap, refl, subst, sym, None}
 use Rattle.std.specs.Prelude.{IsSome}
 use Rattle.std.specs.FinMap as fin
 use Rattle.admission.specs.Calls.{IsInNoCall, leg_at, legs_of}
-use Rattle.ras_core.specs.Leaving.{AreSameButLent, rest_of}
-use Rattle.ras_core.specs.Parts.{Lending, Usage}
+use Rattle.ras_core.specs.inside.Leaving.{AreSameButLent, rest_of}
+use Rattle.ras_core.specs.inside.Parts.{Lending, Usage}
 use Rattle.ras_core.proofs.ButLent.{same_after_end, same_through}
 use Rattle.ras_core.proofs.Departing.{all_left, fewer_legs, rest_after, same_after_leave}
 use Rattle.ras_core.proofs.bandwidth.Bandwidth.leave_all.Goals as goal

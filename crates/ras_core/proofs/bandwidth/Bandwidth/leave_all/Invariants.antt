@@ -2,7 +2,7 @@ use Rattle.std.proofs.Common.{◌≡◌}
 use Rattle.std.specs.FinMap as fin
 use Rattle.ras_module.specs.declared.call_key.CallKey.{CallKey}
 use Rattle.admission.specs.Calls.{legs_of}
-use Rattle.ras_core.specs.Leaving.{AreSameButLent, rest_of}
+use Rattle.ras_core.specs.inside.Leaving.{AreSameButLent, rest_of}
 use Rattle.ras_core.proofs.bandwidth.Bandwidth.leave_all.Given as goal
 
 -- some calls were left so far, and what is left of all is the same

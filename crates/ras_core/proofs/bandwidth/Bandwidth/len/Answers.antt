@@ -1,6 +1,6 @@
 use Rattle.std.proofs.Common.{◌≤◌, All, subst}
 use Rattle.admission.specs.Calls.{EachCall, IsCall}
-use Rattle.ras_core.specs.Parts.{Lending}
+use Rattle.ras_core.specs.inside.Parts.{Lending}
 use Rattle.ras_core.proofs.PoolFigures.{within_limits}
 use Rattle.ras_core.proofs.bandwidth.Bandwidth.len.Goals as goal
 

@@ -1,8 +1,8 @@
 use Rattle.std.proofs.Common.{◌≡◌, sym, ap, ◌∙◌, subst, arith}
 use Rattle.keyed.specs.Maps.{update}
 use Rattle.admission.specs.Calls.{with_units}
-use Rattle.ras_core.specs.Changes.{IsLowerable}
-use Rattle.ras_core.specs.Parts.{Lending, with_usage}
+use Rattle.ras_core.specs.inside.Changes.{IsLowerable}
+use Rattle.ras_core.specs.inside.Parts.{Lending, with_usage}
 use Rattle.ras_core.specs.Pools.{figures_of, lasts_of, pools_after_return}
 use Rattle.ras_core.proofs.Agreeing.{on_ok}
 use Rattle.ras_core.proofs.PoolFigures.{figures-return, figures_there, lasts-return}

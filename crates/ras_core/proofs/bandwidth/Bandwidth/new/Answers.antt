@@ -1,6 +1,6 @@
 use Rattle.std.proofs.Common.{refl}
 use Rattle.std.specs.FinMap as fin
-use Rattle.ras_core.specs.Parts.{Usage}
+use Rattle.ras_core.specs.inside.Parts.{Usage}
 use Rattle.ras_core.specs.Pools.{figures_of}
 use Rattle.ras_core.proofs.Backing.{IsBacked-is, IsBacked-start}
 use Rattle.ras_core.proofs.bandwidth.Bandwidth.new.Goals as goal

@@ -1,8 +1,8 @@
 use Rattle.std.proofs.Common.{refl, sym, ap, ◌∙◌, subst}
 use Rattle.std.specs.FinMap as fin
 use Rattle.admission.specs.Calls.{new_call}
-use Rattle.ras_core.specs.Changes.{IsOpenable}
-use Rattle.ras_core.specs.Parts.{Lending, with_usage}
+use Rattle.ras_core.specs.inside.Changes.{IsOpenable}
+use Rattle.ras_core.specs.inside.Parts.{Lending, with_usage}
 use Rattle.ras_core.proofs.Agreeing.{on_ok}
 use Rattle.ras_core.proofs.Backing.{IsBacked-is, IsBacked-open, usage_in}
 use Rattle.ras_core.proofs.bandwidth.Bandwidth.open.Goals as goal

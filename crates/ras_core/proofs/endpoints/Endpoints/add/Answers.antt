@@ -5,7 +5,7 @@ use Rattle.ras_module.specs.declared.alias.Alias.{Alias}
 use Rattle.aliases.specs.Held.{Held, IsHeldByAnother, with_aliases}
 use Rattle.registrations.specs.Registry.{Live}
 use Rattle.registrations.specs.Agreement.{Agree}
-use Rattle.ras_core.specs.Parts.{Roll}
+use Rattle.ras_core.specs.inside.Parts.{Roll}
 use Rattle.ras_core.proofs.Agreeing.{free_of_others, free_to_add, Agree-add, on_ok}
 use Rattle.ras_core.proofs.endpoints.Endpoints.add.Goals as goal
 

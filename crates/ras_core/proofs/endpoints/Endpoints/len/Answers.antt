@@ -1,7 +1,7 @@
 use Rattle.std.proofs.Common.{subst}
 use Rattle.registrations.specs.Registry.{IsConsistent}
 use Rattle.registrations.proofs.Agreement.{one_holder}
-use Rattle.ras_core.specs.Parts.{Roll}
+use Rattle.ras_core.specs.inside.Parts.{Roll}
 use Rattle.ras_core.specs.Soundness.{HaveAliasesApart}
 use Rattle.ras_core.proofs.endpoints.Endpoints.len.Goals as goal
 

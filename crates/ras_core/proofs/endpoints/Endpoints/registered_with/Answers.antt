@@ -1,7 +1,7 @@
 use Rattle.std.proofs.Common.{◌∙◌, sym, ap}
 use Rattle.std.specs.Option.{option_copied}
 use Rattle.ras_core.specs.Admission.{registered_with}
-use Rattle.ras_core.specs.Parts.{Roll}
+use Rattle.ras_core.specs.inside.Parts.{Roll}
 use Rattle.ras_core.proofs.Translating.{holder_registered, none_registered}
 use Rattle.ras_core.proofs.endpoints.Endpoints.registered_with.Goals as goal
 

@@ -7,7 +7,7 @@ use Rattle.registrations.specs.Registry.{Live, IsConsistent, after_hear, after_r
 use Rattle.registrations.specs.Agreement.{Agree}
 use Rattle.keyed.specs.Maps.{update}
 use Rattle.ras_core.specs.State.{heard_now}
-use Rattle.ras_core.specs.Parts.{Roll}
+use Rattle.ras_core.specs.inside.Parts.{Roll}
 use Rattle.ras_core.proofs.Agreeing.{free_of_others, free_to_rewrite, is_live, is_there, is_there_after, Agree-rewriting}
 use Rattle.ras_core.proofs.endpoints.Endpoints.rewrite.Goals as goal
 

@@ -1,7 +1,7 @@
 use Rattle.std.proofs.Common.{List, ℕ, subst}
 use Rattle.registrations.specs.Registry.{IsUnused}
 use Rattle.ras_core.specs.Fresh.{IsFreshFor}
-use Rattle.ras_core.specs.Parts.{Roll}
+use Rattle.ras_core.specs.inside.Parts.{Roll}
 use Rattle.ras_core.proofs.Dropping.{fresh}
 use Rattle.ras_core.proofs.endpoints.Endpoints.unused.Goals as goal
 

@@ -3,14 +3,17 @@ use Rattle.std.specs.Prelude.{IfSome}
 use Rattle.ras_codec.specs.Replies.{encoding_of}
 use Rattle.kept_replies.specs.Kept.{KeptReplies, Passes, is_over}
 use Rattle.ras_core.specs.declared.outcome.Note.{Note}
-use Rattle.ras_core.specs.State.{Running, RunningZone, State}
+use Rattle.ras_core.specs.State.{Running, State}
+use Rattle.ras_core.specs.inside.Parts.{RunningZone}
 use Rattle.ras_core.specs.Pools.{pools_after_answer}
 use Rattle.ras_core.specs.Keeping.{kept_as, plan_at, term_of}
 use Rattle.ras_core.specs.Machine.{Serving}
-use Rattle.ras_core.specs.Changes.{Asks, ask_of, calls_after_answer, heard_at, reply_of}
+use Rattle.ras_core.specs.inside.Decisions.{Asks, ask_of, calls_after_answer, reply_of}
+use Rattle.ras_core.specs.inside.Changes.{heard_at}
 use Rattle.ras_core.specs.Soundness.{AreBornBefore}
-use Rattle.ras_core.specs.Steps.{Does, IsJob, lasts_after}
-use Rattle.ras_core.specs.Room.{IsPlaced}
+use Rattle.ras_core.specs.inside.Serving.{Does, IsJob}
+use Rattle.ras_core.specs.Steps.{lasts_after}
+use Rattle.ras_core.specs.inside.Room.{IsPlaced}
 use Rattle.ras_core.proofs.Asking.{does_answered}
 use Rattle.ras_core.proofs.Carrying.{placed_of}
 use Rattle.ras_core.proofs.machine.Machine.ask.Goals as goal

@@ -4,12 +4,15 @@ use Rattle.ras_codec.specs.Replies.{encoding_of}
 use Rattle.kept_replies.specs.Kept.{KeptReplies, Passes, is_over}
 use Rattle.ras_core.specs.declared.outcome.Datagram.{Datagram}
 use Rattle.ras_core.specs.declared.outcome.Note.{Note}
-use Rattle.ras_core.specs.State.{Running, RunningZone}
+use Rattle.ras_core.specs.State.{Running}
+use Rattle.ras_core.specs.inside.Parts.{RunningZone}
 use Rattle.ras_core.specs.Keeping.{plan_at, with_reply}
 use Rattle.ras_core.specs.Machine.{Serving}
-use Rattle.ras_core.specs.Changes.{Decides, changed, heard_at}
+use Rattle.ras_core.specs.inside.Decisions.{Decides}
+use Rattle.ras_core.specs.inside.Changes.{changed, heard_at}
 use Rattle.ras_core.specs.Soundness.{AreBornBefore}
-use Rattle.ras_core.specs.Steps.{Does, IsFresh, IsJob}
+use Rattle.ras_core.specs.inside.Serving.{Does, IsJob}
+use Rattle.ras_core.specs.Steps.{IsFresh}
 use Rattle.ras_core.proofs.Agreeing.{on_ok}
 use Rattle.ras_core.proofs.Carrying.{does_carried, zone_after}
 use Rattle.ras_core.proofs.machine.Machine.carry_out.Goals as goal

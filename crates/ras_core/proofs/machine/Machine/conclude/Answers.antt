@@ -1,6 +1,6 @@
 use Rattle.std.proofs.Common.{subst}
 use Rattle.ras_core.specs.declared.change.Conclusion.{Conclusion}
-use Rattle.ras_core.specs.Changes.{Concludes}
+use Rattle.ras_core.specs.inside.Decisions.{Concludes}
 use Rattle.ras_core.proofs.Agreeing.{if_ok_with}
 use Rattle.ras_core.proofs.machine.Machine.conclude.Goals as goal
 

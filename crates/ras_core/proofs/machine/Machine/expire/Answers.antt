@@ -4,7 +4,7 @@ use Rattle.ras_core.specs.declared.outcome.Outcome.{Outcome}
 use Rattle.ras_core.specs.Machine.{Doing}
 use Rattle.ras_core.specs.Turns.{IsDueIn}
 use Rattle.ras_core.specs.Soundness.{AreBornBefore}
-use Rattle.ras_core.specs.Steps.{Does}
+use Rattle.ras_core.specs.inside.Serving.{Does}
 use Rattle.ras_core.proofs.ButLent.{same_after_end}
 use Rattle.ras_core.proofs.Dropping.{born_dropped}
 use Rattle.ras_core.proofs.Noting.{does_item}

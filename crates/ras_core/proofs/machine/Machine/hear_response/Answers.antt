@@ -2,7 +2,7 @@ use Rattle.std.proofs.Common.{subst, sym, Some}
 use Rattle.ras_core.specs.declared.outcome.Outcome.{Outcome}
 use Rattle.ras_core.specs.State.{Running}
 use Rattle.ras_core.specs.Machine.{response_course}
-use Rattle.ras_core.specs.Steps.{Does}
+use Rattle.ras_core.specs.inside.Serving.{Does}
 use Rattle.ras_core.proofs.Noting.{does_hear, found_some}
 use Rattle.ras_core.proofs.machine.Machine.hear_response.Goals as goal
 

@@ -7,8 +7,8 @@ use Rattle.ras_core.specs.declared.outcome.Outcome.{Outcome}
 use Rattle.ras_core.specs.State.{Running, Zone}
 use Rattle.ras_core.specs.Machine.{Doing}
 use Rattle.ras_core.specs.Turns.{IsDueIn, inquiry, times_of}
-use Rattle.ras_core.specs.Leaving.{AreSameButLent}
-use Rattle.ras_core.specs.Steps.{Does}
+use Rattle.ras_core.specs.inside.Leaving.{AreSameButLent}
+use Rattle.ras_core.specs.inside.Serving.{Does}
 use Rattle.ras_core.proofs.ButLent.{same_after_end}
 use Rattle.ras_core.proofs.Dropping.{born_same}
 use Rattle.ras_core.proofs.Noting.{does_item, tries_few_in}

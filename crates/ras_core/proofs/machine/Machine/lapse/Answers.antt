@@ -4,7 +4,7 @@ use Rattle.ras_core.specs.State.{Running, Zone}
 use Rattle.ras_core.specs.declared.outcome.Outcome.{Outcome}
 use Rattle.ras_core.specs.Machine.{Doing}
 use Rattle.ras_core.specs.Turns.{IsDueIn}
-use Rattle.ras_core.specs.Steps.{Does}
+use Rattle.ras_core.specs.inside.Serving.{Does}
 use Rattle.ras_core.proofs.Dropping.{born_same}
 use Rattle.ras_core.proofs.Noting.{does_item, settings_stay}
 use Rattle.expiry.specs.declared.due_item.DueItem.TheVariants as due_item

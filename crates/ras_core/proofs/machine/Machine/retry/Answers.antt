@@ -1,5 +1,5 @@
 use Rattle.std.proofs.Common.{subst}
-use Rattle.ras_core.specs.Steps.{IsWaitingRequest}
+use Rattle.ras_core.specs.inside.Serving.{IsWaitingRequest}
 use Rattle.ras_core.proofs.Retrying.{does_again, if_ok_by_both, note_again}
 use Rattle.ras_core.proofs.machine.Machine.retry.Goals as goal
 

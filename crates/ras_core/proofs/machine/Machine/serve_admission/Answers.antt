@@ -2,13 +2,13 @@ use Rattle.std.proofs.Common.{subst, Some}
 use Rattle.keyed.proofs.Decide.{same_some}
 use Rattle.ras_module.specs.declared.request.Request.{Request}
 use Rattle.ras_core.specs.State.{Running}
-use Rattle.ras_core.specs.Changes.{Concludes}
+use Rattle.ras_core.specs.inside.Decisions.{Concludes}
 use Rattle.ras_core.specs.Plans.{Plan}
-use Rattle.ras_core.specs.Requests.{arq_of}
+use Rattle.ras_core.specs.inside.Serving.{arq_of}
 use Rattle.ras_core.specs.Admission.{admission}
 use Rattle.ras_core.specs.Machine.{Serving, serving}
 use Rattle.ras_core.specs.Keeping.{plan_at}
-use Rattle.ras_core.specs.Steps.{Does}
+use Rattle.ras_core.specs.inside.Serving.{Does}
 use Rattle.ras_core.proofs.Agreeing.{if_ok_with}
 use Rattle.ras_core.proofs.machine.Machine.serve_admission.Goals as goal
 

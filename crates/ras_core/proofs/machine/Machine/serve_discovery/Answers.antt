@@ -4,7 +4,7 @@ use Rattle.ras_module.specs.declared.request.Request.TheVariants.{Grq}
 use Rattle.ras_core.specs.Discovery.{discovery}
 use Rattle.ras_core.specs.State.{Running}
 use Rattle.ras_core.specs.Plans.{Plan, Settled, unchanged}
-use Rattle.ras_core.specs.Changes.{Decides}
+use Rattle.ras_core.specs.inside.Decisions.{Decides}
 use Rattle.ras_core.proofs.Agreeing.{if_ok_with}
 use Rattle.ras_core.proofs.machine.Machine.serve_discovery.Goals as goal
 

@@ -1,12 +1,12 @@
 use Rattle.std.proofs.Common.{subst}
 use Rattle.keyed.proofs.Decide.{same_some}
 use Rattle.ras_core.specs.State.{Running}
-use Rattle.ras_core.specs.Changes.{Decides}
+use Rattle.ras_core.specs.inside.Decisions.{Decides}
 use Rattle.ras_core.specs.Plans.{Plan}
-use Rattle.ras_core.specs.Requests.{drq_of}
+use Rattle.ras_core.specs.inside.Serving.{drq_of}
 use Rattle.ras_core.specs.Disengaging.{disengagement}
 use Rattle.ras_core.specs.Machine.{serving}
-use Rattle.ras_core.specs.Steps.{Does}
+use Rattle.ras_core.specs.inside.Serving.{Does}
 use Rattle.ras_core.proofs.Agreeing.{if_ok_with}
 use Rattle.ras_core.proofs.machine.Machine.serve_disengagement.Goals as goal
 

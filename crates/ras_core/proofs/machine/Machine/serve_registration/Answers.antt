@@ -1,12 +1,12 @@
 use Rattle.std.proofs.Common.{subst}
 use Rattle.keyed.proofs.Decide.{same_some}
 use Rattle.ras_core.specs.State.{Running}
-use Rattle.ras_core.specs.Changes.{Decides}
+use Rattle.ras_core.specs.inside.Decisions.{Decides}
 use Rattle.ras_core.specs.Plans.{Plan}
-use Rattle.ras_core.specs.Requests.{rrq_of}
+use Rattle.ras_core.specs.inside.Serving.{rrq_of}
 use Rattle.ras_core.specs.Registering.{registration}
 use Rattle.ras_core.specs.Machine.{serving}
-use Rattle.ras_core.specs.Steps.{Does}
+use Rattle.ras_core.specs.inside.Serving.{Does}
 use Rattle.ras_core.proofs.Agreeing.{if_ok_with}
 use Rattle.ras_core.proofs.machine.Machine.serve_registration.Goals as goal
 

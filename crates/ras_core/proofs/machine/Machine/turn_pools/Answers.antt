@@ -1,11 +1,12 @@
 use Rattle.std.proofs.Common.{◌≡◌, ◌+◌, ◌∙◌, refl, ap, subst, sym, None}
 use Rattle.expiry.specs.declared.due_item.DueItem.TheVariants.{PoolTurn}
 use Rattle.ras_core.specs.declared.outcome.Outcome.{Outcome}
-use Rattle.ras_core.specs.State.{Running, RunningZone}
+use Rattle.ras_core.specs.State.{Running}
+use Rattle.ras_core.specs.inside.Parts.{RunningZone}
 use Rattle.ras_core.specs.Machine.{Doing}
 use Rattle.ras_core.specs.Turns.{IsDueIn}
-use Rattle.ras_core.specs.Leaving.{AreSameButLent}
-use Rattle.ras_core.specs.Steps.{Does}
+use Rattle.ras_core.specs.inside.Leaving.{AreSameButLent}
+use Rattle.ras_core.specs.inside.Serving.{Does}
 use Rattle.ras_core.proofs.ButLent.{same_after_end}
 use Rattle.ras_core.proofs.Dropping.{born_same}
 use Rattle.ras_core.proofs.Noting.{does_item}

@@ -7,7 +7,7 @@ use Rattle.expiry.specs.declared.due_item.DueItem.TheVariants.{Retry}
 use Rattle.ras_core.specs.declared.job.Occasion.TheVariants.{Again}
 use Rattle.ras_core.specs.State.{Running, State}
 use Rattle.ras_core.specs.Turns.{IsDueIn}
-use Rattle.ras_core.specs.Steps.{IsAgain}
+use Rattle.ras_core.specs.inside.Serving.{IsAgain}
 use Rattle.ras_core.proofs.Retrying.{is_again, is_served}
 use Rattle.ras_core.proofs.machine.Machine.waiting.Goals as goal
 

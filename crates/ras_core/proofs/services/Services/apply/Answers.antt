@@ -1,7 +1,7 @@
 use Rattle.std.proofs.Common.{◌∙◌, sym, subst}
-use Rattle.ras_core.specs.State.{RunningZone}
-use Rattle.ras_core.specs.Parts.{Usage}
-use Rattle.ras_core.specs.Changes.{IsCallChange, IsPossible}
+use Rattle.ras_core.specs.inside.Parts.{RunningZone}
+use Rattle.ras_core.specs.inside.Parts.{Usage}
+use Rattle.ras_core.specs.inside.Changes.{IsCallChange, IsPossible}
 use Rattle.ras_core.specs.declared.change.Change.TheVariants.{Endpoint, Calls}
 use Rattle.ras_core.proofs.Legs.{AreParts-change, legs-endpoint_result, usage_is}
 use Rattle.ras_core.proofs.services.Services.apply.Goals as goal

@@ -1,11 +1,12 @@
 use Rattle.std.proofs.Common.{◌∙◌, sym, ap, subst}
 use Rattle.std.proofs.lemmas.List.{length-set}
-use Rattle.ras_core.specs.State.{RunningZone}
+use Rattle.ras_core.specs.inside.Parts.{RunningZone}
 use Rattle.std.specs.Prelude.{IfSome}
 use Rattle.pools.specs.Account.{figures_after_answer}
-use Rattle.ras_core.specs.Parts.{AreParts, Usage, with_usage}
+use Rattle.ras_core.specs.inside.Parts.{AreParts, Usage, with_usage}
 use Rattle.ras_core.specs.Pools.{figures_at, pools_after_answer}
-use Rattle.ras_core.specs.Changes.{IsRegistered, calls_after_answer, leg_of_purpose}
+use Rattle.ras_core.specs.inside.Changes.{IsRegistered}
+use Rattle.ras_core.specs.inside.Decisions.{calls_after_answer, leg_of_purpose}
 use Rattle.ras_core.proofs.Legs.{AreParts-calls, legs-answer}
 use Rattle.ras_core.proofs.services.Services.ask.Goals as goal
 

@@ -4,7 +4,7 @@ use Rattle.admission.specs.Calls.{OpenCalls}
 use Rattle.registrations.specs.Registry.{Live}
 use Rattle.expiry.specs.declared.times.Times.{Times}
 use Rattle.expiry.specs.Due.{IsDue, IsNothingDue}
-use Rattle.ras_core.specs.State.{RunningZone}
+use Rattle.ras_core.specs.inside.Parts.{RunningZone}
 use Rattle.ras_core.specs.Turns.{times_of}
 use Rattle.ras_core.proofs.services.Services.due.Goals as goal
 

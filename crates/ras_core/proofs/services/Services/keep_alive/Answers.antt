@@ -1,7 +1,7 @@
 use Rattle.std.proofs.Common.{◌∙◌, sym, ap, subst}
 use Rattle.std.specs.FinMap as fin
 use Rattle.registrations.specs.Registry.{IsConsistent}
-use Rattle.ras_core.specs.State.{RunningZone}
+use Rattle.ras_core.specs.inside.Parts.{RunningZone}
 use Rattle.ras_core.specs.Registering.{confirmation}
 use Rattle.ras_core.proofs.Deciding.{Decides-renewal}
 use Rattle.ras_core.proofs.services.Services.keep_alive.Goals as goal

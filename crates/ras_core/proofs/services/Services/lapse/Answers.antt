@@ -1,8 +1,9 @@
 use Rattle.std.proofs.Common.{◌∙◌, ap, subst, sym}
 use Rattle.std.specs.FinMap as fin
 use Rattle.admission.specs.Calls.{EachLeg}
-use Rattle.ras_core.specs.State.{RunningZone, Zone, with_live}
-use Rattle.ras_core.specs.Leaving.{IsOther}
+use Rattle.ras_core.specs.inside.Parts.{RunningZone}
+use Rattle.ras_core.specs.State.{Zone, with_live}
+use Rattle.ras_core.specs.inside.Leaving.{IsOther}
 use Rattle.ras_core.specs.Soundness.{HaveEndpoints}
 use Rattle.ras_core.specs.Turns.{without_legs_of}
 use Rattle.ras_core.proofs.Noting.{endpoints_stay}

@@ -1,8 +1,9 @@
 use Rattle.std.proofs.Common.{◌≡◌, ◌∙◌, subst, sym}
-use Rattle.ras_core.specs.State.{RunningZone, Zone}
-use Rattle.ras_core.specs.Parts.{IsBacked, Usage, usage_of}
-use Rattle.ras_core.specs.Changes.{IsRegistered}
-use Rattle.ras_core.specs.Leaving.{HaveLeft, IsOther}
+use Rattle.ras_core.specs.inside.Parts.{RunningZone}
+use Rattle.ras_core.specs.State.{Zone}
+use Rattle.ras_core.specs.inside.Parts.{IsBacked, Usage, usage_of}
+use Rattle.ras_core.specs.inside.Changes.{IsRegistered}
+use Rattle.ras_core.specs.inside.Leaving.{HaveLeft, IsOther}
 use Rattle.ras_core.specs.Turns.{without_legs_of}
 use Rattle.ras_core.proofs.Departing.{all_gone, legs_left}
 use Rattle.ras_core.proofs.Legs.{usage_is}

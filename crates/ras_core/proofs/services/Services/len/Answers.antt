@@ -1,7 +1,7 @@
 use Rattle.std.proofs.Common.{◌≤◌, ℕ, subst}
 use Rattle.std.specs.FinMap as map
 use Rattle.admission.specs.Calls.{EachCall, in_use}
-use Rattle.ras_core.specs.State.{RunningZone}
+use Rattle.ras_core.specs.inside.Parts.{RunningZone}
 use Rattle.ras_core.specs.Soundness.{SoundZone}
 use Rattle.ras_core.proofs.services.Services.len.Goals as goal
 

@@ -3,8 +3,8 @@ use Rattle.std.specs.FinMap as fin
 use Rattle.std.proofs.lemmas.List.{length-map}
 use Rattle.admission.proofs.Soundness.{EachCall-empty}
 use Rattle.ras_core.specs.Pools.{figures_of}
-use Rattle.ras_core.specs.Changes.{IsRegistered}
-use Rattle.ras_core.specs.Parts.{AreParts, Roll, Usage}
+use Rattle.ras_core.specs.inside.Changes.{IsRegistered}
+use Rattle.ras_core.specs.inside.Parts.{AreParts, Roll, Usage}
 use Rattle.ras_core.proofs.services.Services.new.Goals as goal
 
 pub invariant_of-result : goal.invariant_of-result

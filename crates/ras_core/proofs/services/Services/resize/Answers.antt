@@ -1,6 +1,6 @@
 use Rattle.std.proofs.Common.{◌<◌, ◌≤◌, ◌∙◌, ap, length, min, subst, arith}
 use Rattle.admission.specs.Calls.{EachCall, in_use}
-use Rattle.ras_core.specs.State.{RunningZone}
+use Rattle.ras_core.specs.inside.Parts.{RunningZone}
 use Rattle.ras_core.proofs.Resizing.{Asks-resizing}
 use Rattle.ras_core.proofs.services.Services.resize.Goals as goal
 

@@ -1,6 +1,7 @@
 use Rattle.std.proofs.Common.{◌∙◌, ap, subst, sym}
 use Rattle.registrations.specs.Registry.{after_calm}
-use Rattle.ras_core.specs.State.{RunningZone, Zone, with_live}
+use Rattle.ras_core.specs.inside.Parts.{RunningZone}
+use Rattle.ras_core.specs.State.{Zone, with_live}
 use Rattle.ras_core.specs.Soundness.{HaveEndpoints}
 use Rattle.keyed.specs.Maps.{update}
 use Rattle.ras_core.specs.Turns.{without_legs_of}

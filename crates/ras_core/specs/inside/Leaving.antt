@@ -7,7 +7,7 @@ use Rattle.admission.specs.declared.leg.Leg.{Leg}
 use Rattle.admission.specs.Calls.{OpenCalls, rest_of_call}
 use Rattle.pools.specs.declared.interface.Figures.{Figures}
 use Rattle.ras_core.specs.Pools.{figures_at}
-use Rattle.ras_core.specs.Parts.{Usage}
+use Rattle.ras_core.specs.inside.Parts.{Usage}
 
 -- what a pool has lent may have changed, and nothing else
 pub record IsSameButLent (old new : Figures) : Type 0 where

@@ -1,6 +1,6 @@
 //! Requests of endpoints: octets that were written by hand from the standards, with their values.
 
-use crate::{ReadFault, read};
+use ras_codec::{ReadFault, read};
 use ras_module::{
     Address, Alias, AliasList, BmpString, CallKey, DialledDigits, EndpointId, Name, Request,
     RequestSeqNum, TimeToLive,

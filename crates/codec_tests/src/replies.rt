@@ -1,6 +1,6 @@
 //! Replies: octets that were written by hand from the standards.
 
-use crate::{reply_bounds, write_into};
+use ras_codec::{reply_bounds, write_into};
 use ras_module::{
     Address, AdmissionRejectReason, Alias, AliasList, BandRejectReason, BmpString, Delay,
     DialledDigits, DisengageRejectReason, EndpointId, GatekeeperRejectReason, H323Id, Name,

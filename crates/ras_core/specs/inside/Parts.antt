@@ -58,3 +58,8 @@ pub record AreParts (config : ConfigParts) (roll : Roll) (u : Usage) : Type 0 wh
   pub call_limit : u.call_limit ≡ config.call_limit
   pub pools : length u.pools ≡ length config.networks
   pub legs : HaveEndpoints roll.live u.calls
+
+-- the zone of a gatekeeper as it runs: beside it, the last request of each pool with its answer
+pub record RunningZone : Type 0 where
+  pub zone : Zone
+  pub lasts : List Last

@@ -1,10 +1,10 @@
 //! Octets that are cut short, changed, late, or not as short as they could be.
 
-use crate::tests::requests::{
+use crate::requests::{
     ARQ, ARQ_ANSWER, ARQ_OF_A_SECOND_CALL, BRQ, DRQ, GRQ, GRQ_OF_XX, IRR, KEEP_ALIVE, RRQ_101,
     RRQ_102, RRQ_109_101, URQ, is_read,
 };
-use crate::{ReadFault, read};
+use ras_codec::{ReadFault, read};
 use ras_module::{Request, RequestSeqNum};
 use std::alloc::Global;
 use std::test::Fail;

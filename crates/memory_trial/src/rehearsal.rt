@@ -1,0 +1,253 @@
+//! Scripts that are run while memory is refused: step by step, and as a run.
+
+use crate::meter::Metered;
+use pools::{FixedPool, PacedPool, Pool, PoolSet, PoolSpec, StepPool};
+use ras_core::{Event, Outcome, StepFault, Zone};
+use registrations::Registration;
+use script::{Script, ScriptFault, read_script, write_outcomes};
+use std::alloc::{AllocError, AllocFailed, Global};
+use std::io;
+use std::sync::Arc;
+use std::sync::atomic::{AtomicU64, Ordering};
+
+/// No more than one request for memory is refused, so a second try is enough.
+const TRIES: usize = 2;
+
+/// Why a rehearsal ends early.
+enum Trouble {
+    /// Memory was refused before the first step: it begins again.
+    Memory,
+    /// Something was otherwise than it has to be.
+    Otherwise(&'static str),
+}
+
+impl From<AllocError> for Trouble {
+    fn from(_: AllocError) -> Trouble {
+        Trouble::Memory
+    }
+}
+
+impl<T: Drop> From<AllocFailed<T>> for Trouble {
+    fn from(_: AllocFailed<T>) -> Trouble {
+        Trouble::Memory
+    }
+}
+
+/// How the events of a script are handed to its zone.
+#[derive(Clone, Copy)]
+pub enum Way {
+    /// One by one.
+    Steps,
+    /// All at once.
+    Run,
+}
+
+/// A zone, and a meter that shows what its pools have lent.
+#[derive(Drop)]
+struct Stage<P: Pool> {
+    zone: Zone<Metered<P>>,
+    meter: Arc<AtomicU64>,
+}
+
+impl<P: Pool> Stage<P> {
+    /// Whether the pools have lent what the calls use.
+    fn is_even(&self) -> bool {
+        self.meter.load(Ordering::SeqCst) == self.zone.in_use()
+    }
+}
+
+/// Whether a registration is the same as before.
+fn is_same(one: &Registration, other: &Registration) -> bool {
+    one.identifier == other.identifier
+        && one.call_signal == other.call_signal
+        && one.ras == other.ras
+        && one.aliases == other.aliases
+        && one.deadline == other.deadline
+        && one.heard == other.heard
+        && one.tries == other.tries
+        && one.asked == other.asked
+}
+
+fn are_same(some: &[Registration], others: &[Registration]) -> bool {
+    if some.len() != others.len() {
+        return false;
+    }
+    for (i, one) in some.iter().enumerate() {
+        if !is_same(one, &others[i]) {
+            return false;
+        }
+    }
+    true
+}
+
+/// One step. Where it is refused for want of memory, the zone is as it was: its clock, its steps, its
+/// endpoints, its calls and what its pools have lent.
+fn try_step<P: Pool>(stage: &mut Stage<P>, event: &Event) -> Result<Outcome, Trouble> {
+    let event = event.copy()?;
+    let endpoints = stage.zone.endpoints()?;
+    let calls = stage.zone.calls()?;
+    let before = (stage.zone.clock().milliseconds(), stage.zone.steps());
+    match stage.zone.step(event) {
+        Ok(outcome) => Ok(outcome),
+        Err(StepFault::Closed) => Err(Trouble::Otherwise("the zone is closed")),
+        Err(StepFault::Memory) => {
+            let after = (stage.zone.clock().milliseconds(), stage.zone.steps());
+            let same = after == before
+                && are_same(stage.zone.endpoints()?.as_slice(), endpoints.as_slice())
+                && stage.zone.calls()? == calls;
+            if !same {
+                return Err(Trouble::Otherwise("a refused step changed the zone"));
+            }
+            if !stage.is_even() {
+                return Err(Trouble::Otherwise("a refused step left a loan"));
+            }
+            Err(Trouble::Memory)
+        }
+    }
+}
+
+/// One step, which is made again where it was refused.
+fn step<P: Pool>(stage: &mut Stage<P>, event: &Event) -> Result<Outcome, &'static str> {
+    for _ in 0..TRIES {
+        match try_step(stage, event) {
+            Ok(outcome) => return Ok(outcome),
+            Err(Trouble::Memory) => {}
+            Err(Trouble::Otherwise(told)) => return Err(told),
+        }
+    }
+    Err("a step was refused twice")
+}
+
+/// A step for each event.
+fn steps<P: Pool>(
+    stage: &mut Stage<P>,
+    events: &[Event],
+    outcomes: &mut Vec<Outcome>,
+) -> Result<(), &'static str> {
+    for event in events {
+        let outcome = step(stage, event)?;
+        if outcomes.push(outcome).is_err() {
+            return Err("no place for an outcome");
+        }
+    }
+    Ok(())
+}
+
+/// A run over the events. Where it is refused, the steps before the event that its fault names stand, and it
+/// goes on from there.
+fn run<P: Pool>(
+    stage: &mut Stage<P>,
+    events: &[Event],
+    outcomes: &mut Vec<Outcome>,
+) -> Result<(), &'static str> {
+    for _ in 0..TRIES {
+        let done = outcomes.len();
+        if done > events.len() || stage.zone.steps() != done as u64 {
+            return Err("a run left as many outcomes as it made no steps");
+        }
+        match stage.zone.run(&events[done..], outcomes) {
+            Ok(()) => return Ok(()),
+            Err((_, StepFault::Closed)) => return Err("the zone is closed"),
+            Err((i, StepFault::Memory)) => {
+                if outcomes.len() - done != i {
+                    return Err("a refused run named another event");
+                }
+                if !stage.is_even() {
+                    return Err("a refused run left a loan");
+                }
+            }
+        }
+    }
+    Err("a run was refused twice")
+}
+
+/// The pools, with one meter for all.
+fn metered<P: Pool>(
+    alloc: Global,
+    pools: Vec<P>,
+    meter: &Arc<AtomicU64>,
+) -> Result<Vec<Metered<P>>, AllocError> {
+    let mut metered = Vec::new(alloc);
+    for pool in pools {
+        metered.push(Metered::new(pool, Arc::clone(meter)?))?;
+    }
+    Ok(metered)
+}
+
+/// The script's zone over these pools.
+fn stage_of<P: Pool>(
+    alloc: Global,
+    script: Script,
+    pools: Vec<P>,
+) -> Result<(Stage<P>, Vec<Event>), Trouble> {
+    let Script { config, events, .. } = script;
+    let meter = Arc::new(alloc, AtomicU64::new(0))?;
+    let Ok(pools) = PoolSet::new(metered(alloc, pools, &meter)?) else {
+        return Err(Trouble::Otherwise("a new pool isn't idle"));
+    };
+    let Ok(zone) = Zone::new(alloc, config, pools) else {
+        return Err(Trouble::Otherwise("no zone was made"));
+    };
+    Ok((Stage { zone, meter }, events.into_vec()))
+}
+
+/// Runs a script over these pools, and prints the lines of its outcomes.
+fn perform<P: Pool>(
+    rt: &impl Print,
+    alloc: Global,
+    script: Script,
+    pools: Vec<P>,
+    way: Way,
+) -> Result<(), Trouble> {
+    let (mut stage, events) = stage_of(alloc, script, pools)?;
+    let mut outcomes = Vec::with_capacity(alloc, events.len())?;
+    let done = match way {
+        Way::Steps => steps(&mut stage, &events, &mut outcomes),
+        Way::Run => run(&mut stage, &events, &mut outcomes),
+    };
+    if let Err(told) = done {
+        return Err(Trouble::Otherwise(told));
+    }
+    write_outcomes(&outcomes, &mut io::writer(rt)).map_err(|_| Trouble::Otherwise(
+        "standard output failed",
+    ))
+}
+
+fn script_of(alloc: Global, text: &[u8]) -> Result<Script, Trouble> {
+    let mut input = text;
+    match read_script(alloc, &mut input) {
+        Ok(script) => Ok(script),
+        Err(ScriptFault::Memory) => Err(Trouble::Memory),
+        Err(_) => Err(Trouble::Otherwise("the script isn't read")),
+    }
+}
+
+/// Makes the pools of a script, and runs it over them.
+fn try_rehearsal(rt: &impl Print, alloc: Global, text: &[u8], way: Way) -> Result<(), Trouble> {
+    let script = script_of(alloc, text)?;
+    let mut pools: Vec<Box<dyn Pool + Send>> = Vec::new(alloc);
+    for spec in script.pools.as_slice() {
+        match *spec {
+            PoolSpec::Fixed { limit } => pools.push(Box::new(alloc, FixedPool::new(limit))?)?,
+            PoolSpec::Step { limit, step } => {
+                pools.push(Box::new(alloc, StepPool::new(limit, u64::from(step.get())))?)?;
+            }
+            PoolSpec::Paced { limit, burst } => {
+                pools.push(Box::new(alloc, PacedPool::new(limit, u64::from(burst.get())))?)?;
+            }
+        }
+    }
+    perform(rt, alloc, script, pools, way)
+}
+
+/// Runs a script, whose lines it prints; once more where memory was refused before its first step.
+pub fn rehearse(rt: &impl Print, alloc: Global, text: &[u8], way: Way) -> Result<(), &'static str> {
+    for _ in 0..TRIES {
+        match try_rehearsal(rt, alloc, text, way) {
+            Ok(()) => return Ok(()),
+            Err(Trouble::Memory) => {}
+            Err(Trouble::Otherwise(told)) => return Err(told),
+        }
+    }
+    Err("a script was refused twice")
+}

@@ -1,3 +1,0 @@
-mod faults;
-mod replies;
-mod requests;

@@ -1,0 +1,16 @@
+//! Tests of the zone over its public calls: worked examples, octet for octet. They stand above `ras_core`, so that
+//! the zone needn't be proved once more for them.
+#![tactic(auto)]
+
+#[cfg(test)]
+mod calls;
+#[cfg(test)]
+mod endpoints;
+#[cfg(test)]
+mod making;
+#[cfg(test)]
+mod messages;
+#[cfg(test)]
+mod settings;
+#[cfg(test)]
+mod steps;
