@@ -1,5 +1,5 @@
 -- Steps of the machine, and runs.
-use Rattle.std.specs.Prelude.{ℕ, ◌≡◌, ◌≤◌, ◌+◌, ◌++◌, List, [], ◌∷◌, length, slice_set, Some, Option, None, IfSome}
+use Rattle.std.specs.Prelude.{ℕ, ◌≡◌, ◌≤◌, ◌++◌, List, [], ◌∷◌, length, slice_set, Some, Option, None, IfSome}
 use Rattle.std.specs.List.{zip}
 use Rattle.admission.specs.Calls.{in_use}
 use Rattle.pools.specs.declared.interface.Lend.{Lend}

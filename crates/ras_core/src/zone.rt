@@ -75,8 +75,8 @@ impl<P: Pool> Zone<P> {
     /// steps were made; after a refusal nothing has changed, the clock and the pools included.
     pub fn step(&mut self, event: Event) -> Result<Outcome, StepFault>
         ensures step { IfOk result (λ outcome. Step self.old.state event outcome self.new.state) }
-        ensures lasts { IfOk result (λ outcome. self.new.lasts
-            ≡ lasts_after self.old.lasts (ask_in (course self.old.state event (choices_of outcome))) outcome.answer) }
+        ensures lasts { IfOk result (λ outcome. self.new.lasts ≡ lasts_after self.old.lasts
+            (ask_in (course self.old.state event (choices_of outcome))) outcome.answer) }
         ensures few { IfOk result (λ outcome. HasFewOctets outcome.output) }
         ensures closed { (result ≡ Err StepFault.Closed) ↔ (self.old.state.steps ≡ most_steps) }
         ensures err { OnErr result (self.new ≡ self.old) }
@@ -86,9 +86,10 @@ impl<P: Pool> Zone<P> {
     }
 
     fn step_at(&mut self, event: &Event) -> Result<Outcome, StepFault>
-        ensures step { IfOk result (λ outcome. Step self.old.state event.now outcome self.new.state) }
-        ensures lasts { IfOk result (λ outcome. self.new.lasts
-            ≡ lasts_after self.old.lasts (ask_in (course self.old.state event.now (choices_of outcome))) outcome.answer) }
+        ensures step { IfOk result (λ outcome.
+            Step self.old.state event.now outcome self.new.state) }
+        ensures lasts { IfOk result (λ outcome. self.new.lasts ≡ lasts_after self.old.lasts
+            (ask_in (course self.old.state event.now (choices_of outcome))) outcome.answer) }
         ensures few { IfOk result (λ outcome. HasFewOctets outcome.output) }
         ensures closed { (result ≡ Err StepFault.Closed) ↔ (self.old.state.steps ≡ most_steps) }
         ensures err { OnErr result (self.new ≡ self.old) }
@@ -162,10 +163,13 @@ impl<P: Pool> Zone<P> {
         events: &[Event],
         outcomes: &mut Vec<Outcome>,
     ) -> Result<(), (usize, StepFault)>
-        ensures ok { OnOk result (RunsOn self.old.state events.now outcomes.old.items outcomes.new.items self.new.state) }
+        ensures ok { OnOk result (RunsOn self.old.state events.now
+            outcomes.old.items outcomes.new.items self.new.state) }
         ensures index { IfErr result (λ fault. fault.0 < length events.now) }
-        ensures err { IfErr result (λ fault. RunsOn self.old.state (take fault.0 events.now) outcomes.old.items outcomes.new.items self.new.state) }
-        ensures closed { IfErr result (λ fault. (fault.1 ≡ StepFault.Closed) ↔ (self.new.state.steps ≡ most_steps)) }
+        ensures err { IfErr result (λ fault. RunsOn self.old.state (take fault.0 events.now)
+            outcomes.old.items outcomes.new.items self.new.state) }
+        ensures closed { IfErr result (λ fault.
+            (fault.1 ≡ StepFault.Closed) ↔ (self.new.state.steps ≡ most_steps)) }
         ensures sound { Sound self.new.state }
     {
         let _ = &self.machine;

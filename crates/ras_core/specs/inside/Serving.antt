@@ -18,7 +18,7 @@ use Rattle.ras_core.specs.Plans.{Plan}
 use Rattle.ras_core.specs.Requests.{plan_of}
 use Rattle.ras_core.specs.inside.Room.{IsDropped}
 use Rattle.ras_core.specs.Turns.{IsDueIn}
-use Rattle.ras_core.specs.Machine.{Course, Doing, course, course_answer, retry_course, serving}
+use Rattle.ras_core.specs.Machine.{Course, Doing, course_answer, retry_course, serving}
 use Rattle.ras_core.specs.declared.calling.Admission.{Admission}
 use Rattle.ras_core.specs.declared.calling.BandwidthChange.{BandwidthChange}
 use Rattle.ras_core.specs.declared.calling.Disengagement.{Disengagement}
