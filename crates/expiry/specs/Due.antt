@@ -1,7 +1,7 @@
 -- What is due at a moment. A registration that is not renewed ends with its time to live (H.225.0,
 -- timeToLive). An endpoint that takes part in a call and is silent is asked for a sign of life by
--- an InfoRequest, some times on end (H.323, status of calls); where no answer comes, it counts as
--- gone. A request that was told to wait is served again, and a reply is kept for some time only
+-- an InfoRequest, some times on end (H.323, 8.4.2, status); where no answer comes, it loses its legs
+-- and stays registered. A request that was told to wait is served again, and a reply is kept for some time only
 -- (H.225.0, RAS timers and request in progress).
 use Rattle.std.specs.Prelude.{◌≤◌, ◌+◌, ◌&&◌, ◌||◌, ℕ, Bool, List, nat_eq, nat_le, nat_lt, IsTrue}
 use Rattle.std.specs.Option.{IsSomeAnd}

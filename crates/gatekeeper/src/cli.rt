@@ -33,7 +33,8 @@ The script (at most 1,048,576 octets; words are parted by spaces, blank lines ar
   pool fixed LIMIT             a pool of bandwidth for calls; LIMIT and all other amounts are in
                                units of 100 bit/s
   pool step LIMIT STEP         a pool that lends whole steps of STEP units
-  pool paced LIMIT BURST       a pool that lends at most BURST units between two turns
+  pool paced LIMIT BURST       a pool that lends at most BURST units between two turns of the
+                               pools, and makes requests wait for the next turn
   pool .. for A.B.C.D/BITS     a pool for calls that endpoints of this network open
   at MS from ADDRESS HEX       at millisecond MS a datagram comes from ADDRESS, with these octets
   turn MS                      at millisecond MS one thing is done that is due, where anything is
@@ -52,6 +53,10 @@ Settings, with their ranges and what they are where no line sets them (ms is mil
   asks          1 to 16                  3  how often a silent endpoint is asked for a sign of life
   ask_wait      1 to 3600000          5000  ms that it has for each answer
   pool_turn     1 to 86400000         1000  ms from one turn of the pools to the next
+
+NAME has 1 to 128 characters. LIMIT is at most 1000000000000; STEP and BURST are 1 to 4294967295;
+MS is below 9007199254740992, and one that is below an earlier one counts as that. HEX has two
+digits for each octet, and may be left out. There are no comments, and no tabs.
 
 Lines of zone, set and pool stand before the first of at or turn; of repeated lines of zone, or of
 set with one key, the last counts. There are at most 16 pools. A call has its bandwidth from the
@@ -79,14 +84,14 @@ Behind its number a line says what happened:
   done pool-turn               the pools made their turn
   idle                         nothing was due
 
-B counts the datagrams and turns before the one whose reply is kept. Where a pool was asked, the
+B counts the lines before that of the datagram whose reply is kept. Where a pool was asked, the
 line goes on with ` lent K`, ` refused` or ` wait`; where a reply that was over went, to make room
 for this one, with ` dropped B`; and where something is sent, with ` > ADDRESS HEX`.
 
 Exit status: 0 done, 1 the script was refused, 2 wrong words on the command line, 3 out of
 memory, 4 a standard stream failed. Status 1, 3 and 4 come with one line on standard error:
-`line N: not understood` names the first line that is none of the above, or has a number out of
-its range.";
+`line N: not understood` names the first line that is none of the above, stands in the wrong
+place, or has a number out of its range.";
 
 fn matched<'a>(alloc: Global, words: &'a [String]) -> Result<ArgMatches<'a>, Error> {
     let replay = Command::new(alloc, "replay")
@@ -117,7 +122,10 @@ pub fn chosen<R: Print + Eprint>(
             }
             match error.print(rt) {
                 Ok(()) => Ok(Choice::Done(if error.use_stderr() { 2 } else { 0 })),
-                Err(_) => Ok(Choice::Done(4)),
+                Err(_) => {
+                    let _ = rt.eprintln("stream failed");
+                    Ok(Choice::Done(4))
+                }
             }
         }
     }

@@ -53,12 +53,12 @@ IsListOf kept list = places.entries_of birth_of itself list ≡ entries (births 
 abbrev pub done : ℕ → Reply → ℕ → KeptEntry
 done born reply until = record { born = born; state = Done reply until }
 
--- the request is served again at this moment, and so many times more
+-- the request is served again at this moment, and at most so many times in all, that one included
 abbrev pub pending : ℕ → Request → Reply → ℕ → ℕ → KeptEntry
 pending born request reply retry left =
     record { born = born; state = Pending request reply retry left }
 
--- the endpoint's reply, be it the last or a requestInProgress
+-- the reply that is sent again, be it the last or a requestInProgress
 abbrev pub reply_in : KeptState → Reply
 reply_in (Done reply until) = reply
 reply_in (Pending request reply retry left) = reply

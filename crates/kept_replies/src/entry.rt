@@ -25,7 +25,7 @@ pub enum KeptState {
         until: u64,
     },
     /// It was told to wait, by `reply` (H.225.0, RequestInProgress). It is served again at the
-    /// moment `retry`, and `left` times in all, at least once.
+    /// moment `retry`, and at most `left` times in all; `left` is at least 1.
     Pending {
         request: Request,
         reply: Reply,

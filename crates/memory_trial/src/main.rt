@@ -10,6 +10,8 @@
 //! in turn, up to the one behind them, which ends the program with a status of its own. `./check` runs it so.
 #![tactic(auto)]
 
+ghost use Rattle.std.specs.Prelude.{◌≤◌, IfOk};
+
 mod copies;
 mod meter;
 mod rehearsal;
@@ -19,8 +21,6 @@ use rehearsal::{Way, rehearse};
 use std::alloc::Global;
 use std::io::Read;
 use std::process::ExitCode;
-
-const INPUT: &str = "standard input failed";
 
 /// The octets that the input has at most.
 const MOST: usize = 8192;
@@ -34,20 +34,19 @@ fn is_given(alloc: Global) -> bool {
     taken.reserve(1).is_ok()
 }
 
-/// Reads the input, and answers how many octets it has. This takes no memory.
-fn read_input(reader: &mut impl Read, text: &mut [u8; MOST]) -> Result<usize, &'static str> {
-    let mut length = 0;
-    for _ in 0..MOST {
-        if length == MOST {
-            return Err("the input is too long");
-        }
-        match reader.read(&mut text[length..]) {
-            Ok(0) => return Ok(length),
-            Ok(more) => length += more,
-            Err(_) => return Err(INPUT),
+/// Reads the input, octet by octet, and answers how many it has. This takes no memory.
+fn read_input(reader: &mut impl Read, text: &mut [u8; MOST]) -> Result<usize, &'static str>
+    ensures { IfOk result (λ length. length ≤ 8192) }
+{
+    let mut octet = [0; 1];
+    for i in 0..MOST {
+        match reader.read(&mut octet) {
+            Ok(0) => return Ok(i),
+            Ok(_) => text[i] = octet[0],
+            Err(_) => return Err("standard input failed"),
         }
     }
-    Err(INPUT)
+    Err("the input is too long")
 }
 
 /// Asks for memory once for each empty line at the head of the input, and answers what is behind them.

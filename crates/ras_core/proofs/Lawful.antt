@@ -23,7 +23,7 @@ use Rattle.ras_core.specs.Requests.{plan_of}
 use Rattle.ras_core.specs.Keeping.{is_repeat}
 use Rattle.ras_core.specs.Turns.{IsNothingDueIn}
 use Rattle.ras_core.specs.Machine.{Answer, Course, Ignoring, Repeating, at_moment, course, course_answer, datagram_course, first, keyed_course, most_steps, planned_course, read_course, serving, turn_course}
-use Rattle.ras_core.specs.Steps.{EachState, IsAllowed, IsServed, IsWithinLimit, SoundRun, Step, choices_of, item_of}
+use Rattle.ras_core.specs.Steps.{EachState, IsAllowed, HasReply, IsWithinLimit, SoundRun, Step, choices_of, item_of}
 use Rattle.ras_core.proofs.Retrying.{plan_there}
 
 not_above : (n most : ℕ) → n ≤ most → nat_lt most n ≡ false
@@ -37,7 +37,7 @@ answered steps true now answer outcome after is = is
 answered steps false now answer outcome after is = absurd (cc is)
 
 module _ (s : State) (source : Address) (bytes : List ℕ) (now : ℕ) (request : Request) (entry : KeptEntry)
-    (few : length bytes ≤ 4096) (read : message_reading bytes ≡ Ok (Some request)) (served : IsServed request)
+    (few : length bytes ≤ 4096) (read : message_reading bytes ≡ Ok (Some request)) (served : HasReply request)
     (there : fin.get s.kept (record { source = source; bytes = bytes }) ≡ Some entry)
     (repeat : is_repeat s now entry ≡ true) (dropped : Option ℕ) where
   key : KeptKey
@@ -59,7 +59,7 @@ module _ (s : State) (source : Address) (bytes : List ℕ) (now : ℕ) (request 
 
 pub repeated : (s : State) (source : Address) (bytes : List ℕ) (moment : ℕ) (request : Request) (entry : KeptEntry)
     (outcome : Outcome) (after : State)
-    → length bytes ≤ 4096 → message_reading bytes ≡ Ok (Some request) → IsServed request
+    → length bytes ≤ 4096 → message_reading bytes ≡ Ok (Some request) → HasReply request
     → fin.get s.kept (record { source = source; bytes = bytes }) ≡ Some entry
     → IsTrue (is_repeat s (max s.clock moment) entry) → Step s (event.Datagram source bytes moment) outcome after
     → (outcome.output ≡ Some (record { to = source; bytes = encoding_of (reply_in entry.state) }))

@@ -25,7 +25,7 @@ use Rattle.ras_core.specs.Turns.{IsDueIn}
 use Rattle.ras_core.specs.Machine.{Choices, Serving, again_course, note_at, plan_answer, retry_course, retry_in_course, serving, with_answer, with_name}
 use Rattle.ras_core.specs.inside.Room.{IsDropped}
 use Rattle.ras_core.specs.inside.Serving.{Does, DropsFor, IsAgain, Serves}
-use Rattle.ras_core.specs.Steps.{IsServed, choices_of}
+use Rattle.ras_core.specs.Steps.{HasReply, choices_of}
 
 -- what holds where a call succeeded, by two of its clauses
 pub if_ok_by_both : {A B : Type 0} (P Q R : A → Type 0) (r : Result A B) → IfOk r P → IfOk r Q
@@ -34,7 +34,7 @@ if_ok_by_both P Q R (Ok x) h k f = f x h k
 if_ok_by_both P Q R (Err e) h k f = tt
 
 -- a request that is served comes to something
-pub plan_there : (z : Zone) (now : ℕ) (request : Request) → IsServed request
+pub plan_there : (z : Zone) (now : ℕ) (request : Request) → HasReply request
     → (plan : Plan) × (plan_of z now request ≡ Some plan)
 plan_there z now (Grq seq gatekeeper) h = (_, refl)
 plan_there z now (Rrq seq call_signal ras aliases gatekeeper time_to_live keep_alive endpoint) h = (_, refl)
@@ -95,7 +95,7 @@ module _ (s : State) (apart : AreBornApart s.kept) (now born : ℕ) (key : KeptK
         ≡ retry_in_course s now key born (Pending request reply retry left)
     waits_so = ap (retry_course s now born) found ∙ ap (retry_in_course s now key born) is
 
-    pub is_again : (copy : KeptKey) (again : Request) → copy ≡ key → again ≡ request → IsServed request
+    pub is_again : (copy : KeptKey) (again : Request) → copy ≡ key → again ≡ request → HasReply request
         → IsDueIn s now (Retry born)
         → IsAgain s now born (record { key = copy; occasion = Again born left }) again
     is_again copy again copied again_is served due = record {
@@ -104,7 +104,7 @@ module _ (s : State) (apart : AreBornApart s.kept) (now born : ℕ) (key : KeptK
             (sym (ap (fin.get s.kept) copied ∙ (births-has s.kept apart born (key, entry) found).0)) (ap left_in is);
         due = due;
       };
-      served = subst IsServed (sym again_is) served;
+      served = subst HasReply (sym again_is) served;
       left = left;
       occasion = refl;
       course = λ plan planned. waits_so ∙ served_so (plan_of s.zone now request) plan
@@ -118,7 +118,7 @@ module _ (s : State) (apart : AreBornApart s.kept) (now born : ℕ) (key : KeptK
           ∙ (λ j. serving (record { key = sym copied j; occasion = Again born left }) None now (sym again_is j) plan)
 
 -- all but an InfoRequestResponse are served
-pub is_served : (request : Request) → ((seq : ℕ) (endpoint : List ℕ) → request ≡ Irr seq endpoint → ⊥) → IsServed request
+pub is_served : (request : Request) → ((seq : ℕ) (endpoint : List ℕ) → request ≡ Irr seq endpoint → ⊥) → HasReply request
 is_served (Grq seq gatekeeper) other = tt
 is_served (Rrq seq call_signal ras aliases gatekeeper time_to_live keep_alive endpoint) other = tt
 is_served (Urq seq call_signal endpoint) other = tt

@@ -82,7 +82,8 @@ abbrev pub calling : Zone → Admission → Option Address → (Address → Plan
 calling z q None next = Settled (denial z q CalledPartyNotRegistered)
 calling z q (Some told) next = next told
 
--- an endpoint that takes part already is told again what it was told
+-- an endpoint that takes part already is told its leg's address again, and the units that it asks for, but
+-- no more than the call's
 abbrev pub taking_part : Zone → Admission → Registration → Call → Option Leg → Plan
 taking_part z q r call (Some leg) =
     Settled (unchanged z (Acf q.seq (min q.asked call.units) leg.told))

@@ -22,7 +22,7 @@ use Rattle.ras_core.specs.Pools.{pools_after_answer}
 use Rattle.ras_core.specs.Plans.{Served, Ask, Plan, hearing}
 use Rattle.ras_core.specs.Requests.{seq_of}
 
--- the registration that a reply confirms is there; any other reply confirms none
+-- whom a reply confirms is registered still; most replies confirm nobody
 abbrev pub is_live : Live → Option (List ℕ) → Bool
 is_live live None = true
 is_live live (Some id) = is_some (get live id)
@@ -33,7 +33,7 @@ abbrev pub is_repeat : State → ℕ → KeptEntry → Bool
 is_repeat s now entry =
     not (is_over now entry) && is_live s.zone.live (identifier_in (reply_in entry.state))
 
--- A request that is served: its datagram and the time at which it is served; the birth of the entry
+-- A request that is served: its datagram, and whether it is served first or again; the birth of the entry
 -- that is dropped for it; and what it comes to.
 pub record Task : Type 0 where
   pub job : Job
@@ -101,7 +101,7 @@ after_drop kept (Some born) = without_birth kept born
 abbrev pub with_reply : KeptReplies → KeptKey → Occasion → Option ℕ → ℕ → Reply → ℕ → KeptReplies
 with_reply kept key First dropped born reply until =
     insert (after_drop kept dropped) key (done born reply until)
-with_reply kept key (Again first left) dropped born reply until =
+with_reply kept key (Again birth left) dropped born reply until =
     update kept key (finished reply until)
 
 -- the request is kept, to be served again at this moment and so many times; or once less than before
@@ -109,7 +109,7 @@ abbrev pub with_request : KeptReplies → KeptKey → Occasion → Option ℕ �
     → KeptReplies
 with_request kept key First dropped born request reply retry times =
     insert (after_drop kept dropped) key (pending born request reply retry times)
-with_request kept key (Again first left) dropped born request reply retry times =
+with_request kept key (Again birth left) dropped born request reply retry times =
     update kept key (postponed retry)
 
 -- either, for these times

@@ -110,8 +110,8 @@ datagram_course s now key dropped =
     then Ignoring TooLong
     else read_course s now key dropped (message_reading key.bytes)
 
--- A request that waits is served again. (Only such requests wait as have a plan, and what is due for a retry
--- waits: the cases without a plan or without an entry that waits are never met, and nothing would be done.)
+-- A request that waits is served again. (The cases in which nothing is done are those of an entry that isn't
+-- there, doesn't wait, or has a request without a plan; no run from the opening state meets them.)
 abbrev pub again : KeptKey → ℕ → ℕ → Job
 again key born left = record { key = key; occasion = Again born left }
 

@@ -23,12 +23,12 @@ serves (Some network) ip = holds network ip
 abbrev pub pool_of : List (Option Network) → List ℕ → ℕ
 pool_of networks ip = unwrap_or (position (λ network. serves network ip) networks) 0
 
--- there is a pool, and it serves every address
+-- there is a pool, and it has no network
 abbrev pub is_default : Option (Option Network) → Bool
 is_default None = false
 is_default (Some network) = is_none network
 
--- the last pool does
+-- the last pool is such a one
 abbrev pub has_default : List (Option Network) → Bool
 has_default networks = is_default (slice_get networks (length networks - 1))
 

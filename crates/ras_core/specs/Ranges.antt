@@ -28,13 +28,13 @@ range_fault parts =
     else if list_any is_too_long parts.networks then Some (codes "pool.network")
     else None
 
--- each number is in its range, and the last pool serves every address
+-- each number is in its range, and the last pool has no network
 pub record IsConfig (parts : ConfigParts) : Type 0 where
   pub ranges : range_fault parts ≡ None
   pub default_pool : has_default parts.networks ≡ true
 
 -- The settings are those of the configuration; or the fault names the first key out of range; or,
--- where there is none, there is no pool that serves every address at the end.
+-- where there is none, the last pool has a network, or there is no pool.
 abbrev pub IsConfigAnswer : ConfigParts → Result ConfigParts ConfigFault → Type 0
 IsConfigAnswer parts (Ok config) = (config ≡ parts) × IsConfig parts
 IsConfigAnswer parts (Err (OutOfRange key)) = range_fault parts ≡ Some key.now

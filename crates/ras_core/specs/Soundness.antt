@@ -29,7 +29,7 @@ abbrev pub IsLentTo : List Figures → OpenCalls → Type 0
 IsLentTo pools calls =
     (pool : ℕ) → pool < length pools → (figures_at pools pool).lent ≡ in_use_of calls pool
 
--- no more than so many requests were refused, and no more were answered by a wait
+-- fewer than so many requests were refused, and fewer were answered by a wait
 pub record HasCounts (most : ℕ) (f : Figures) : Type 0 where
   pub refusals : f.refusals < most
   pub waits : f.waits < most

@@ -125,7 +125,7 @@ abbrev pub HasFewOctets : Option Datagram → Type 0
 HasFewOctets None = Unit {0}
 HasFewOctets (Some datagram) = length datagram.bytes ≤ 20000
 
--- a request, which is answered
-abbrev pub IsServed : Request → Type 0
-IsServed (Irr seq endpoint) = ⊥
-IsServed other = Unit {0}
+-- a request that has a reply: any but an InfoRequestResponse
+abbrev pub HasReply : Request → Type 0
+HasReply (Irr seq endpoint) = ⊥
+HasReply other = Unit {0}

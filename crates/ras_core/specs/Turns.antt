@@ -1,4 +1,4 @@
--- What is due, and what it comes to (H.323, status of calls; H.225.0, timeToLive, InfoRequest).
+-- What is due, and what it comes to (H.323, 8.4.2, status; H.225.0, timeToLive, InfoRequest).
 use Rattle.std.specs.Prelude.{ℕ, ◌+◌, ◌==◌, List, Option, None, if◌then◌else◌}
 use Rattle.std.specs.List.{fold}
 use Rattle.std.specs.Option.{option_map}
@@ -77,7 +77,8 @@ interrogation s now endpoint = record {
   };
 }
 
--- what each item comes to, but for a request that is served again
+-- What each item comes to, but for a request that is served again. (In a turn of the pools each pool makes one
+-- too. It changes no figure of a pool, so a state doesn't show it.)
 abbrev pub effect : State → ℕ → DueItem → Effect
 effect s now (RegistrationOver id) =
     quietly (record s { zone = without_endpoint s.zone id })

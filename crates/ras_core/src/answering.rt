@@ -6,7 +6,7 @@ ghost use Rattle.kept_replies.specs.Kept.{reply_in};
 ghost use Rattle.ras_core.specs.Keeping.{is_repeat};
 ghost use Rattle.ras_core.specs.Machine.{Repeating, datagram_course, request_course, response_course};
 ghost use Rattle.ras_core.specs.inside.Serving.{Does};
-ghost use Rattle.ras_core.specs.Steps.{IsServed};
+ghost use Rattle.ras_core.specs.Steps.{HasReply};
 ghost use Rattle.ras_core.specs.Soundness.{AreBornBefore, HasCounts};
 
 use crate::job::{Job, Occasion};

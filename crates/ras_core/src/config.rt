@@ -42,7 +42,7 @@ pub struct ConfigParts {
     pub silence: u64,
     /// After how long a request in progress is served again: 1 to 65535.
     pub delay: u64,
-    /// How often a request in progress is served again: 1 to 16.
+    /// How often a request in progress is served again at most: 1 to 16.
     pub retries: u64,
     /// How often a silent endpoint is asked: 1 to 16.
     pub asks: u64,
@@ -50,8 +50,8 @@ pub struct ConfigParts {
     pub ask_wait: u64,
     /// How long it is from one turn of the pools to the next: 1 to 86400000.
     pub pool_turn: u64,
-    /// The networks of the pools, in their order: the calls of the endpoints of a network are served
-    /// by the first pool that has it. The last pool has none, and serves all others.
+    /// The networks of the pools, in their order. A call has its units from the first pool that has no
+    /// network, or whose network holds the call signal address of who opens it. The last pool has none.
     pub networks: Networks,
 }
 
@@ -167,7 +167,7 @@ fn range_fault(parts: &ConfigParts) -> Option<&'static str>
 }
 
 impl Config {
-    /// These settings, where each number is in its range and the last pool serves every network. Else
+    /// These settings, where each number is in its range and the last pool has no network. Else
     /// the first key, in the order of the fields, whose number is out of range; else that there is no
     /// default pool.
     pub fn new(parts: ConfigParts) -> Result<Self, ConfigFault>

@@ -9,6 +9,7 @@ pub enum NewFault {
     /// There is another number of pools than of networks.
     #[error("there have to be as many pools as networks")]
     WrongPools = 1,
+    /// There is no memory. Today a zone is made without any, so that this is never answered.
     #[error("out of memory")]
     Memory = 2,
 }

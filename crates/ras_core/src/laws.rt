@@ -12,18 +12,19 @@ ghost use Rattle.ras_core.specs.declared.outcome.Outcome.{Outcome};
 ghost use Rattle.ras_core.specs.State.{State};
 ghost use Rattle.ras_core.specs.Keeping.{is_repeat};
 ghost use Rattle.ras_core.specs.Turns.{IsNothingDueIn};
-ghost use Rattle.ras_core.specs.Steps.{EachState, IsServed, IsWithinLimit, SoundRun, Step};
+ghost use Rattle.ras_core.specs.Steps.{EachState, HasReply, IsWithinLimit, SoundRun, Step};
 
 use crate::event::Event;
 use crate::outcome::Note;
 
-/// A datagram that came before, from the same address with the same octets, gets the reply that is kept
-/// for it, and nothing changes but the clock and the number of steps: while its window isn't over, and,
-/// where the reply confirms a registration, while that is there.
+/// A datagram that came before, from the same address with the same octets, gets the reply that is
+/// kept for it, and nothing changes but the clock and the number of steps: while its window isn't
+/// over, and, where the reply confirms a registration, while that is there. The datagram has at most
+/// 4,096 octets, and is a request that has a reply.
 pub fn a_repeat_gets_its_kept_reply()
     ensures { (s : State) (source : Address) (bytes : List ℕ) (moment : ℕ) (request : Request)
         (entry : KeptEntry) (outcome : Outcome) (after : State)
-        → length bytes ≤ 4096 → message_reading bytes ≡ Ok (Some request) → IsServed request
+        → length bytes ≤ 4096 → message_reading bytes ≡ Ok (Some request) → HasReply request
         → get s.kept (record { source = source; bytes = bytes }) ≡ Some entry
         → IsTrue (is_repeat s (max s.clock moment) entry)
         → Step s (Event.Datagram source bytes moment) outcome after
@@ -38,8 +39,8 @@ pub fn a_turn_is_idle_only_where_nothing_is_due()
         → IsNothingDueIn s (max s.clock moment) }
 {}
 
-/// In every state of a sound run, bandwidth in use, the sum over the calls, is within the zone's limit,
-/// and each pool has lent what its calls use. The runs of `Zone::run` are sound.
+/// In every state that a sound run comes to, bandwidth in use, the sum over the calls, is within the
+/// zone's limit, and each pool has lent what its calls use. The runs of `Zone::run` are sound.
 pub fn bandwidth_is_within_the_limit_all_along()
     ensures { (s : State) (entries : List (Event × Outcome)) (after : State)
         (run : SoundRun s entries after) → EachState IsWithinLimit s entries after run }

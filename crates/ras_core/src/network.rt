@@ -69,7 +69,7 @@ impl Networks {
         first_serving(&self.items, ip).unwrap_or(0)
     }
 
-    /// Whether the last pool serves every address.
+    /// Whether there is a pool, and the last one has no network.
     pub(crate) fn have_default(&self) -> bool
         ensures { result ≡ has_default self.now }
     {

@@ -13,7 +13,8 @@ pub struct Datagram {
     pub bytes: Octets,
 }
 
-/// Why a datagram was ignored: nothing is sent for it, and nothing but the clock changes.
+/// Why a datagram was ignored: nothing is sent for it, and nothing but the clock and the number of
+/// steps changes.
 #[derive(Clone, Copy, Debug, PartialEq, Eq)]
 pub enum IgnoredCause {
     /// It has more than 4,096 octets.

@@ -12,7 +12,7 @@ ghost use Rattle.ras_core.specs.inside.Decisions.{MayConclude, leg_of_purpose};
 ghost use Rattle.ras_core.specs.inside.Serving.{arq_of, brq_of, drq_of, rrq_of, urq_of};
 ghost use Rattle.ras_core.specs.Requests.{seq_of};
 ghost use Rattle.ras_core.specs.inside.Serving.{Does, DropsFor, IsAboutCalls, IsJob, Serves};
-ghost use Rattle.ras_core.specs.Steps.{IsFresh, IsServed};
+ghost use Rattle.ras_core.specs.Steps.{IsFresh, HasReply};
 ghost use Rattle.ras_core.specs.Soundness.{AreBornBefore, HasCounts};
 
 use crate::calling::{Admission, BandwidthChange, Disengagement};
@@ -294,7 +294,7 @@ impl<P: Pool> Machine<P> {
         requires counts { All (HasCounts (2 ^ 63)) self.old.state.zone.pools }
         requires job { IsJob self.old.state now job }
         requires births { AreBornBefore self.old.state.steps self.old.state.kept }
-        requires served { IsServed request }
+        requires served { HasReply request }
         ensures does { IfOk result (λ outcome. Serves self.old now job request outcome self.new) }
         ensures dropped { IfOk result (λ outcome. DropsFor self.old.state job outcome.dropped) }
         ensures err { OnErr result (self.new ≡ self.old) }

@@ -20,7 +20,7 @@ pub struct Registration {
     pub deadline: u64,
     /// When it was last heard.
     pub heard: u64,
-    /// How often it was asked for a sign of life since then.
+    /// How often it was asked for a sign of life since then, or since it lost its legs for silence.
     pub tries: u8,
     /// When it was last asked, or 0 before the first time.
     pub asked: u64,

@@ -24,7 +24,7 @@ use Rattle.ras_core.specs.declared.calling.BandwidthChange.{BandwidthChange}
 use Rattle.ras_core.specs.declared.calling.Disengagement.{Disengagement}
 use Rattle.ras_core.specs.declared.registering.Registering.{Registering}
 use Rattle.ras_core.specs.declared.registering.Unregistering.{Unregistering}
-use Rattle.ras_core.specs.Steps.{IsAllowed, IsServed, HasFewOctets, ask_in, choices_of, lasts_after}
+use Rattle.ras_core.specs.Steps.{IsAllowed, HasReply, HasFewOctets, ask_in, choices_of, lasts_after}
 
 -- the requests as they are served
 abbrev pub rrq_of : Registering → Request
@@ -97,7 +97,7 @@ IsAboutCalls other = ⊥
 -- this request may be served again, and that is what is to be done
 pub record IsAgain (s : State) (now born : ℕ) (job : Job) (request : Request) : Type 0 where
   pub job_may : IsJob s now job
-  pub served : IsServed request
+  pub served : HasReply request
   pub left : ℕ
   pub occasion : job.occasion ≡ Again born left
   pub course : (plan : Plan) → plan_of s.zone now request ≡ Some plan
