@@ -17,13 +17,13 @@ use Rattle.ras_core.specs.declared.outcome.IgnoredCause.TheVariants.{TooLong}
 use Rattle.ras_core.specs.declared.outcome.Note.{Note}
 use Rattle.ras_core.specs.declared.outcome.Note.TheVariants as note
 use Rattle.ras_core.specs.declared.outcome.Outcome.{Outcome}
-use Rattle.ras_core.specs.State.{State}
+use Rattle.ras_core.specs.State.{State, Running}
 use Rattle.ras_core.specs.Plans.{Plan}
 use Rattle.ras_core.specs.Requests.{plan_of}
 use Rattle.ras_core.specs.Keeping.{is_repeat}
 use Rattle.ras_core.specs.Turns.{IsNothingDueIn}
 use Rattle.ras_core.specs.Machine.{Answer, Course, Ignoring, Repeating, at_moment, course, course_answer, datagram_course, first, keyed_course, most_steps, planned_course, read_course, serving, turn_course}
-use Rattle.ras_core.specs.Steps.{EachState, IsAllowed, HasReply, IsWithinLimit, SoundRun, Step, choices_of, item_of}
+use Rattle.ras_core.specs.Steps.{EachState, IsAllowed, HasReply, IsWithinLimit, RunningRun, Step, choices_of, item_of}
 use Rattle.ras_core.proofs.Retrying.{plan_there}
 
 not_above : (n most : ℕ) → n ≤ most → nat_lt most n ≡ false
@@ -82,8 +82,10 @@ idle s moment outcome after step noted =
     subst (λ (n : Note). IsAllowed s (max s.clock moment) (turn_course s (max s.clock moment) (item_of n)) (choices_of outcome))
     noted step.allowed
 
-pub within_limit : (s : State) (entries : List (Event × Outcome)) (after : State) (run : SoundRun s entries after)
-    → EachState IsWithinLimit s entries after run
-within_limit s [] after run = tt
-within_limit s (entry ∷ entries) after run =
-    (record { limit = run.2.zone.limit; lent = run.2.zone.lent }, within_limit run.0 entries after run.3)
+pub within_limit : (old : Running) (entries : List (Event × Outcome)) (new : Running)
+    (run : RunningRun old entries new) → EachState IsWithinLimit old entries new run
+within_limit old [] new run = tt
+within_limit old (entry ∷ entries) new run = (
+  record { limit = run.1.sound.zone.limit; lent = run.1.sound.zone.lent },
+  within_limit run.0 entries new run.2,
+)

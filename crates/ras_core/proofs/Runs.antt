@@ -4,12 +4,12 @@ use Rattle.std.proofs.lemmas.List.{take_more}
 use Rattle.std.specs.List.{zip}
 use Rattle.ras_core.specs.declared.event.Event.{Event}
 use Rattle.ras_core.specs.declared.outcome.Outcome.{Outcome}
-use Rattle.ras_core.specs.State.{State}
-use Rattle.ras_core.specs.Steps.{Step, Run, RunsOn, SoundRun}
-use Rattle.ras_core.specs.Soundness.{Sound}
+use Rattle.ras_core.specs.State.{State, Running}
+use Rattle.ras_core.specs.Steps.{Step, Run, RunsOn, RunningStep, RunningRun}
 
-run_more : (z mid after : State) (events : List Event) (made : List Outcome) (event : Event) (outcome : Outcome)
-    → length made ≡ length events → Run z (zip events made) mid → Step mid event outcome after
+run_more : (z mid after : State) (events : List Event) (made : List Outcome) (event : Event)
+    (outcome : Outcome) → length made ≡ length events → Run z (zip events made) mid
+    → Step mid event outcome after
     → Run z (zip (events ++ event ∷ []) (made ++ outcome ∷ [])) after
 run_more z mid after [] [] event outcome each run step =
     (after, subst (λ (s : State). Step s event outcome after) run step, refl)
@@ -18,28 +18,33 @@ run_more z mid after (e ∷ events) (o ∷ made) event outcome each run step =
 run_more z mid after [] (o ∷ made) event outcome each run step = absurd (omega (arith, each))
 run_more z mid after (e ∷ events) [] event outcome each run step = absurd (omega (arith, each))
 
-sound_more : (z mid after : State) (events : List Event) (made : List Outcome) (event : Event) (outcome : Outcome)
-    → length made ≡ length events → SoundRun z (zip events made) mid → Step mid event outcome after → Sound after
-    → SoundRun z (zip (events ++ event ∷ []) (made ++ outcome ∷ [])) after
-sound_more z mid after [] [] event outcome each run step is =
-    (after, subst (λ (s : State). Step s event outcome after) run step, is, refl)
-sound_more z mid after (e ∷ events) (o ∷ made) event outcome each run step is =
-    (run.0, run.1, run.2, sound_more run.0 mid after events made event outcome (omega (arith, each)) run.3 step is)
-sound_more z mid after [] (o ∷ made) event outcome each run step is = absurd (omega (arith, each))
-sound_more z mid after (e ∷ events) [] event outcome each run step is = absurd (omega (arith, each))
+steps_more : (old mid new : Running) (events : List Event) (made : List Outcome) (event : Event)
+    (outcome : Outcome) → length made ≡ length events → RunningRun old (zip events made) mid
+    → RunningStep mid event outcome new
+    → RunningRun old (zip (events ++ event ∷ []) (made ++ outcome ∷ [])) new
+steps_more old mid new [] [] event outcome each run step =
+    (new, subst (λ (r : Running). RunningStep r event outcome new) run step, refl)
+steps_more old mid new (e ∷ events) (o ∷ made) event outcome each run step =
+    (run.0, run.1, steps_more run.0 mid new events made event outcome (omega (arith, each)) run.2 step)
+steps_more old mid new [] (o ∷ made) event outcome each run step = absurd (omega (arith, each))
+steps_more old mid new (e ∷ events) [] event outcome each run step = absurd (omega (arith, each))
 
-pub runs_on : (z mid after : State) (events : List Event) (i : ℕ) (event : Event) (old now : List Outcome) (outcome : Outcome)
-    → i < length events → event ≡ get_or events i event → RunsOn z (take i events) old now mid → Step mid event outcome after → Sound after
-    → RunsOn z (take (i + 1) events) old (now ++ outcome ∷ []) after
-runs_on z mid after events i event old now outcome below is run step sound =
+pub runs_on : (old mid new : Running) (events : List Event) (i : ℕ) (event : Event)
+    (before now : List Outcome) (outcome : Outcome)
+    → i < length events → event ≡ get_or events i event → RunsOn old (take i events) before now mid
+    → RunningStep mid event outcome new
+    → RunsOn old (take (i + 1) events) before (now ++ outcome ∷ []) new
+runs_on old mid new events i event before now outcome below is run step =
     let longer : take (i + 1) events ≡ take i events ++ event ∷ [] =
     take_more events i event below ∙ ap (λ e. take i events ++ e ∷ []) (sym is) in
     record {
       made = run.made ++ outcome ∷ [];
-      added = ap (λ os. os ++ outcome ∷ []) run.added ∙ append_assoc old run.made (outcome ∷ []);
+      added = ap (λ os. os ++ outcome ∷ []) run.added ∙ append_assoc before run.made (outcome ∷ []);
       each = rw longer (omega (arith, run.each, length-append run.made (outcome ∷ []), length-append (take i events) (event ∷ [])));
-      run = subst (λ (es : List Event). Run z (zip es (run.made ++ outcome ∷ [])) after) (sym longer)
-          (run_more z mid after (take i events) run.made event outcome run.each run.run step);
-      sound = subst (λ (es : List Event). SoundRun z (zip es (run.made ++ outcome ∷ [])) after) (sym longer)
-          (sound_more z mid after (take i events) run.made event outcome run.each run.sound step sound);
+      run = subst (λ (es : List Event). Run old.state (zip es (run.made ++ outcome ∷ [])) new.state)
+          (sym longer) (run_more old.state mid.state new.state (take i events) run.made event outcome
+          run.each run.run step.step);
+      steps = subst (λ (es : List Event). RunningRun old (zip es (run.made ++ outcome ∷ [])) new)
+          (sym longer) (steps_more old mid new (take i events) run.made event outcome run.each run.steps
+          step);
     }

@@ -17,7 +17,7 @@ use Rattle.ras_core.specs.declared.outcome.Note.TheVariants as note
 use Rattle.ras_core.specs.declared.outcome.Outcome.{Outcome}
 use Rattle.ras_module.specs.declared.request.Request.{Request}
 use Rattle.ras_module.specs.declared.request.Request.TheVariants.{Irr}
-use Rattle.ras_core.specs.State.{State, Last}
+use Rattle.ras_core.specs.State.{State, Running, Last}
 use Rattle.ras_core.specs.Soundness.{IsLentTo, Sound}
 use Rattle.ras_core.specs.Pools.{figures_at}
 use Rattle.ras_core.specs.Plans.{Ask, Plan, Settled, Naming, Asking}
@@ -77,32 +77,6 @@ abbrev pub Run : State → List (Event × Outcome) → State → Type 0
 Run z [] after = after ≡ z
 Run z (entry ∷ entries) after = (mid : State) × Step z entry.0 entry.1 mid × Run mid entries after
 
--- a run whose every state is sound
-abbrev pub SoundRun : State → List (Event × Outcome) → State → Type 0
-SoundRun s [] after = after ≡ s
-SoundRun s (entry ∷ entries) after =
-    (mid : State) × Step s entry.0 entry.1 mid × Sound mid × SoundRun mid entries after
-
--- this holds of each state that such a run comes to
-abbrev pub EachState : (P : State → Type 0) (s : State) (entries : List (Event × Outcome)) (after : State)
-    → SoundRun s entries after → Type 0
-EachState P s [] after run = Unit {0}
-EachState P s (entry ∷ entries) after run = P run.0 × EachState P run.0 entries after run.3
-
--- bandwidth in use is within the zone's limit, and each pool has lent what its calls use
-pub record IsWithinLimit (s : State) : Type 0 where
-  pub limit : in_use s.zone.calls ≤ s.zone.config.limit
-  pub lent : IsLentTo s.zone.pools s.zone.calls
-
--- What was added to the outcomes is one outcome for each event, and with the events it is a run, of
--- which every state is sound.
-pub record RunsOn (z : State) (events : List Event) (old new : List Outcome) (after : State) : Type 0 where
-  pub made : List Outcome
-  pub added : new ≡ old ++ made
-  pub each : length made ≡ length events
-  pub run : Run z (zip events made) after
-  pub sound : SoundRun z (zip events made) after
-
 -- which pool is asked for how many units, where one is
 abbrev pub ask_in_plan : Plan → Option Ask
 ask_in_plan (Settled served) = None
@@ -124,6 +98,43 @@ lasts_after lasts None answer = lasts
 abbrev pub HasFewOctets : Option Datagram → Type 0
 HasFewOctets None = Unit {0}
 HasFewOctets (Some datagram) = length datagram.bytes ≤ 20000
+
+-- One step of a gatekeeper as it runs: the machine makes it; the pool that is asked has that request, with
+-- the outcome's answer, as its last one, and no other pool's last request changes; what is sent has at
+-- most 20,000 octets; and the state after it is sound.
+pub record RunningStep (old : Running) (event : Event) (outcome : Outcome) (new : Running) : Type 0 where
+  pub step : Step old.state event outcome new.state
+  pub lasts : new.lasts
+      ≡ lasts_after old.lasts (ask_in (course old.state event (choices_of outcome))) outcome.answer
+  pub few : HasFewOctets outcome.output
+  pub sound : Sound new.state
+
+-- such steps, one after the other
+abbrev pub RunningRun : Running → List (Event × Outcome) → Running → Type 0
+RunningRun old [] new = new ≡ old
+RunningRun old (entry ∷ entries) new =
+    (mid : Running) × RunningStep old entry.0 entry.1 mid × RunningRun mid entries new
+
+-- this holds of each state that such a run comes to
+abbrev pub EachState : (P : State → Type 0) (old : Running) (entries : List (Event × Outcome))
+    (new : Running) → RunningRun old entries new → Type 0
+EachState P old [] new run = Unit {0}
+EachState P old (entry ∷ entries) new run = P run.0.state × EachState P run.0 entries new run.2
+
+-- bandwidth in use is within the zone's limit, and each pool has lent what its calls use
+pub record IsWithinLimit (s : State) : Type 0 where
+  pub limit : in_use s.zone.calls ≤ s.zone.config.limit
+  pub lent : IsLentTo s.zone.pools s.zone.calls
+
+-- What was added to the outcomes is one outcome for each event, and with the events it is a run of the
+-- machine, which the gatekeeper made step by step.
+pub record RunsOn (old : Running) (events : List Event) (before now : List Outcome) (new : Running)
+    : Type 0 where
+  pub made : List Outcome
+  pub added : now ≡ before ++ made
+  pub each : length made ≡ length events
+  pub run : Run old.state (zip events made) new.state
+  pub steps : RunningRun old (zip events made) new
 
 -- a request that has a reply: any but an InfoRequestResponse
 abbrev pub HasReply : Request → Type 0

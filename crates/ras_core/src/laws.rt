@@ -9,10 +9,10 @@ ghost use Rattle.ras_codec.specs.Replies.{encoding_of};
 ghost use Rattle.kept_replies.specs.declared.entry.KeptEntry.{KeptEntry};
 ghost use Rattle.kept_replies.specs.Kept.{reply_in};
 ghost use Rattle.ras_core.specs.declared.outcome.Outcome.{Outcome};
-ghost use Rattle.ras_core.specs.State.{State};
+ghost use Rattle.ras_core.specs.State.{Running, State};
 ghost use Rattle.ras_core.specs.Keeping.{is_repeat};
 ghost use Rattle.ras_core.specs.Turns.{IsNothingDueIn};
-ghost use Rattle.ras_core.specs.Steps.{EachState, HasReply, IsWithinLimit, SoundRun, Step};
+ghost use Rattle.ras_core.specs.Steps.{EachState, HasReply, IsWithinLimit, RunningRun, Step};
 
 use crate::event::Event;
 use crate::outcome::Note;
@@ -39,9 +39,9 @@ pub fn a_turn_is_idle_only_where_nothing_is_due()
         → IsNothingDueIn s (max s.clock moment) }
 {}
 
-/// In every state that a sound run comes to, bandwidth in use, the sum over the calls, is within the
-/// zone's limit, and each pool has lent what its calls use. The runs of `Zone::run` are sound.
+/// In every state that a run of `Zone::run` comes to, bandwidth in use, the sum over the calls, is
+/// within the zone's limit, and each pool has lent what its calls use.
 pub fn bandwidth_is_within_the_limit_all_along()
-    ensures { (s : State) (entries : List (Event × Outcome)) (after : State)
-        (run : SoundRun s entries after) → EachState IsWithinLimit s entries after run }
+    ensures { (old : Running) (entries : List (Event × Outcome)) (new : Running)
+        (run : RunningRun old entries new) → EachState IsWithinLimit old entries new run }
 {}

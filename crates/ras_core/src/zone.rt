@@ -163,11 +163,11 @@ impl<P: Pool> Zone<P> {
         events: &[Event],
         outcomes: &mut Vec<Outcome>,
     ) -> Result<(), (usize, StepFault)>
-        ensures ok { OnOk result (RunsOn self.old.state events.now
-            outcomes.old.items outcomes.new.items self.new.state) }
+        ensures ok { OnOk result (RunsOn self.old events.now
+            outcomes.old.items outcomes.new.items self.new) }
         ensures index { IfErr result (λ fault. fault.0 < length events.now) }
-        ensures err { IfErr result (λ fault. RunsOn self.old.state (take fault.0 events.now)
-            outcomes.old.items outcomes.new.items self.new.state) }
+        ensures err { IfErr result (λ fault. RunsOn self.old (take fault.0 events.now)
+            outcomes.old.items outcomes.new.items self.new) }
         ensures closed { IfErr result (λ fault.
             (fault.1 ≡ StepFault.Closed) ↔ (self.new.state.steps ≡ most_steps)) }
         ensures sound { Sound self.new.state }

@@ -7,8 +7,8 @@ use Rattle.pools.specs.Accounts.{pool_fault}
 use Rattle.ras_core.specs.declared.config.ConfigParts.{ConfigParts}
 use Rattle.ras_core.specs.declared.event.Event.{Event}
 use Rattle.ras_core.specs.declared.outcome.Outcome.{Outcome}
-use Rattle.ras_core.specs.State.{State, opening}
-use Rattle.ras_core.specs.Pools.{figures_of}
+use Rattle.ras_core.specs.State.{Running, opening}
+use Rattle.ras_core.specs.Pools.{figures_of, lasts_of}
 use Rattle.ras_core.specs.Machine.{most_steps}
 use Rattle.ras_core.specs.Steps.{RunsOn}
 use Rattle.script.specs.declared.fault.RunFault.{RunFault}
@@ -22,19 +22,23 @@ are_pools_of config pools =
     is_none (pool_fault pools) && length pools == length config.networks
 
 -- the zone of a script before its first event, with these pools
-abbrev pub start_of : ConfigParts → List Account → State
-start_of config pools = opening config (figures_of pools)
+abbrev pub start_of : ConfigParts → List Account → Running
+start_of config pools = record {
+  state = opening config (figures_of pools);
+  lasts = lasts_of pools;
+}
 
--- These events were run from this state to the zone that is there after them, and what was written
--- is just the lines of their outcomes.
-pub record RunsAndPrints (start : State) (events : List Event) (after : State)
+-- These events were run from this zone to the one that is there after them, and what was written is
+-- just the lines of their outcomes.
+pub record RunsAndPrints (start : Running) (events : List Event) (after : Running)
     (old new : Option (List ℕ)) : Type 0 where
   pub outcomes : List Outcome
   pub run : RunsOn start events [] outcomes after
   pub lines : Appends old new (outcome_lines outcomes)
 
 -- the events before the n-th were run and printed, and the zone stands after them
-abbrev pub StopsAt : ℕ → State → List Event → State → Option (List ℕ) → Option (List ℕ) → Type 0
+abbrev pub StopsAt : ℕ → Running → List Event → Running → Option (List ℕ) → Option (List ℕ)
+    → Type 0
 StopsAt zero start events after old new = ⊥
 StopsAt (suc before) start events after old new =
     (before < length events) × RunsAndPrints start (take before events) after old new
@@ -42,19 +46,22 @@ StopsAt (suc before) start events after old new =
 -- All events were run and printed; or those before the one that is named, which found no memory,
 -- or found the zone closed. Nothing was written where there was no memory for the zone itself, nor
 -- where the pools are not the script's.
-abbrev pub IsRunOf : State → List Event → Option (List ℕ) → Option (List ℕ) → Result Unit RunFault → Type 0
+abbrev pub IsRunOf : Running → List Event → Option (List ℕ) → Option (List ℕ)
+    → Result Unit RunFault → Type 0
 IsRunOf start events old new (Ok done) =
-    (after : State) × RunsAndPrints start events after old new
+    (after : Running) × RunsAndPrints start events after old new
 IsRunOf start events old new (Err (Memory zero)) = Keeps old new
 IsRunOf start events old new (Err (Memory (suc before))) =
-    (after : State) × StopsAt (suc before) start events after old new
-    × (after.steps ≡ most_steps → ⊥)
+    (after : Running) × StopsAt (suc before) start events after old new
+    × (after.state.steps ≡ most_steps → ⊥)
 IsRunOf start events old new (Err (Closed event)) =
-    (after : State) × StopsAt event start events after old new × (after.steps ≡ most_steps)
+    (after : Running) × StopsAt event start events after old new
+    × (after.state.steps ≡ most_steps)
 IsRunOf start events old new (Err Stream) = Unit {0}
 IsRunOf start events old new (Err WrongPools) = Keeps old new
 
 -- what a run of a script with these pools answers
-abbrev pub IsRunAnswer : Script → List Account → Option (List ℕ) → Option (List ℕ) → Result Unit RunFault → Type 0
+abbrev pub IsRunAnswer : Script → List Account → Option (List ℕ) → Option (List ℕ)
+    → Result Unit RunFault → Type 0
 IsRunAnswer script pools old new answer =
     IsRunOf (start_of script.config pools) script.events old new answer

@@ -14,7 +14,7 @@ use std::io::Write;
 /// The zone of a script before its first event.
 fn zone_of<P: Pool>(alloc: Global, config: Config, pools: Vec<P>) -> Result<Zone<P>, RunFault>
     ensures start { IfOk result
-        (λ zone. zone.state ≡ start_of config (map P.account pools.items)) }
+        (λ zone. zone ≡ start_of config (map P.account pools.items)) }
     ensures pools { IfOk result (λ _. are_pools_of config (map P.account pools.items) ≡ true) }
     ensures wrong { IfErr result (λ fault. ((fault ≡ RunFault.WrongPools)
         × (are_pools_of config (map P.account pools.items) ≡ false))

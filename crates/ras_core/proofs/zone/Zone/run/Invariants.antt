@@ -6,6 +6,6 @@ use Rattle.ras_core.proofs.zone.Zone.run.Given as goal
 -- the events so far, with the outcomes that were appended, are a run
 abbrev pub invariant-loop-i : goal.invariant-loop-i
 invariant-loop-i g l = record {
-  run : RunsOn l.fn.self.state (take l.i l.events) l.fn.outcomes.items l.outcomes.items l.self.state;
+  run : RunsOn l.fn.self (take l.i l.events) l.fn.outcomes.items l.outcomes.items l.self;
   sound : Sound l.self.state;
 }
