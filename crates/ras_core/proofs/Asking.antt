@@ -22,7 +22,7 @@ use Rattle.ras_core.specs.Plans.{Served, Plan, Asking}
 use Rattle.ras_core.specs.Pools.{figures_at, pools_after_answer}
 use Rattle.ras_core.specs.Requests.{seq_of}
 use Rattle.ras_core.specs.Keeping.{Progress, Task, answered, answered_by, in_progress, kept_as, plan_at, term_of, waits, with_answered_pool}
-use Rattle.ras_core.specs.Machine.{Answer, Serving, ended, note_at, plan_answer}
+use Rattle.ras_core.specs.Machine.{Ending, Serving, ended, note_at, plan_ending}
 use Rattle.ras_core.specs.inside.Decisions.{Asks, ask_of, calls_after_answer, granted_by, refused_by, reply_of}
 use Rattle.ras_core.specs.inside.Changes.{heard_at}
 use Rattle.ras_core.specs.Soundness.{AreBornBefore, HasCounts}
@@ -76,7 +76,7 @@ module _ (s : State) (lasts : List Last) (now : ℕ) (key : KeptKey) (request : 
     lasts = (asked_zone occasion answer).lasts;
   }
 
-  abbrev asked_answer : Occasion → Lend → Bool → Reply → Answer
+  abbrev asked_answer : Occasion → Lend → Bool → Reply → Ending
   asked_answer occasion answer w reply =
       Some (asked_outcome occasion answer reply, (asked_running occasion answer w reply).state)
 
@@ -87,33 +87,33 @@ module _ (s : State) (lasts : List Last) (now : ℕ) (key : KeptKey) (request : 
       then in_progress s.zone.config.delay request refused
       else answered (answered_by lent refused answer))
 
-  abbrev came_to : Occasion → (ℕ → Served) → Served → Lend → Bool → Answer
+  abbrev came_to : Occasion → (ℕ → Served) → Served → Lend → Bool → Ending
   came_to occasion lent refused answer w =
       ended s now (asked_task occasion) None (Some answer) (progress lent refused answer w)
 
   -- a reply to a request that is answered at once, or in progress
   lent_now : (occasion : Occasion) (units : ℕ)
-      → plan_answer s now (asked_task occasion) (plan_at occasion now (Some id) asking)
+      → plan_ending s now (asked_task occasion) (plan_at occasion now (Some id) asking)
       (choices_of (asked_outcome occasion (Lent units) (reply_of q (Lent units) false s.zone.config.delay)))
       ≡ asked_answer occasion (Lent units) false (reply_of q (Lent units) false s.zone.config.delay)
   lent_now First units = refl
   lent_now (Again born left) units = refl
 
   refused_now : (occasion : Occasion)
-      → plan_answer s now (asked_task occasion) (plan_at occasion now (Some id) asking)
+      → plan_ending s now (asked_task occasion) (plan_at occasion now (Some id) asking)
       (choices_of (asked_outcome occasion Refused (reply_of q Refused false s.zone.config.delay)))
       ≡ asked_answer occasion Refused false (reply_of q Refused false s.zone.config.delay)
   refused_now First = refl
   refused_now (Again born left) = refl
 
   waits_at_first : seq_of request ≡ q.seq
-      → plan_answer s now (asked_task First) (plan_at First now (Some id) asking)
+      → plan_ending s now (asked_task First) (plan_at First now (Some id) asking)
       (choices_of (asked_outcome First Wait (reply_of q Wait true s.zone.config.delay)))
       ≡ asked_answer First Wait true (reply_of q Wait true s.zone.config.delay)
   waits_at_first seq = ap (λ n. asked_answer First Wait true (Rip n s.zone.config.delay)) seq
 
   waits_again : (born left : ℕ) (w : Bool) → waits (Again born left) Wait ≡ w → seq_of request ≡ q.seq
-      → plan_answer s now (asked_task (Again born left)) asking
+      → plan_ending s now (asked_task (Again born left)) asking
       (choices_of (asked_outcome (Again born left) Wait (reply_of q Wait w s.zone.config.delay)))
       ≡ asked_answer (Again born left) Wait w (reply_of q Wait w s.zone.config.delay)
   waits_again born left true is seq =
@@ -124,7 +124,7 @@ module _ (s : State) (lasts : List Last) (now : ℕ) (key : KeptKey) (request : 
 
   pub asked_by : (occasion : Occasion) (answer : Lend) (w : Bool) → w ≡ waits occasion answer
       → seq_of request ≡ q.seq
-      → plan_answer s now (asked_task occasion) (plan_at occasion now (Some id) asking)
+      → plan_ending s now (asked_task occasion) (plan_at occasion now (Some id) asking)
       (choices_of (asked_outcome occasion answer (reply_of q answer w s.zone.config.delay)))
       ≡ asked_answer occasion answer w (reply_of q answer w s.zone.config.delay)
   asked_by occasion (Lent units) false is seq = lent_now occasion units

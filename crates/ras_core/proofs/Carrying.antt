@@ -19,7 +19,7 @@ use Rattle.ras_core.specs.State.{Zone, State, Last, Running}
 use Rattle.ras_core.specs.inside.Parts.{RunningZone}
 use Rattle.ras_core.specs.Plans.{Served, Plan, Settled, Naming, Asking, with_heard}
 use Rattle.ras_core.specs.Keeping.{Task, answered, plan_at, with_reply}
-use Rattle.ras_core.specs.Machine.{Serving, ended, note_at, plan_answer}
+use Rattle.ras_core.specs.Machine.{Serving, ended, note_at, plan_ending}
 use Rattle.pools.specs.declared.interface.Figures.{Figures}
 use Rattle.ras_core.specs.inside.Decisions.{Decides, resolved}
 use Rattle.ras_core.specs.inside.Changes.{after_change, changed, heard_at}
@@ -80,19 +80,19 @@ module _ (s : State) (lasts : List Last) (now : ℕ) (key : KeptKey) (request : 
 
   pub answer_by : (occasion : Occasion) (endpoint : Option (List ℕ)) (plan : Plan) (given : Option (List ℕ))
       → resolved plan given ≡ Some served_by
-      → plan_answer s now (task_by occasion (plan_at occasion now endpoint plan))
+      → plan_ending s now (task_by occasion (plan_at occasion now endpoint plan))
       (plan_at occasion now endpoint plan) (choices_of (outcome_by occasion given))
       ≡ Some (outcome_by occasion given, state_by occasion endpoint)
   answer_by First None (Settled served) None is =
-      subst (λ (v : Served). plan_answer s now (task_by First (plan_at First now None (Settled v)))
+      subst (λ (v : Served). plan_ending s now (task_by First (plan_at First now None (Settled v)))
       (plan_at First now None (Settled v)) (choices_of (outcome_by First None))
       ≡ Some (outcome_by First None, state_by First None)) (sym (same_some served served_by is)) refl
   answer_by First (Some id) (Settled served) None is =
-      subst (λ (v : Served). plan_answer s now (task_by First (plan_at First now (Some id) (Settled v)))
+      subst (λ (v : Served). plan_ending s now (task_by First (plan_at First now (Some id) (Settled v)))
       (plan_at First now (Some id) (Settled v)) (choices_of (outcome_by First None))
       ≡ Some (outcome_by First None, state_by First (Some id))) (sym (same_some served served_by is)) refl
   answer_by (Again born left) endpoint (Settled served) None is =
-      subst (λ (v : Served). plan_answer s now (task_by (Again born left) (Settled v)) (Settled v)
+      subst (λ (v : Served). plan_ending s now (task_by (Again born left) (Settled v)) (Settled v)
       (choices_of (outcome_by (Again born left) None))
       ≡ Some (outcome_by (Again born left) None, state_by (Again born left) endpoint))
       (sym (same_some served served_by is)) refl

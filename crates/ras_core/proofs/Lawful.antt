@@ -22,7 +22,7 @@ use Rattle.ras_core.specs.Plans.{Plan}
 use Rattle.ras_core.specs.Requests.{plan_of}
 use Rattle.ras_core.specs.Keeping.{is_repeat}
 use Rattle.ras_core.specs.Turns.{IsNothingDueIn}
-use Rattle.ras_core.specs.Machine.{Answer, Course, Ignoring, Repeating, at_moment, course, course_answer, datagram_course, first, keyed_course, most_steps, planned_course, read_course, serving, turn_course}
+use Rattle.ras_core.specs.Machine.{Ending, Course, Ignoring, Repeating, at_moment, course, course_ending, datagram_course, first, keyed_course, most_steps, planned_course, read_course, serving, turn_course}
 use Rattle.ras_core.specs.Steps.{EachState, IsAllowed, HasReply, IsWithinLimit, RunningRun, Step, choices_of, item_of}
 use Rattle.ras_core.proofs.Retrying.{plan_there}
 
@@ -30,7 +30,7 @@ not_above : (n most : ℕ) → n ≤ most → nat_lt most n ≡ false
 not_above n most few = grind (arith, nat_tests)
 
 -- what a machine answers comes of its course
-answered : (steps : ℕ) (b : Bool) (now : ℕ) (answer : Answer) (outcome : Outcome) (after : State)
+answered : (steps : ℕ) (b : Bool) (now : ℕ) (answer : Ending) (outcome : Outcome) (after : State)
     → (if b then at_moment now (steps + 1) answer else None) ≡ Some (outcome, after)
     → at_moment now (steps + 1) answer ≡ Some (outcome, after)
 answered steps true now answer outcome after is = is
@@ -68,9 +68,9 @@ repeated s source bytes moment request entry outcome after few read served there
     let now = max s.clock moment in
     let choices = choices_of outcome in
     let made = answered s.steps (nat_lt s.steps most_steps) now
-    (course_answer s now (course s (event.Datagram source bytes moment) choices) choices) outcome after step.makes in
+    (course_ending s now (course s (event.Datagram source bytes moment) choices) choices) outcome after step.makes in
     let course_so = course_is s source bytes now request entry few read served there repeat choices.dropped in
-    let whole = sym (ap (λ (c : Course). at_moment now (s.steps + 1) (course_answer s now c choices)) course_so) ∙ made in
+    let whole = sym (ap (λ (c : Course). at_moment now (s.steps + 1) (course_ending s now c choices)) course_so) ∙ made in
     let parts = same_some _ (outcome, after) whole in (
       ap (λ (a : Outcome × State). a.0.output) (sym parts),
       ap (λ (a : Outcome × State). a.1) (sym parts),

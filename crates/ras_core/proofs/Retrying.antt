@@ -22,7 +22,7 @@ use Rattle.ras_core.specs.Plans.{Plan, Settled, Naming, Asking}
 use Rattle.ras_core.specs.Requests.{plan_of}
 use Rattle.ras_core.specs.Keeping.{Task}
 use Rattle.ras_core.specs.Turns.{IsDueIn}
-use Rattle.ras_core.specs.Machine.{Choices, Serving, again_course, note_at, plan_answer, retry_course, retry_in_course, serving, with_answer, with_name}
+use Rattle.ras_core.specs.Machine.{Choices, Serving, again_course, note_at, plan_ending, retry_course, retry_in_course, serving, with_answer, with_name}
 use Rattle.ras_core.specs.inside.Room.{IsDropped}
 use Rattle.ras_core.specs.inside.Serving.{Does, DropsFor, IsAgain, Serves}
 use Rattle.ras_core.specs.Steps.{HasReply, choices_of}
@@ -46,7 +46,7 @@ plan_there z now (Irr seq endpoint) h = absurd h
 
 -- what is noted where a request is served
 noted_by : (s : State) (now : ℕ) (task : Task) (plan : Plan) (choices : Choices) (outcome : Outcome) (after : State)
-    → plan_answer s now task plan choices ≡ Some (outcome, after) → outcome.note ≡ note_at task.job.occasion
+    → plan_ending s now task plan choices ≡ Some (outcome, after) → outcome.note ≡ note_at task.job.occasion
 noted_by s now task (Settled served) choices outcome after is =
     ap (λ (a : Outcome × State). a.0.note) (sym (same_some _ (outcome, after) is))
 noted_by s now task (Naming named) choices outcome after is = cases choices.given is where

@@ -152,11 +152,11 @@ abbrev pub course : State → Event → Choices → Course
 course s what choices = course_at s (moment_of s what) what choices
 
 -- an outcome, and the state that it leaves
-abbrev pub Answer : Type 0
-Answer = Option (Outcome × State)
+abbrev pub Ending : Type 0
+Ending = Option (Outcome × State)
 
 -- where no request is served: nothing was chosen, and this is the note
-abbrev pub noted : Note → Option Datagram → State → Answer
+abbrev pub noted : Note → Option Datagram → State → Ending
 noted what output s = Some (
   record { output = output; note = what; given = None; answer = None; dropped = None },
   s,
@@ -168,7 +168,7 @@ note_at First = note.Served
 note_at (Again born left) = note.Done (Retry born)
 
 -- a reply goes to where the datagram came from, and is kept
-abbrev pub ended : State → ℕ → Task → Option (List ℕ) → Option Lend → Progress → Answer
+abbrev pub ended : State → ℕ → Task → Option (List ℕ) → Option Lend → Progress → Ending
 ended s now task given answer p = Some (
   record {
     output = Some (record { to = task.job.key.source; bytes = encoding_of p.served.reply });
@@ -180,11 +180,11 @@ ended s now task given answer p = Some (
   record s { zone = p.served.zone; kept = kept_after s now task p },
 )
 
-abbrev pub with_name : State → ℕ → Task → (List ℕ → Served) → Option (List ℕ) → Answer
+abbrev pub with_name : State → ℕ → Task → (List ℕ → Served) → Option (List ℕ) → Ending
 with_name s now task named None = None
 with_name s now task named (Some id) = ended s now task (Some id) None (answered (named id))
 
-abbrev pub with_answer : State → ℕ → Task → Ask → (ℕ → Served) → Served → Option Lend → Answer
+abbrev pub with_answer : State → ℕ → Task → Ask → (ℕ → Served) → Served → Option Lend → Ending
 with_answer s now task ask lent refused None = None
 with_answer s now task ask lent refused (Some answer) =
     ended s now task None (Some answer) (with_answered_pool s.zone ask answer
@@ -192,25 +192,25 @@ with_answer s now task ask lent refused (Some answer) =
 
 -- a request is served with what was chosen; there is no answer where a choice that it calls for
 -- wasn't made
-abbrev pub plan_answer : State → ℕ → Task → Plan → Choices → Answer
-plan_answer s now task (Settled served) choices = ended s now task None None (answered served)
-plan_answer s now task (Naming named) choices = with_name s now task named choices.given
-plan_answer s now task (Asking ask lent refused) choices =
+abbrev pub plan_ending : State → ℕ → Task → Plan → Choices → Ending
+plan_ending s now task (Settled served) choices = ended s now task None None (answered served)
+plan_ending s now task (Naming named) choices = with_name s now task named choices.given
+plan_ending s now task (Asking ask lent refused) choices =
     with_answer s now task ask lent refused choices.answer
 
-abbrev pub course_answer : State → ℕ → Course → Choices → Answer
-course_answer s now (Ignoring cause) choices = noted (note.Ignored cause) None s
-course_answer s now (Hearing endpoint) choices = noted note.Served None
+abbrev pub course_ending : State → ℕ → Course → Choices → Ending
+course_ending s now (Ignoring cause) choices = noted (note.Ignored cause) None s
+course_ending s now (Hearing endpoint) choices = noted note.Served None
     (record s { zone = with_live s.zone (heard_now now endpoint s.zone.live) })
-course_answer s now (Repeating source reply) choices =
+course_ending s now (Repeating source reply) choices =
     noted note.Kept (Some (record { to = source; bytes = encoding_of reply })) s
-course_answer s now (Serving task) choices = plan_answer s now task task.plan choices
-course_answer s now (Doing item) choices =
+course_ending s now (Serving task) choices = plan_ending s now task task.plan choices
+course_ending s now (Doing item) choices =
     noted (note.Done item) (effect s now item).output (effect s now item).state
-course_answer s now Idle choices = noted note.Idle None s
+course_ending s now Idle choices = noted note.Idle None s
 
 -- the clock stands at now, and so many steps are made
-abbrev pub at_moment : ℕ → ℕ → Answer → Answer
+abbrev pub at_moment : ℕ → ℕ → Ending → Ending
 at_moment now steps None = None
 at_moment now steps (Some answer) = Some (answer.0, record answer.1 { clock = now; steps = steps })
 
@@ -220,9 +220,9 @@ most_steps = 2 ^ 62
 
 -- One event, with what was chosen in its step: its outcome and the state after it. There is none
 -- where the gatekeeper is closed, nor where a choice that is called for wasn't made.
-abbrev pub machine : State → Event → Choices → Answer
+abbrev pub machine : State → Event → Choices → Ending
 machine s what choices =
     if nat_lt s.steps most_steps
     then at_moment (moment_of s what) (s.steps + 1)
-    (course_answer s (moment_of s what) (course s what choices) choices)
+    (course_ending s (moment_of s what) (course s what choices) choices)
     else None

@@ -98,10 +98,10 @@ unless_held z now q e [] = entering z now q e (at_address z.live e.call_signal)
 unless_held z now q e (alias ∷ held) = rejection z q (DuplicateAlias (alias ∷ held))
 
 -- a full registration, with these addresses and distinct aliases
-abbrev pub full : Zone → ℕ → Registering → Option Address → Option Address → List Alias → Plan
-full z now q None ras aliases = rejection z q InvalidCallSignalAddress
-full z now q (Some call_signal) None aliases = rejection z q InvalidRasAddress
-full z now q (Some call_signal) (Some ras) aliases =
+abbrev pub full_registration : Zone → ℕ → Registering → Option Address → Option Address → List Alias → Plan
+full_registration z now q None ras aliases = rejection z q InvalidCallSignalAddress
+full_registration z now q (Some call_signal) None aliases = rejection z q InvalidRasAddress
+full_registration z now q (Some call_signal) (Some ras) aliases =
     if nat_lt 32 (length aliases)
     then rejection z q ResourceUnavailable
     else unless_held z now q (record { call_signal = call_signal; ras = ras; aliases = aliases })
@@ -112,4 +112,4 @@ abbrev pub registration : Zone → ℕ → Registering → Plan
 registration z now q =
     if is_foreign z q.gatekeeper then rejection z q DiscoveryRequired
     else if q.keep_alive then keep_alive z now q (named z q.endpoint)
-    else full z now q q.call_signal q.ras (without_doubles q.aliases)
+    else full_registration z now q q.call_signal q.ras (without_doubles q.aliases)

@@ -5,7 +5,7 @@ ghost use Rattle.ras_module.specs.Aliases.{without_doubles};
 ghost use Rattle.registrations.specs.Registry.{at_address};
 ghost use Rattle.registrations.specs.Agreement.{registered_elsewhere};
 ghost use Rattle.ras_core.specs.Registering.{confirmation, deadline, granted, has_moved};
-ghost use Rattle.ras_core.specs.Registering.{entering, full, keep_alive, named, registration};
+ghost use Rattle.ras_core.specs.Registering.{entering, full_registration, keep_alive, named, registration};
 ghost use Rattle.ras_core.specs.inside.Decisions.{Decides};
 ghost use Rattle.ras_core.specs.Fresh.{IsFreshFor};
 
@@ -87,8 +87,9 @@ impl<P: Pool> Services<P> {
         q: &Registering,
         kept: &Kept,
     ) -> Result<Decision, AllocError>
-        ensures decides { IfOk result (Decides self.now.zone now (full self.now.zone now q.now
-            q.now.call_signal q.now.ras (without_doubles q.now.aliases))) }
+        ensures decides { IfOk result (Decides self.now.zone now
+            (full_registration self.now.zone now q.now q.now.call_signal q.now.ras
+            (without_doubles q.now.aliases))) }
         ensures fresh { IfOk result (λ d.
             IfSome d.given (IsFreshFor self.now.zone.live kept.now.kept)) }
     {

@@ -18,7 +18,7 @@ use Rattle.ras_core.specs.Plans.{Plan}
 use Rattle.ras_core.specs.Requests.{plan_of}
 use Rattle.ras_core.specs.inside.Room.{IsDropped}
 use Rattle.ras_core.specs.Turns.{IsDueIn}
-use Rattle.ras_core.specs.Machine.{Course, Doing, course_answer, retry_course, serving}
+use Rattle.ras_core.specs.Machine.{Course, Doing, course_ending, retry_course, serving}
 use Rattle.ras_core.specs.declared.calling.Admission.{Admission}
 use Rattle.ras_core.specs.declared.calling.BandwidthChange.{BandwidthChange}
 use Rattle.ras_core.specs.declared.calling.Disengagement.{Disengagement}
@@ -49,7 +49,7 @@ CountsOneMore old new = (most : ℕ) → All (HasCounts most) old → All (HasCo
 -- What a course comes to, before the clock and the number of steps are set.
 pub record Does (old : Running) (now : ℕ) (c : Course) (outcome : Outcome) (new : Running) : Type 0 where
   pub allowed : IsAllowed old.state now c (choices_of outcome)
-  pub makes : course_answer old.state now c (choices_of outcome) ≡ Some (outcome, new.state)
+  pub makes : course_ending old.state now c (choices_of outcome) ≡ Some (outcome, new.state)
   pub lasts : new.lasts ≡ lasts_after old.lasts (ask_in c) outcome.answer
   pub counts : CountsOneMore old.state.zone.pools new.state.zone.pools
   pub births : AreBornBefore old.state.steps old.state.kept
