@@ -222,7 +222,8 @@ fn script_of(alloc: Global, text: &[u8]) -> Result<Script, Trouble> {
     }
 }
 
-/// Makes the pools of a script, and runs it over them.
+/// Makes the pools of a script, and runs it over them. The program makes them so too: no library may make
+/// a box and hand it out.
 fn try_rehearsal(rt: &impl Print, alloc: Global, text: &[u8], way: Way) -> Result<(), Trouble> {
     let script = script_of(alloc, text)?;
     let mut pools: Vec<Box<dyn Pool + Send>> = Vec::new(alloc);
