@@ -26,7 +26,7 @@ use Rattle.ras_core.specs.inside.Changes.{after_change, changed, heard_at}
 use Rattle.ras_core.specs.inside.Room.{IsPlaced}
 use Rattle.ras_core.specs.Soundness.{AreBornBefore}
 use Rattle.ras_core.specs.inside.Serving.{CountsOneMore, Does, IsJob, IsOccasion}
-use Rattle.ras_core.specs.Steps.{IsFresh, IsTimely, MayChoose, ask_in_plan, choices_of, lasts_after}
+use Rattle.ras_core.specs.Steps.{IsUnusedIn, IsTimely, MayChoose, ask_in_plan, choices_of, lasts_after}
 use Rattle.ras_core.proofs.ButLent.{counts_same, same_after_change}
 use Rattle.ras_core.proofs.Dropping.{born_with_reply}
 
@@ -110,13 +110,13 @@ module _ (s : State) (lasts : List Last) (now : ℕ) (key : KeptKey) (request : 
   answer_by occasion endpoint (Asking ask lent refused) given is = absurd (cc is)
 
   pub may_choose : (occasion : Occasion) (endpoint : Option (List ℕ)) (plan : Plan) (given : Option (List ℕ))
-      → resolved plan given ≡ Some served_by → IfSome given (IsFresh s)
+      → resolved plan given ≡ Some served_by → IfSome given (IsUnusedIn s)
       → MayChoose s (plan_at occasion now endpoint plan) (choices_of (outcome_by occasion given))
-  may_choose First endpoint (Settled served) given is fresh = tt
-  may_choose (Again born left) endpoint (Settled served) given is fresh = tt
-  may_choose First endpoint (Naming named) given is fresh = fresh
-  may_choose (Again born left) endpoint (Naming named) given is fresh = fresh
-  may_choose occasion endpoint (Asking ask lent refused) given is fresh = absurd (cc is)
+  may_choose First endpoint (Settled served) given is unused = tt
+  may_choose (Again born left) endpoint (Settled served) given is unused = tt
+  may_choose First endpoint (Naming named) given is unused = unused
+  may_choose (Again born left) endpoint (Naming named) given is unused = unused
+  may_choose occasion endpoint (Asking ask lent refused) given is unused = absurd (cc is)
 
   pub nothing_asked : (occasion : Occasion) (endpoint : Option (List ℕ)) (plan : Plan) (given : Option (List ℕ))
       → resolved plan given ≡ Some served_by → ask_in_plan (plan_at occasion now endpoint plan) ≡ None
@@ -145,13 +145,13 @@ module _ (s : State) (lasts : List Last) (now : ℕ) (key : KeptKey) (request : 
   }
 
   pub does_by : (occasion : Occasion) (endpoint : Option (List ℕ)) (plan : Plan) (given : Option (List ℕ))
-      → resolved plan given ≡ Some served_by → IfSome given (IsFresh s) → IsTimely s now dropped occasion
+      → resolved plan given ≡ Some served_by → IfSome given (IsUnusedIn s) → IsTimely s now dropped occasion
       → AreBornBefore s.steps s.kept → length (encoding_of reply) ≤ 20000
       → Does (record { state = s; lasts = lasts }) now
       (Serving (task_by occasion (plan_at occasion now endpoint plan)))
       (outcome_by occasion given) (running_by occasion endpoint)
-  does_by occasion endpoint plan given is fresh timely before few = record {
-    allowed = (timely, may_choose occasion endpoint plan given is fresh);
+  does_by occasion endpoint plan given is unused timely before few = record {
+    allowed = (timely, may_choose occasion endpoint plan given is unused);
     makes = answer_by occasion endpoint plan given is;
     lasts = lasts_stay occasion endpoint
         ∙ sym (ap (λ ask. lasts_after lasts ask None) (nothing_asked occasion endpoint plan given is));
@@ -164,7 +164,7 @@ module _ (s : State) (lasts : List Last) (now : ℕ) (key : KeptKey) (request : 
 -- The same, of what the code has.
 pub does_carried : (old : Running) (now : ℕ) (job : Job) (endpoint : Option (List ℕ)) (d : Decision)
     (dropped : Option ℕ) (services : RunningZone) (kept : KeptReplies)
-    → IfSome d.given (IsFresh old.state) → IsJob old.state now job → AreBornBefore old.state.steps old.state.kept
+    → IfSome d.given (IsUnusedIn old.state) → IsJob old.state now job → AreBornBefore old.state.steps old.state.kept
     → IfSome dropped (Passes (is_over now) old.state.kept) → length (encoding_of d.reply) ≤ 20000
     → services ≡ zone_after old.state.zone old.lasts now job.occasion endpoint d.change
     → kept ≡ with_reply old.state.kept job.key job.occasion dropped old.state.steps d.reply
@@ -185,7 +185,7 @@ pub does_carried : (old : Running) (now : ℕ) (job : Job) (endpoint : Option (L
       state = record old.state { zone = services.zone; kept = kept };
       lasts = services.lasts;
     })
-does_carried old now job endpoint d dropped services kept fresh may before over few services_is kept_is plan request decides =
+does_carried old now job endpoint d dropped services kept unused may before over few services_is kept_is plan request decides =
     let s = old.state in
     let course = Serving (record {
       job = job;
@@ -203,4 +203,4 @@ does_carried old now job endpoint d dropped services kept fresh may before over 
       lasts = (zone_after s.zone old.lasts now job.occasion endpoint d.change).lasts;
     })) (sym kept_is)
     (does_by s old.lasts now job.key request dropped d.reply d.change job.occasion endpoint plan d.given
-    decides.is fresh (timely_of s now job.key job.occasion dropped may over) before few))
+    decides.is unused (timely_of s now job.key job.occasion dropped may over) before few))

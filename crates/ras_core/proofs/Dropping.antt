@@ -2,7 +2,7 @@
 use Rattle.std.proofs.Common.{Bor, ◌≡◌, ◌<◌, ◌+◌, ℕ, Bool, true, false, refl, sym, ◌∙◌, ap, subst, Some, None, arith}
 use Rattle.std.specs.Prelude.{Option, IfSome, Contains, List, ◌↔◌, is_some}
 use Rattle.registrations.specs.Registry.{Live, IsUnused}
-use Rattle.ras_core.specs.Fresh.{IsFreshFor}
+use Rattle.ras_core.specs.Unused.{IsUnusedFor}
 use Rattle.std.specs.Option.{IsSomeAnd, option_copied, option_map}
 use Rattle.std.specs.FinMap as fin
 use Rattle.keyed.specs.Maps.{update}
@@ -98,10 +98,10 @@ module _ (kept : KeptReplies) (steps : ℕ) (before : AreBornBefore steps kept) 
   born_with_request key (Again first left) dropped request reply retry times =
       born_updated key (postponed retry) (λ e. refl)
 
--- an identifier that no endpoint has, and none of those that are named, is fresh
-pub fresh : (live : Live) (kept : KeptReplies) (named : List (List ℕ)) (id : List ℕ)
-    → ((id : List ℕ) → Contains named id ↔ IsNamed kept id) → IsUnused live named id → IsFreshFor live kept id
-fresh live kept named id iff unused = record {
+-- an identifier that no endpoint has, and none of those that are named, is unused
+pub unused_for : (live : Live) (kept : KeptReplies) (named : List (List ℕ)) (id : List ℕ)
+    → ((id : List ℕ) → Contains named id ↔ IsNamed kept id) → IsUnused live named id → IsUnusedFor live kept id
+unused_for live kept named id iff unused = record {
   unused = record {
     not_live = unused.not_live;
     not_taken = λ none. absurd (omega (arith, none.1));

@@ -37,22 +37,25 @@ noted_outcome what output = record {
   given = None;
 }
 
--- an item is done
-module _ (old : Running) (now : ℕ) (item : DueItem) (due : IsDueIn old.state now item) where
-  pub does_item : (output : Option Datagram) (new : Running)
-      → (effect old.state now item).output ≡ output → (effect old.state now item).state ≡ new.state
-      → new.lasts ≡ old.lasts → AreSameButLent old.state.zone.pools new.state.zone.pools
+-- An item is done: what is noted and what is left are as the machine has it. The machine is seen by its
+-- parts, `old`, and by its value.
+module _ (old value : Running) (is : old ≡ value) (now : ℕ) (item : DueItem) (due : IsDueIn value.state now item) where
+  pub does_item : (output : Option Datagram) (outcome : Outcome) → outcome ≡ noted_outcome (note.Done item) output
+      → (new : Running) → (effect old.state now item).output ≡ output
+      → (effect old.state now item).state ≡ new.state → new.lasts ≡ old.lasts
+      → AreSameButLent old.state.zone.pools new.state.zone.pools
       → (AreBornBefore old.state.steps old.state.kept → AreBornBefore (old.state.steps + 1) new.state.kept)
-      → HasFewOctets output
-      → Does old now (Doing item) (noted_outcome (note.Done item) output) new
-  does_item output new sent is lasts pools births few = record {
-    allowed = due;
-    makes = λ j. Some (noted_outcome (note.Done item) (sent j), is j);
-    lasts = lasts;
-    counts = counts_same old.state.zone.pools new.state.zone.pools pools;
-    births = births;
-    few = few;
-  }
+      → HasFewOctets output → Does value now (Doing item) outcome new
+  does_item output outcome noted new sent leaves lasts pools births few =
+      subst (λ (m : Running). Does m now (Doing item) outcome new) is
+      (subst (λ (o : Outcome). Does old now (Doing item) o new) (sym noted) (record {
+        allowed = subst (λ (m : Running). IsDueIn m.state now item) (sym is) due;
+        makes = λ j. Some (noted_outcome (note.Done item) (sent j), leaves j);
+        lasts = lasts;
+        counts = counts_same old.state.zone.pools new.state.zone.pools pools;
+        births = births;
+        few = few;
+      }))
 
 -- an endpoint gave a sign of life
 pub does_hear : (old : Running) (now : ℕ) (id : List ℕ) (services : RunningZone)

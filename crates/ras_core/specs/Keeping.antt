@@ -23,15 +23,16 @@ use Rattle.ras_core.specs.Plans.{Served, Ask, Plan, hearing}
 use Rattle.ras_core.specs.Requests.{seq_of}
 
 -- whom a reply confirms is registered still; most replies confirm nobody
-abbrev pub is_live : Live → Option (List ℕ) → Bool
-is_live live None = true
-is_live live (Some id) = is_some (get live id)
+abbrev pub is_registered_still : Live → Option (List ℕ) → Bool
+is_registered_still live None = true
+is_registered_still live (Some id) = is_some (get live id)
 
 -- what is kept answers the datagram that came again: its window isn't over, and where it confirms a
 -- registration, that is still there
 abbrev pub is_repeat : State → ℕ → KeptEntry → Bool
 is_repeat s now entry =
-    not (is_over now entry) && is_live s.zone.live (identifier_in (reply_in entry.state))
+    not (is_over now entry)
+    && is_registered_still s.zone.live (identifier_in (reply_in entry.state))
 
 -- A request that is served: its datagram, and whether it is served first or again; the birth of the entry
 -- that is dropped for it; and what it comes to.

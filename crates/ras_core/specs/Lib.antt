@@ -12,7 +12,7 @@ pub mod Bandwidth
 pub mod Disengaging
 pub mod Requests
 pub mod Keeping
-pub mod Fresh
+pub mod Unused
 pub mod Turns
 pub mod Machine
 pub mod Soundness

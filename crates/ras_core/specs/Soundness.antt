@@ -64,6 +64,6 @@ pub record Sound (s : State) : Type 0 where
   pub births : AreBornApart s.kept
   pub born : AreBornBefore s.steps s.kept
   pub clock : s.clock < 2 ^ 53
-  pub interrogation : 1 ≤ s.interrogation
-  pub interrogations : s.interrogation ≤ 65535
+  pub least_number : 1 ≤ s.interrogation_number
+  pub most_number : s.interrogation_number ≤ 65535
   pub steps : s.steps ≤ most_steps

@@ -22,8 +22,8 @@ pub record State : Type 0 where
   pub zone : Zone
   pub kept : KeptReplies
   pub clock : ℕ
-  pub interrogation : ℕ
-  pub pool_turn : ℕ
+  pub interrogation_number : ℕ
+  pub next_pool_turn : ℕ
   pub steps : ℕ
 
 -- a zone in which nobody is registered and no call is open
@@ -41,8 +41,8 @@ opening config pools = record {
   zone = empty_zone config pools;
   kept = empty;
   clock = 0;
-  interrogation = 1;
-  pool_turn = config.pool_turn;
+  interrogation_number = 1;
+  next_pool_turn = config.pool_turn;
   steps = 0;
 }
 

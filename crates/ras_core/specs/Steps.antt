@@ -21,7 +21,7 @@ use Rattle.ras_core.specs.State.{State, Running, Last}
 use Rattle.ras_core.specs.Soundness.{IsLentTo, Sound}
 use Rattle.ras_core.specs.Pools.{figures_at}
 use Rattle.ras_core.specs.Plans.{Ask, Plan, Settled, Naming, Asking}
-use Rattle.ras_core.specs.Fresh.{IsFreshFor}
+use Rattle.ras_core.specs.Unused.{IsUnusedFor}
 use Rattle.ras_core.specs.Turns.{IsDueIn, IsNothingDueIn}
 use Rattle.ras_core.specs.Machine.{Choices, Course, Ignoring, Hearing, Repeating, Serving, Doing, Idle, course, machine, moment_of}
 
@@ -40,13 +40,13 @@ choices_of outcome = record {
 }
 
 -- an identifier that may be handed out
-abbrev pub IsFresh : State → List ℕ → Type 0
-IsFresh s id = IsFreshFor s.zone.live s.kept id
+abbrev pub IsUnusedIn : State → List ℕ → Type 0
+IsUnusedIn s id = IsUnusedFor s.zone.live s.kept id
 
 -- what may be chosen for a plan: such an identifier, and an answer that the pool may give
 abbrev pub MayChoose : State → Plan → Choices → Type 0
 MayChoose s (Settled served) choices = Unit {0}
-MayChoose s (Naming named) choices = IfSome choices.given (IsFresh s)
+MayChoose s (Naming named) choices = IfSome choices.given (IsUnusedIn s)
 MayChoose s (Asking ask lent refused) choices =
     IfSome choices.answer (IsAnswer (figures_at s.zone.pools ask.pool) ask.units)
 
@@ -74,8 +74,8 @@ pub record Step (s : State) (event : Event) (outcome : Outcome) (after : State) 
 
 -- step after step, over entries of an event with its outcome
 abbrev pub Run : State → List (Event × Outcome) → State → Type 0
-Run z [] after = after ≡ z
-Run z (entry ∷ entries) after = (mid : State) × Step z entry.0 entry.1 mid × Run mid entries after
+Run s [] after = after ≡ s
+Run s (entry ∷ entries) after = (mid : State) × Step s entry.0 entry.1 mid × Run mid entries after
 
 -- which pool is asked for how many units, where one is
 abbrev pub ask_in_plan : Plan → Option Ask

@@ -29,11 +29,11 @@ times_of config = record {
 -- the item is due in this state, or nothing is
 abbrev pub IsDueIn : State → ℕ → DueItem → Type 0
 IsDueIn s now item =
-    IsDue now s.pool_turn (times_of s.zone.config) s.zone.live s.zone.calls s.kept item
+    IsDue now s.next_pool_turn (times_of s.zone.config) s.zone.live s.zone.calls s.kept item
 
 abbrev pub IsNothingDueIn : State → ℕ → Type 0
 IsNothingDueIn s now =
-    IsNothingDue now s.pool_turn (times_of s.zone.config) s.zone.live s.zone.calls s.kept
+    IsNothingDue now s.next_pool_turn (times_of s.zone.config) s.zone.live s.zone.calls s.kept
 
 -- the endpoint leaves each of its calls, as if it disengaged: those without a leg end, and their
 -- units go back
@@ -60,9 +60,10 @@ abbrev pub without_silent : Zone → List ℕ → Zone
 without_silent z endpoint =
     with_live (without_legs_of z endpoint) (update z.live endpoint after_calm)
 
--- the requestSeqNum of the next interrogation is from 1 to 65535
-abbrev pub next_interrogation : ℕ → ℕ
-next_interrogation number = if number == 65535 then 1 else number + 1
+-- The requestSeqNum of the interrogation after one with this number. It is from 1 to 65535 (H.225.0,
+-- RequestSeqNum).
+abbrev pub number_after : ℕ → ℕ
+number_after number = if number == 65535 then 1 else number + 1
 
 -- an endpoint is asked for a sign of life at its RAS address
 abbrev pub inquiry : ℕ → Registration → Datagram
@@ -70,10 +71,10 @@ inquiry number r = record { to = r.ras; bytes = encoding_of (Irq number) }
 
 abbrev pub interrogation : State → ℕ → List ℕ → Effect
 interrogation s now endpoint = record {
-  output = option_map (inquiry s.interrogation) (get s.zone.live endpoint);
+  output = option_map (inquiry s.interrogation_number) (get s.zone.live endpoint);
   state = record s {
     zone = with_live s.zone (update s.zone.live endpoint (after_ask now));
-    interrogation = next_interrogation s.interrogation;
+    interrogation_number = number_after s.interrogation_number;
   };
 }
 
@@ -86,4 +87,4 @@ effect s now (Interrogate id) = interrogation s now id
 effect s now (Silent id) = quietly (record s { zone = without_silent s.zone id })
 effect s now (Retry born) = quietly s
 effect s now (KeptOver born) = quietly (record s { kept = without_birth s.kept born })
-effect s now PoolTurn = quietly (record s { pool_turn = now + s.zone.config.pool_turn })
+effect s now PoolTurn = quietly (record s { next_pool_turn = now + s.zone.config.pool_turn })

@@ -7,7 +7,7 @@ ghost use Rattle.keyed.specs.Maps.{update};
 ghost use Rattle.registrations.specs.Registry.{at_address, IsConsistent, IsListOf, after_ask, after_calm, with_deadline};
 ghost use Rattle.registrations.specs.Agreement.{registered_elsewhere};
 ghost use Rattle.ras_core.specs.State.{heard_now};
-ghost use Rattle.ras_core.specs.Fresh.{IsFreshFor};
+ghost use Rattle.ras_core.specs.Unused.{IsUnusedFor};
 ghost use Rattle.ras_core.specs.Admission.{registered_with, translation};
 ghost use Rattle.ras_core.specs.inside.Changes.{IsAddable, IsEndpointChange, IsRewritable, after_endpoint_change};
 ghost use Rattle.ras_core.specs.Soundness.{HaveAliasesApart};
@@ -111,7 +111,7 @@ impl Endpoints {
 
     /// An identifier that may be handed out, where these replies are kept.
     pub fn unused(&self, kept: &Kept) -> Result<EndpointId, AllocError>
-        ensures { IfOk result (IsFreshFor self.now.live kept.now.kept) }
+        ensures { IfOk result (IsUnusedFor self.now.live kept.now.kept) }
     {
         let named = kept.identifiers()?;
         Ok(self.registrations.unused(&named))

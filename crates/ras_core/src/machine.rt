@@ -35,8 +35,8 @@ const MOST_STEPS: u64 = 1 << 62;
 pub struct Machine<P: Pool> {
     pub(crate) services: Services<P>,
     pub(crate) kept: Kept,
-    pub(crate) interrogation: RequestSeqNum,
-    pub(crate) pool_turn: u64,
+    pub(crate) interrogation_number: RequestSeqNum,
+    pub(crate) next_pool_turn: u64,
     pub(crate) steps: u64,
     clock: Moment,
 }
@@ -57,8 +57,8 @@ impl<P: Pool> Model for Machine<P> {
         zone = m.services.zone;
         kept = m.kept.kept;
         clock = m.clock;
-        interrogation = m.interrogation;
-        pool_turn = m.pool_turn;
+        interrogation_number = m.interrogation_number;
+        next_pool_turn = m.next_pool_turn;
         steps = m.steps;
       };
       lasts = m.services.lasts;
@@ -76,12 +76,12 @@ impl<P: Pool> Machine<P> {
         ensures lasts { result.lasts ≡ lasts_of pools }
     {
         let kept = Kept::new(alloc, config.kept());
-        let pool_turn = config.parts().pool_turn;
+        let next_pool_turn = config.parts().pool_turn;
         Machine {
             services: Services::new(alloc, config, pools),
             kept,
-            interrogation: RequestSeqNum::new(1).unwrap(),
-            pool_turn,
+            interrogation_number: RequestSeqNum::new(1).unwrap(),
+            next_pool_turn,
             steps: 0,
             clock: Moment::START,
         }
@@ -113,7 +113,7 @@ impl<P: Pool> Machine<P> {
             → AreBornBefore self.now.state.steps self.now.state.kept → Sound self.now.state }
     {
         let _small = self.clock.milliseconds();
-        let _number = number_of(self.interrogation);
+        let _number = number_of(self.interrogation_number);
         let _kept = self.kept.len();
         self.services.len()
     }

@@ -7,7 +7,7 @@ ghost use Rattle.registrations.specs.Agreement.{registered_elsewhere};
 ghost use Rattle.ras_core.specs.Registering.{confirmation, deadline, granted, has_moved};
 ghost use Rattle.ras_core.specs.Registering.{entering, full_registration, keep_alive, named, registration};
 ghost use Rattle.ras_core.specs.inside.Decisions.{Decides};
-ghost use Rattle.ras_core.specs.Fresh.{IsFreshFor};
+ghost use Rattle.ras_core.specs.Unused.{IsUnusedFor};
 
 use crate::change::{Change, Decision, EndpointChange};
 use crate::moment::Moment;
@@ -90,8 +90,8 @@ impl<P: Pool> Services<P> {
         ensures decides { IfOk result (Decides self.now.zone now
             (full_registration self.now.zone now q.now q.now.call_signal q.now.ras
             (without_doubles q.now.aliases))) }
-        ensures fresh { IfOk result (λ d.
-            IfSome d.given (IsFreshFor self.now.zone.live kept.now.kept)) }
+        ensures unused { IfOk result (λ d.
+            IfSome d.given (IsUnusedFor self.now.zone.live kept.now.kept)) }
     {
         let Some(call_signal) = q.call_signal else {
             return Ok(rejection(q, RegistrationRejectReason::InvalidCallSignalAddress));
@@ -138,8 +138,8 @@ impl<P: Pool> Services<P> {
         requires { registered_elsewhere self.now.zone.live entry.call_signal entry.aliases ≡ [] }
         ensures decides { IfOk result (Decides self.now.zone now (entering self.now.zone now q.now entry
             (at_address self.now.zone.live entry.call_signal))) }
-        ensures fresh { IfOk result (λ d.
-            IfSome d.given (IsFreshFor self.now.zone.live kept.now.kept)) }
+        ensures unused { IfOk result (λ d.
+            IfSome d.given (IsUnusedFor self.now.zone.live kept.now.kept)) }
     {
         let told = entry.aliases.copy()?;
         let deadline = self.deadline(now, q);
@@ -172,8 +172,8 @@ impl<P: Pool> Services<P> {
     ) -> Result<Decision, AllocError>
         ensures decides { IfOk result (Decides self.now.zone now
             (registration self.now.zone now q.now)) }
-        ensures fresh { IfOk result (λ d.
-            IfSome d.given (IsFreshFor self.now.zone.live kept.now.kept)) }
+        ensures unused { IfOk result (λ d.
+            IfSome d.given (IsUnusedFor self.now.zone.live kept.now.kept)) }
     {
         if self.is_foreign(&q.gatekeeper) {
             return Ok(rejection(q, RegistrationRejectReason::DiscoveryRequired));

@@ -230,11 +230,11 @@ impl<P: Pool> Services<P> {
 
     /// Something that is due, where these replies are kept and the pools' next turn is at this
     /// moment.
-    pub fn due(&self, kept: &Kept, now: Moment, pool_turn: u64) -> Option<DueItem>
+    pub fn due(&self, kept: &Kept, now: Moment, next_pool_turn: u64) -> Option<DueItem>
         ensures { MatchOption result
-            (IsNothingDue now pool_turn (times_of self.now.zone.config) self.now.zone.live
+            (IsNothingDue now next_pool_turn (times_of self.now.zone.config) self.now.zone.live
             self.now.zone.calls kept.now.kept)
-            (IsDue now pool_turn (times_of self.now.zone.config) self.now.zone.live
+            (IsDue now next_pool_turn (times_of self.now.zone.config) self.now.zone.live
             self.now.zone.calls kept.now.kept) }
     {
         let endpoints = self.endpoints.table();
@@ -245,7 +245,7 @@ impl<P: Pool> Services<P> {
             calls,
             kept,
             now.milliseconds(),
-            pool_turn,
+            next_pool_turn,
             &times,
         )
     }

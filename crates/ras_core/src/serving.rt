@@ -11,8 +11,8 @@ ghost use Rattle.ras_core.specs.inside.Changes.{IsPossible, IsRegistered};
 ghost use Rattle.ras_core.specs.inside.Decisions.{MayConclude, leg_of_purpose};
 ghost use Rattle.ras_core.specs.inside.Serving.{arq_of, brq_of, drq_of, rrq_of, urq_of};
 ghost use Rattle.ras_core.specs.Requests.{seq_of};
-ghost use Rattle.ras_core.specs.inside.Serving.{Does, DropsFor, IsAboutCalls, IsJob, Serves};
-ghost use Rattle.ras_core.specs.Steps.{IsFresh, HasReply};
+ghost use Rattle.ras_core.specs.inside.Serving.{Does, DropsFor, IsAboutALeg, IsAboutCalls, IsJob, Serves};
+ghost use Rattle.ras_core.specs.Steps.{IsUnusedIn, HasReply};
 ghost use Rattle.ras_core.specs.Soundness.{AreBornBefore, HasCounts};
 
 use crate::calling::{Admission, BandwidthChange, Disengagement};
@@ -56,7 +56,7 @@ impl<P: Pool> Machine<P> {
         decision: Decision,
     ) -> Result<Outcome, AllocError>
         requires possible { IsPossible self.old.state.zone decision.change }
-        requires fresh { IfSome decision.given (IsFresh self.old.state) }
+        requires unused { IfSome decision.given (IsUnusedIn self.old.state) }
         requires job { IsJob self.old.state now job }
         requires births { AreBornBefore self.old.state.steps self.old.state.kept }
         ensures does { IfOk result (λ outcome. (plan : Plan) (request : Request)
@@ -370,6 +370,21 @@ impl<P: Pool> Machine<P> {
                 };
                 self.serve_admission(now, job, q)
             }
+            other => self.serve_leg(now, job, other),
+        }
+    }
+
+    /// Serves a request about a leg of a call.
+    fn serve_leg(&mut self, now: Moment, job: Job, request: Request) -> Result<Outcome, AllocError>
+        requires legs { IsAboutALeg request }
+        requires counts { All (HasCounts (2 ^ 63)) self.old.state.zone.pools }
+        requires job { IsJob self.old.state now job }
+        requires births { AreBornBefore self.old.state.steps self.old.state.kept }
+        ensures does { IfOk result (λ outcome. Serves self.old now job request outcome self.new) }
+        ensures dropped { IfOk result (λ outcome. DropsFor self.old.state job outcome.dropped) }
+        ensures err { OnErr result (self.new ≡ self.old) }
+    {
+        match request {
             Request::Brq {
                 seq,
                 endpoint,

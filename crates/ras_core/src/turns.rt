@@ -4,7 +4,7 @@ ghost use Rattle.std.specs.Prelude.{◌≡◌, ◌^◌, All, IfOk, MatchOption, 
 ghost use Rattle.std.specs.FinMap as fin;
 ghost use Rattle.kept_replies.specs.Kept.{births};
 ghost use Rattle.ras_core.specs.Machine.{Doing, retry_course, turn_course};
-ghost use Rattle.ras_core.specs.Turns.{IsDueIn, IsNothingDueIn, next_interrogation};
+ghost use Rattle.ras_core.specs.Turns.{IsDueIn, IsNothingDueIn, number_after};
 ghost use Rattle.ras_core.specs.inside.Serving.{Does, IsWaitingRequest};
 ghost use Rattle.ras_core.specs.Steps.{item_of};
 ghost use Rattle.ras_core.specs.Soundness.{AreBornBefore, HasCounts};
@@ -40,7 +40,7 @@ impl<P: Pool> Machine<P> {
         ensures { MatchOption result (IsNothingDueIn self.now.state now)
             (IsDueIn self.now.state now) }
     {
-        self.services.due(&self.kept, now, self.pool_turn)
+        self.services.due(&self.kept, now, self.next_pool_turn)
     }
 
     /// Serves a request again that waits.
@@ -136,7 +136,7 @@ impl<P: Pool> Machine<P> {
         ensures note { result.note ≡ Note.Done DueItem.PoolTurn }
     {
         self.services.turn_pools();
-        self.pool_turn = now.milliseconds() + self.services.pool_turn();
+        self.next_pool_turn = now.milliseconds() + self.services.pool_turn();
         Outcome::noted(Note::Done(DueItem::PoolTurn), None)
     }
 
@@ -149,11 +149,11 @@ impl<P: Pool> Machine<P> {
         ensures err { OnErr result (self.new ≡ self.old) }
     {
         let _few = self.services.times();
-        let seq = self.interrogation;
+        let seq = self.interrogation_number;
         let to = self.services.get(&id).unwrap().ras;
         let output = self.datagram(to, &Reply::Irq { seq })?;
         self.services.inquire(now, &id);
-        self.interrogation = following(seq);
+        self.interrogation_number = following(seq);
         let note = Note::Done(DueItem::Interrogate(id));
         Ok(Outcome::noted(note, Some(output)))
     }
@@ -161,7 +161,7 @@ impl<P: Pool> Machine<P> {
 
 /// The requestSeqNum of the interrogation after this one.
 fn following(seq: RequestSeqNum) -> RequestSeqNum
-    ensures { result ≡ next_interrogation seq }
+    ensures { result ≡ number_after seq }
 {
     let number = seq.get();
     let next = if number == u16::MAX { 1 } else { number + 1 };

@@ -3,7 +3,8 @@ use Rattle.std.specs.Prelude.{ℕ, ◌≡◌, ◌≤◌, ◌<◌, ◌^◌, List,
 use Rattle.registrations.specs.Registry.{Live}
 use Rattle.admission.specs.Calls.{OpenCalls, EachCall, in_use}
 use Rattle.pools.specs.declared.interface.Figures.{Figures}
-use Rattle.ras_core.specs.State.{Zone, Last}
+use Rattle.kept_replies.specs.Kept.{KeptReplies}
+use Rattle.ras_core.specs.State.{Zone, Last, Running}
 use Rattle.ras_core.specs.declared.config.ConfigParts.{ConfigParts}
 use Rattle.ras_core.specs.Soundness.{HaveEndpoints, IsLentTo}
 
@@ -63,3 +64,18 @@ pub record AreParts (config : ConfigParts) (roll : Roll) (u : Usage) : Type 0 wh
 pub record RunningZone : Type 0 where
   pub zone : Zone
   pub lasts : List Last
+
+-- A gatekeeper as it runs, by its parts: beside that zone the replies that are kept, the clock, the number
+-- of the next interrogation, the moment of the next turn of the pools, and how many steps were made.
+abbrev pub running_of : RunningZone → KeptReplies → ℕ → ℕ → ℕ → ℕ → Running
+running_of z kept clock interrogation_number next_pool_turn steps = record {
+  state = record {
+    zone = z.zone;
+    kept = kept;
+    clock = clock;
+    interrogation_number = interrogation_number;
+    next_pool_turn = next_pool_turn;
+    steps = steps;
+  };
+  lasts = z.lasts;
+}

@@ -94,6 +94,12 @@ IsAboutCalls (Brq seq endpoint call asked) = Unit {0}
 IsAboutCalls (Drq seq endpoint call) = Unit {0}
 IsAboutCalls other = ⊥
 
+-- a request about a leg that is there already
+abbrev pub IsAboutALeg : Request → Type 0
+IsAboutALeg (Brq seq endpoint call asked) = Unit {0}
+IsAboutALeg (Drq seq endpoint call) = Unit {0}
+IsAboutALeg other = ⊥
+
 -- this request may be served again, and that is what is to be done
 pub record IsAgain (s : State) (now born : ℕ) (job : Job) (request : Request) : Type 0 where
   pub job_may : IsJob s now job

@@ -1,13 +1,13 @@
 use Rattle.std.proofs.Common.{List, ℕ, subst}
 use Rattle.registrations.specs.Registry.{IsUnused}
-use Rattle.ras_core.specs.Fresh.{IsFreshFor}
+use Rattle.ras_core.specs.Unused.{IsUnusedFor}
 use Rattle.ras_core.specs.inside.Parts.{Roll}
-use Rattle.ras_core.proofs.Dropping.{fresh}
+use Rattle.ras_core.proofs.Dropping.{unused_for}
 use Rattle.ras_core.proofs.endpoints.Endpoints.unused.Goals as goal
 
 pub returns : goal.returns
 returns c =
     let live = c.self.inside.registrations.live in
-    subst (λ (r : Roll). IsFreshFor r.live c.args.kept.now.kept c.unused.result) c.self.view_is
-    (fresh live c.args.kept.now.kept c.in_ok-named.named.items c.unused.result c.in_ok-named.ensures
+    subst (λ (r : Roll). IsUnusedFor r.live c.args.kept.now.kept c.unused.result) c.self.view_is
+    (unused_for live c.args.kept.now.kept c.in_ok-named.named.items c.unused.result c.in_ok-named.ensures
     (subst (λ (xs : List (List ℕ)). IsUnused live xs c.unused.result) c.deref.ensures.value c.unused.ensures))

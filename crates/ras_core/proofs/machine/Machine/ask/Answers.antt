@@ -4,7 +4,7 @@ use Rattle.ras_codec.specs.Replies.{encoding_of}
 use Rattle.kept_replies.specs.Kept.{KeptReplies, Passes, is_over}
 use Rattle.ras_core.specs.declared.outcome.Note.{Note}
 use Rattle.ras_core.specs.State.{Running, State}
-use Rattle.ras_core.specs.inside.Parts.{RunningZone}
+use Rattle.ras_core.specs.inside.Parts.{RunningZone, running_of}
 use Rattle.ras_core.specs.Pools.{pools_after_answer}
 use Rattle.ras_core.specs.Keeping.{kept_as, plan_at, term_of}
 use Rattle.ras_core.specs.Machine.{Serving}
@@ -21,14 +21,7 @@ use Rattle.ras_core.proofs.machine.Machine.ask.Goals as goal
 pub keep-dropped-requires-clause-place : goal.keep-dropped-requires-clause-place
 keep-dropped-requires-clause-place g c =
     let i = c.self.inside in
-    let s : State = record {
-      zone = i.services.zone;
-      kept = i.kept.kept;
-      clock = i.clock;
-      interrogation = i.interrogation;
-      pool_turn = i.pool_turn;
-      steps = i.steps;
-    } in
+    let s = (running_of i.services i.kept.kept i.clock i.interrogation_number i.next_pool_turn i.steps).state in
     subst (λ (n : ℕ). IsPlaced c.reserve.new.kept n c.args.job.key c.args.job.occasion) (sym c.milliseconds-start.ensures.same)
     (placed_of s c.reserve.new.kept c.args.now c.args.job.key c.args.job.occasion c.reserve.ensures.kept
     (c.reserve.ensures.most ∙ c.self.invariant.0)
@@ -46,17 +39,7 @@ returns-clause-does g c plan asks =
     let answer = c.in_ok-answer.answer in
     let w = c.waits-waits.result in
     let reply = c.reply-reply.result in
-    let old : Running = record {
-      state = record {
-        zone = i.services.zone;
-        kept = i.kept.kept;
-        clock = i.clock;
-        interrogation = i.interrogation;
-        pool_turn = i.pool_turn;
-        steps = i.steps;
-      };
-      lasts = i.services.lasts;
-    } in
+    let old = running_of i.services i.kept.kept i.clock i.interrogation_number i.next_pool_turn i.steps in
     let services = c.hear.new.self in
     let kept = c.keep-dropped.new.kept.kept in
     let asked : RunningZone = record {

@@ -5,14 +5,14 @@ use Rattle.kept_replies.specs.Kept.{KeptReplies, Passes, is_over}
 use Rattle.ras_core.specs.declared.outcome.Datagram.{Datagram}
 use Rattle.ras_core.specs.declared.outcome.Note.{Note}
 use Rattle.ras_core.specs.State.{Running}
-use Rattle.ras_core.specs.inside.Parts.{RunningZone}
+use Rattle.ras_core.specs.inside.Parts.{RunningZone, running_of}
 use Rattle.ras_core.specs.Keeping.{plan_at, with_reply}
 use Rattle.ras_core.specs.Machine.{Serving}
 use Rattle.ras_core.specs.inside.Decisions.{Decides}
 use Rattle.ras_core.specs.inside.Changes.{changed, heard_at}
 use Rattle.ras_core.specs.Soundness.{AreBornBefore}
 use Rattle.ras_core.specs.inside.Serving.{Does, IsJob}
-use Rattle.ras_core.specs.Steps.{IsFresh}
+use Rattle.ras_core.specs.Steps.{IsUnusedIn}
 use Rattle.ras_core.proofs.Agreeing.{on_ok}
 use Rattle.ras_core.proofs.Carrying.{does_carried, zone_after}
 use Rattle.ras_core.proofs.machine.Machine.carry_out.Goals as goal
@@ -25,17 +25,7 @@ returns-clause-does g c plan request decides =
     let endpoint = c.args.endpoint in
     let d = c.args.decision in
     let dropped = c.keep_reply-dropped.result in
-    let old : Running = record {
-      state = record {
-        zone = i.services.zone;
-        kept = i.kept.kept;
-        clock = i.clock;
-        interrogation = i.interrogation;
-        pool_turn = i.pool_turn;
-        steps = i.steps;
-      };
-      lasts = i.services.lasts;
-    } in
+    let old = running_of i.services i.kept.kept i.clock i.interrogation_number i.next_pool_turn i.steps in
     let services = c.hear.new.self in
     let kept = c.keep_reply-dropped.new.kept.kept in
     let applied : c.apply.new.self ≡ changed i.services now d.change =
@@ -54,7 +44,7 @@ returns-clause-does g c plan request decides =
     let few = subst (λ (o : Datagram). length o.bytes ≤ 20000) c.in_ok-output.ensures.encoded c.in_ok-output.ensures.few in
     let back = sym c.self.view_is in
     let does = does_carried old now job endpoint d dropped services kept
-    (subst (λ (m : Running). IfSome d.given (IsFresh m.state)) back c.requires.fresh)
+    (subst (λ (m : Running). IfSome d.given (IsUnusedIn m.state)) back c.requires.unused)
     (subst (λ (m : Running). IsJob m.state now job) back c.requires.job)
     (subst (λ (m : Running). AreBornBefore m.state.steps m.state.kept) back c.requires.births)
     over few services_is kept_is plan request

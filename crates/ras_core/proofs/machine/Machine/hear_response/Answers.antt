@@ -1,5 +1,6 @@
 use Rattle.std.proofs.Common.{subst, sym, Some}
 use Rattle.ras_core.specs.declared.outcome.Outcome.{Outcome}
+use Rattle.ras_core.specs.inside.Parts.{running_of}
 use Rattle.ras_core.specs.State.{Running}
 use Rattle.ras_core.specs.Machine.{response_course}
 use Rattle.ras_core.specs.inside.Serving.{Does}
@@ -9,17 +10,7 @@ use Rattle.ras_core.proofs.machine.Machine.hear_response.Goals as goal
 pub returns : goal.returns
 returns g c =
     let i = c.self.inside in
-    let old : Running = record {
-      state = record {
-        zone = i.services.zone;
-        kept = i.kept.kept;
-        clock = i.clock;
-        interrogation = i.interrogation;
-        pool_turn = i.pool_turn;
-        steps = i.steps;
-      };
-      lasts = i.services.lasts;
-    } in
+    let old = running_of i.services i.kept.kept i.clock i.interrogation_number i.next_pool_turn i.steps in
     let id = c.args.endpoint.now in
     let new : Running = record {
       state = record old.state { zone = c.hear.new.self.zone };

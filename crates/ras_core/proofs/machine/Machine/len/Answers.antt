@@ -16,7 +16,7 @@ returns-clause-sound g c counts births =
       births = kept.births;
       born = subst (λ (m : Running). AreBornBefore m.state.steps m.state.kept) (sym c.self.view_is) births;
       clock = subst (λ (now : ℕ). now < 2 ^ 53) c.milliseconds-small.ensures.same c.milliseconds-small.ensures.small;
-      interrogation = omega (arith, c.number_of-number.ensures.same, c.number_of-number.ensures.some);
-      interrogations = omega (arith, c.number_of-number.ensures.same, c.number_of-number.ensures.few);
+      least_number = omega (arith, c.number_of-number.ensures.same, c.number_of-number.ensures.some);
+      most_number = omega (arith, c.number_of-number.ensures.same, c.number_of-number.ensures.few);
       steps = c.self.invariant.1;
     })

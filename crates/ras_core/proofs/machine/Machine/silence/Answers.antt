@@ -1,13 +1,10 @@
-use Rattle.std.proofs.Common.{◌∙◌, refl, ap, subst, sym, None}
+use Rattle.std.proofs.Common.{◌∙◌, refl, ap, sym, None}
+use Rattle.expiry.specs.declared.due_item.DueItem.TheVariants.{Silent}
 use Rattle.ras_core.specs.declared.config.ConfigParts.{ConfigParts}
 use Rattle.ras_core.specs.State.{Running, Zone}
-use Rattle.ras_core.specs.declared.outcome.Outcome.{Outcome}
-use Rattle.ras_core.specs.Machine.{Doing}
-use Rattle.ras_core.specs.Turns.{IsDueIn}
-use Rattle.ras_core.specs.inside.Serving.{Does}
+use Rattle.ras_core.specs.inside.Parts.{running_of}
 use Rattle.ras_core.proofs.Dropping.{born_same}
 use Rattle.ras_core.proofs.Noting.{does_item, settings_stay}
-use Rattle.expiry.specs.declared.due_item.DueItem.TheVariants as due_item
 use Rattle.ras_core.proofs.machine.Machine.silence.Goals as goal
 
 pub invariant_of-self : goal.invariant_of-self
@@ -20,22 +17,10 @@ invariant_of-self g c = (
 pub returns-clause-does : goal.returns-clause-does
 returns-clause-does g c =
     let i = c.self.inside in
-    let old : Running = record {
-      state = record {
-        zone = i.services.zone;
-        kept = i.kept.kept;
-        clock = i.clock;
-        interrogation = i.interrogation;
-        pool_turn = i.pool_turn;
-        steps = i.steps;
-      };
-      lasts = i.services.lasts;
-    } in
-    let back = sym c.self.view_is in
-    let new : Running = record { state = record old.state { zone = c.silence.new.self.zone }; lasts = c.silence.new.self.lasts } in
-    subst (λ (m : Running). Does m c.args.now (Doing (due_item.Silent c.args.id)) c.noted.result new) c.self.view_is
-    (subst (λ (o : Outcome). Does old c.args.now (Doing (due_item.Silent c.args.id)) o new) (sym c.noted.ensures)
-    (does_item old c.args.now (due_item.Silent c.args.id)
-    (subst (λ (m : Running). IsDueIn m.state c.args.now (due_item.Silent c.args.id)) back c.requires)
-    None new refl (ap (λ (z : Zone). record old.state { zone = z }) (sym c.silence.ensures.zone))
-    c.silence.ensures.lasts c.silence.ensures.pools (λ before. born_same i.kept.kept i.steps before) tt))
+    let old = running_of i.services i.kept.kept i.clock i.interrogation_number i.next_pool_turn i.steps in
+    let left = c.silence.new.self in
+    let new : Running = record { state = record old.state { zone = left.zone }; lasts = left.lasts } in
+    does_item old _ c.self.view_is c.args.now (Silent c.args.id) c.requires
+    None c.noted.result c.noted.ensures new
+    refl (ap (λ (z : Zone). record old.state { zone = z }) (sym c.silence.ensures.zone))
+    c.silence.ensures.lasts c.silence.ensures.pools (λ before. born_same i.kept.kept i.steps before) tt

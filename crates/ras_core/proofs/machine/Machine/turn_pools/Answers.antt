@@ -1,12 +1,8 @@
 use Rattle.std.proofs.Common.{◌≡◌, ◌+◌, ◌∙◌, refl, ap, subst, sym, None}
 use Rattle.expiry.specs.declared.due_item.DueItem.TheVariants.{PoolTurn}
-use Rattle.ras_core.specs.declared.outcome.Outcome.{Outcome}
 use Rattle.ras_core.specs.State.{Running}
-use Rattle.ras_core.specs.inside.Parts.{RunningZone}
-use Rattle.ras_core.specs.Machine.{Doing}
-use Rattle.ras_core.specs.Turns.{IsDueIn}
+use Rattle.ras_core.specs.inside.Parts.{RunningZone, running_of}
 use Rattle.ras_core.specs.inside.Leaving.{AreSameButLent}
-use Rattle.ras_core.specs.inside.Serving.{Does}
 use Rattle.ras_core.proofs.ButLent.{same_after_end}
 use Rattle.ras_core.proofs.Dropping.{born_same}
 use Rattle.ras_core.proofs.Noting.{does_item}
@@ -15,33 +11,22 @@ use Rattle.ras_core.proofs.machine.Machine.turn_pools.Goals as goal
 pub returns-clause-does : goal.returns-clause-does
 returns-clause-does g c =
     let i = c.self.inside in
-    let old : Running = record {
-      state = record {
-        zone = i.services.zone;
-        kept = i.kept.kept;
-        clock = i.clock;
-        interrogation = i.interrogation;
-        pool_turn = i.pool_turn;
-        steps = i.steps;
-      };
-      lasts = i.services.lasts;
-    } in
-    let back = sym c.self.view_is in
+    let old = running_of i.services i.kept.kept i.clock i.interrogation_number i.next_pool_turn i.steps in
     let services = c.turn_pools.new.self in
     let same : services ≡ i.services = c.turn_pools.ensures in
     let new : Running = record {
-      state = record old.state { zone = services.zone; pool_turn = c.milliseconds.result + c.pool_turn.result };
+      state = record old.state {
+        zone = services.zone;
+        next_pool_turn = c.milliseconds.result + c.pool_turn.result;
+      };
       lasts = services.lasts;
     } in
     let now_is = sym c.milliseconds.ensures.same in
     let turn_is = sym (c.pool_turn.ensures.same ∙ ap (λ (z : RunningZone). z.zone.config.pool_turn) same) in
-    subst (λ (m : Running). Does m c.args.now (Doing PoolTurn) c.noted.result new) c.self.view_is
-    (subst (λ (o : Outcome). Does old c.args.now (Doing PoolTurn) o new) (sym c.noted.ensures)
-    (does_item old c.args.now PoolTurn
-    (subst (λ (m : Running). IsDueIn m.state c.args.now PoolTurn) back c.requires)
-    None new refl
-    (λ j. record old.state { zone = (sym same j).zone; pool_turn = now_is j + turn_is j })
+    does_item old _ c.self.view_is c.args.now PoolTurn c.requires
+    None c.noted.result c.noted.ensures new
+    refl (λ j. record old.state { zone = (sym same j).zone; next_pool_turn = now_is j + turn_is j })
     (ap (λ (z : RunningZone). z.lasts) same)
     (subst (λ (z : RunningZone). AreSameButLent i.services.zone.pools z.zone.pools) (sym same)
     (same_after_end i.services.zone.pools None))
-    (λ before. born_same i.kept.kept i.steps before) tt))
+    (λ before. born_same i.kept.kept i.steps before) tt

@@ -5,6 +5,7 @@ use Rattle.std.specs.FinMap as fin
 use Rattle.kept_replies.specs.Kept.{births}
 use Rattle.expiry.specs.declared.due_item.DueItem.TheVariants.{Retry}
 use Rattle.ras_core.specs.declared.job.Occasion.TheVariants.{Again}
+use Rattle.ras_core.specs.inside.Parts.{running_of}
 use Rattle.ras_core.specs.State.{Running, State}
 use Rattle.ras_core.specs.Turns.{IsDueIn}
 use Rattle.ras_core.specs.inside.Serving.{IsAgain}
@@ -14,14 +15,7 @@ use Rattle.ras_core.proofs.machine.Machine.waiting.Goals as goal
 pub returns : goal.returns
 returns g c =
     let i = c.self.inside in
-    let s : State = record {
-      zone = i.services.zone;
-      kept = i.kept.kept;
-      clock = i.clock;
-      interrogation = i.interrogation;
-      pool_turn = i.pool_turn;
-      steps = i.steps;
-    } in
+    let s = (running_of i.services i.kept.kept i.clock i.interrogation_number i.next_pool_turn i.steps).state in
     let key = c.in-Some.key.now in
     let entry = c.in-Some.entry.now in
     let found : fin.get (births i.kept.kept) c.args.born ≡ Some (key, entry) =

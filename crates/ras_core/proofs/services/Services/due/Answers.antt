@@ -11,7 +11,7 @@ use Rattle.ras_core.proofs.services.Services.due.Goals as goal
 pub returns : goal.returns
 returns g c =
     let i = c.self.inside in
-    let next = c.args.pool_turn in
+    let next = c.args.next_pool_turn in
     let kept = c.args.kept.now.kept in
     let found = λ (now : ℕ) (times : Times) (live : Live) (calls : OpenCalls). MatchOption c.due.result
     (IsNothingDue now next times live calls kept) (IsDue now next times live calls kept) in
