@@ -14,24 +14,29 @@ use Rattle.registrations.specs.declared.registration.Registration.{Registration}
 use Rattle.registrations.specs.Registry.{Live, IsConsistent, after_hear, after_rewrite}
 use Rattle.registrations.specs.Agreement.{Agree}
 use Rattle.registrations.proofs.Consistent.{IsAt-found}
-use Rattle.registrations.proofs.Agreement.{Agree-insert, Agree-rewrite, Agree-update, conflicts_are, free_for_new, free_for_old}
+use Rattle.registrations.proofs.Agreement.{Agree-insert, Agree-rewrite, Agree-update, conflicts_are}
+use Rattle.registrations.proofs.Agreement.{free_for_new, free_for_old}
 use Rattle.ras_core.specs.declared.registering.Entry.{Entry}
 use Rattle.ras_core.specs.State.{heard_now}
 use Rattle.ras_core.specs.inside.Parts.{Roll}
 use Rattle.ras_core.specs.inside.Changes.{IsAddable, IsRewritable}
 
 -- what nobody holds is held by no other
-pub free_of_others : (held : Held) (alias : Alias) (id : List ℕ) → fin.get held alias ≡ None → IsHeldByAnother held alias id → ⊥
-free_of_others held alias id none other = subst (λ w. IsSomeAnd w (λ h. h.holder ≡ id → ⊥)) none other
+pub free_of_others : (held : Held) (alias : Alias) (id : List ℕ) → fin.get held alias ≡ None
+    → IsHeldByAnother held alias id → ⊥
+free_of_others held alias id none other =
+    subst (λ w. IsSomeAnd w (λ h. h.holder ≡ id → ⊥)) none other
 
 module _ (roll : Roll) (held : Held) (agree : Agree roll.live held) where
-  pub free_to_add : (r : Registration) → IsAddable roll r → (alias : Alias) → Contains r.aliases alias → fin.get held alias ≡ None
+  pub free_to_add : (r : Registration) → IsAddable roll r → (alias : Alias)
+      → Contains r.aliases alias → fin.get held alias ≡ None
   free_to_add r can =
       free_for_new roll.live held r.call_signal r.aliases agree can.address
       (conflicts_are roll.live held agree r.call_signal r.aliases ∙ can.aliases)
 
   pub Agree-add : (r : Registration) → IsAddable roll r
-      → Agree (fin.insert roll.live r.identifier r) (with_aliases held r.aliases r.identifier r.call_signal)
+      → Agree (fin.insert roll.live r.identifier r)
+      (with_aliases held r.aliases r.identifier r.call_signal)
   Agree-add r can = Agree-insert roll.live held r agree can.identifier (free_to_add r can)
 
   pub free_to_rewrite : IsConsistent roll.live → (id : List ℕ) (e : Entry) → IsRewritable roll id e
@@ -41,19 +46,25 @@ module _ (roll : Roll) (held : Held) (agree : Agree roll.live held) where
       ∙ free_for_old roll.live held e.call_signal e.aliases can.old agree sound can.found
       (conflicts_are roll.live held agree e.call_signal e.aliases ∙ can.aliases) alias has
 
-  pub is_live : IsConsistent roll.live → (id : List ℕ) (e : Entry) (can : IsRewritable roll id e) → fin.get roll.live id ≡ Some can.old
+  pub is_live : IsConsistent roll.live → (id : List ℕ) (e : Entry) (can : IsRewritable roll id e)
+      → fin.get roll.live id ≡ Some can.old
   is_live sound id e can =
-      ap (fin.get roll.live) (sym can.identifier) ∙ (IsAt-found roll.live sound e.call_signal can.old can.found).live_is
+      ap (fin.get roll.live) (sym can.identifier)
+      ∙ (IsAt-found roll.live sound e.call_signal can.old can.found).live_is
 
-  pub Agree-rewriting : IsConsistent roll.live → (id : List ℕ) (e : Entry) (deadline now : ℕ) → IsRewritable roll id e
+  pub Agree-rewriting : IsConsistent roll.live → (id : List ℕ) (e : Entry) (deadline now : ℕ)
+      → IsRewritable roll id e
       → Agree (heard_now now id (update roll.live id (after_rewrite e.ras e.aliases deadline)))
       (with_aliases (without_holder held id) e.aliases id e.call_signal)
   Agree-rewriting sound id e deadline now can =
       let at = IsAt-found roll.live sound e.call_signal can.old can.found in
       let f = after_rewrite e.ras e.aliases deadline in
-      let written = Agree-rewrite roll.live held id can.old (f can.old) f agree (is_live sound id e can) refl can.identifier (free_to_rewrite sound id e can) in
-      let moved = subst (λ (a : Address). Agree (update roll.live id f) (with_aliases (without_holder held id) e.aliases id a)) at.address_is written in
-      Agree-update (update roll.live id f) (with_aliases (without_holder held id) e.aliases id e.call_signal) id (after_hear now) moved (λ r. refl) (λ r. refl)
+      let written = Agree-rewrite roll.live held id can.old (f can.old) f agree
+      (is_live sound id e can) refl can.identifier (free_to_rewrite sound id e can) in
+      let moved = subst (λ (a : Address). Agree (update roll.live id f)
+      (with_aliases (without_holder held id) e.aliases id a)) at.address_is written in
+      Agree-update (update roll.live id f) (with_aliases (without_holder held id) e.aliases id
+      e.call_signal) id (after_hear now) moved (λ r. refl) (λ r. refl)
 
 -- what holds where a call succeeded
 pub on_ok : {A B P : Type 0} (r : Result A B) (x : A) → r ≡ Ok x → OnOk r P → P
@@ -70,7 +81,9 @@ if_ok_with P Q (Err e) h f = tt
 pub is_there : {A : Type 0} (w : Option A) (x : A) → w ≡ Some x → IsSome w
 is_there w x is = subst (λ w. IsSome w) (sym is) refl
 
-pub is_there_after : (live : Live) (id : List ℕ) (f : Registration → Registration) (old : Registration) → fin.get live id ≡ Some old
+pub is_there_after : (live : Live) (id : List ℕ)
+    (f : Registration → Registration) (old : Registration) → fin.get live id ≡ Some old
     → IsSome (fin.get (update live id f) id)
 is_there_after live id f old is =
-    is_there (fin.get (update live id f) id) (f old) ((Changed-update nat_list_cmp_total exact_bytes live id f).here ∙ ap (option_map f) is)
+    is_there (fin.get (update live id f) id) (f old)
+    ((Changed-update nat_list_cmp_total exact_bytes live id f).here ∙ ap (option_map f) is)

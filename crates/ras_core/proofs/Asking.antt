@@ -1,5 +1,6 @@
 -- What follows from a pool's answer about a request is what it comes to.
-use Rattle.std.proofs.Common.{◌≡◌, ◌≤◌, ◌+◌, ℕ, length, Bool, true, false, List, refl, sym, ◌∙◌, ap, subst, Some, None}
+use Rattle.std.proofs.Common.{◌≡◌, ◌≤◌, ◌+◌, ℕ, length, Bool, true, false, List, refl, sym, ◌∙◌, ap}
+use Rattle.std.proofs.Common.{subst, Some, None}
 use Rattle.std.specs.Prelude.{Option, All, IfSome, if◌then◌else◌}
 use Rattle.ras_module.specs.declared.reply.Reply.{Reply}
 use Rattle.ras_module.specs.declared.request.Request.{Request}
@@ -21,9 +22,11 @@ use Rattle.ras_core.specs.inside.Parts.{RunningZone}
 use Rattle.ras_core.specs.Plans.{Served, Plan, Asking}
 use Rattle.ras_core.specs.Pools.{figures_at, pools_after_answer}
 use Rattle.ras_core.specs.Requests.{seq_of}
-use Rattle.ras_core.specs.Keeping.{Progress, Task, answered, answered_by, in_progress, kept_as, plan_at, term_of, waits, with_answered_pool}
+use Rattle.ras_core.specs.Keeping.{Progress, Task, answered, answered_by, in_progress, kept_as}
+use Rattle.ras_core.specs.Keeping.{plan_at, term_of, waits, with_answered_pool}
 use Rattle.ras_core.specs.Machine.{Ending, Serving, ended, note_at, plan_ending}
-use Rattle.ras_core.specs.inside.Decisions.{Asks, ask_of, calls_after_answer, granted_by, refused_by, reply_of}
+use Rattle.ras_core.specs.inside.Decisions.{Asks, ask_of, calls_after_answer, granted_by}
+use Rattle.ras_core.specs.inside.Decisions.{refused_by, reply_of}
 use Rattle.ras_core.specs.inside.Changes.{heard_at}
 use Rattle.ras_core.specs.Soundness.{AreBornBefore, HasCounts}
 use Rattle.ras_core.specs.inside.Serving.{Does, IsJob}
@@ -94,7 +97,8 @@ module _ (s : State) (lasts : List Last) (now : ℕ) (key : KeptKey) (request : 
   -- a reply to a request that is answered at once, or in progress
   lent_now : (occasion : Occasion) (units : ℕ)
       → plan_ending s now (asked_task occasion) (plan_at occasion now (Some id) asking)
-      (choices_of (asked_outcome occasion (Lent units) (reply_of q (Lent units) false s.zone.config.delay)))
+      (choices_of (asked_outcome occasion (Lent units)
+      (reply_of q (Lent units) false s.zone.config.delay)))
       ≡ asked_answer occasion (Lent units) false (reply_of q (Lent units) false s.zone.config.delay)
   lent_now First units = refl
   lent_now (Again born left) units = refl
@@ -112,7 +116,8 @@ module _ (s : State) (lasts : List Last) (now : ℕ) (key : KeptKey) (request : 
       ≡ asked_answer First Wait true (reply_of q Wait true s.zone.config.delay)
   waits_at_first seq = ap (λ n. asked_answer First Wait true (Rip n s.zone.config.delay)) seq
 
-  waits_again : (born left : ℕ) (w : Bool) → waits (Again born left) Wait ≡ w → seq_of request ≡ q.seq
+  waits_again : (born left : ℕ) (w : Bool) → waits (Again born left) Wait ≡ w
+      → seq_of request ≡ q.seq
       → plan_ending s now (asked_task (Again born left)) asking
       (choices_of (asked_outcome (Again born left) Wait (reply_of q Wait w s.zone.config.delay)))
       ≡ asked_answer (Again born left) Wait w (reply_of q Wait w s.zone.config.delay)
@@ -137,11 +142,13 @@ module _ (s : State) (lasts : List Last) (now : ℕ) (key : KeptKey) (request : 
 
   may_choose : (occasion : Occasion) (answer : Lend) (reply : Reply)
       → IsAnswer (figures_at s.zone.pools q.pool) q.units answer
-      → MayChoose s (plan_at occasion now (Some id) asking) (choices_of (asked_outcome occasion answer reply))
+      → MayChoose s (plan_at occasion now (Some id) asking)
+      (choices_of (asked_outcome occasion answer reply))
   may_choose First answer reply fits = fits
   may_choose (Again born left) answer reply fits = fits
 
-  ask_is : (occasion : Occasion) → ask_in_plan (plan_at occasion now (Some id) asking) ≡ Some (ask_of q)
+  ask_is : (occasion : Occasion)
+      → ask_in_plan (plan_at occasion now (Some id) asking) ≡ Some (ask_of q)
   ask_is First = refl
   ask_is (Again born left) = refl
 
@@ -163,7 +170,8 @@ module _ (s : State) (lasts : List Last) (now : ℕ) (key : KeptKey) (request : 
   born occasion false reply before =
       born_with_reply s.kept s.steps before key occasion dropped reply (now + s.zone.config.window)
 
-  pub does_asked : (occasion : Occasion) (answer : Lend) (w : Bool) (plan : Plan) → Asks s.zone plan q
+  pub does_asked : (occasion : Occasion) (answer : Lend) (w : Bool)
+      (plan : Plan) → Asks s.zone plan q
       → w ≡ waits occasion answer → seq_of request ≡ q.seq
       → IsAnswer (figures_at s.zone.pools q.pool) q.units answer
       → IsTimely s now dropped occasion → AreBornBefore s.steps s.kept
@@ -182,19 +190,24 @@ module _ (s : State) (lasts : List Last) (now : ℕ) (key : KeptKey) (request : 
         dropped = dropped;
         request = request;
         plan = plan_at occasion now (Some id) p;
-      })) (asked_outcome occasion answer reply) (asked_running occasion answer w reply)) (sym asks.is) (record {
+      })) (asked_outcome occasion answer reply) (asked_running occasion answer w reply))
+      (sym asks.is) (record {
         allowed = (timely, may_choose occasion answer reply fits);
         makes = asked_by occasion answer w w_is seq;
-        lasts = lasts_are occasion answer ∙ sym (ap (λ ask. lasts_after lasts ask (Some answer)) (ask_is occasion));
+        lasts = lasts_are occasion answer
+            ∙ sym (ap (λ ask. lasts_after lasts ask (Some answer)) (ask_is occasion));
         counts = λ most h. subst (λ (pools : List Figures). All (HasCounts (most + 1)) pools)
-            (sym (pools_are occasion answer)) (All-answer most s.zone.pools q.pool answer h (asks.may).pool);
+            (sym (pools_are occasion answer))
+            (All-answer most s.zone.pools q.pool answer h (asks.may).pool);
         births = λ h. born occasion w reply before;
         few = few;
       })
 
 -- the same, of what the code has
-pub does_answered : (old : Running) (now : ℕ) (job : Job) (id : List ℕ) (request : Request) (q : Question)
-    (dropped : Option ℕ) (answer : Lend) (w : Bool) (reply : Reply) (services : RunningZone) (kept : KeptReplies)
+pub does_answered : (old : Running) (now : ℕ) (job : Job) (id : List ℕ)
+    (request : Request) (q : Question)
+    (dropped : Option ℕ) (answer : Lend) (w : Bool) (reply : Reply)
+    (services : RunningZone) (kept : KeptReplies)
     → w ≡ waits job.occasion answer → seq_of request ≡ q.seq
     → IsAnswer (figures_at old.state.zone.pools q.pool) q.units answer
     → IsJob old.state now job → AreBornBefore old.state.steps old.state.kept
@@ -225,11 +238,13 @@ pub does_answered : (old : Running) (now : ℕ) (job : Job) (id : List ℕ) (req
       state = record old.state { zone = services.zone; kept = kept };
       lasts = services.lasts;
     })
-does_answered old now job id request q dropped answer w reply services kept w_is seq fits may before over reply_is few services_is kept_is plan asks =
+does_answered old now job id request q dropped answer w reply services kept w_is seq fits may before
+    over reply_is few services_is kept_is plan asks =
     let s = old.state in
     let due = asked_running s old.lasts now job.key request dropped id q job.occasion answer w in
     let told = reply_of q answer w s.zone.config.delay in
-    let does = does_asked s old.lasts now job.key request dropped id q job.occasion answer w plan asks w_is seq fits
+    let does = does_asked s old.lasts now job.key request dropped id q job.occasion answer
+    w plan asks w_is seq fits
     (timely_of s now job.key job.occasion dropped may over) before
     (subst (λ (r : Reply). length (encoding_of r) ≤ 20000) reply_is few) in
     let course = Serving (record {
@@ -238,16 +253,24 @@ does_answered old now job id request q dropped answer w reply services kept w_is
       request = request;
       plan = plan_at job.occasion now (Some id) plan;
     }) in
-    let kept_so = kept_is ∙ ap (λ (r : Reply). kept_as s.kept job.key job.occasion dropped s.steps request r w (term_of s.zone.config now)) reply_is in
-    subst (λ (r : Reply). Does old now course (asked_outcome s old.lasts now job.key request dropped id q job.occasion answer r) (record {
+    let kept_so = kept_is ∙ ap (λ (r : Reply). kept_as s.kept job.key job.occasion dropped s.steps
+    request r w (term_of s.zone.config now)) reply_is in
+    subst (λ (r : Reply). Does old now course
+    (asked_outcome s old.lasts now job.key request dropped id q job.occasion answer r) (record {
       state = record s { zone = services.zone; kept = kept };
       lasts = services.lasts;
     })) (sym reply_is)
-    (subst (λ (z : RunningZone). Does old now course (asked_outcome s old.lasts now job.key request dropped id q job.occasion answer told) (record {
+    (subst (λ (z : RunningZone). Does old now course (asked_outcome s old.lasts now job.key request
+    dropped id q job.occasion answer told) (record {
       state = record s { zone = z.zone; kept = kept };
       lasts = z.lasts;
     })) (sym services_is)
-    (subst (λ (k : KeptReplies). Does old now course (asked_outcome s old.lasts now job.key request dropped id q job.occasion answer told) (record {
-      state = record s { zone = (asked_zone s old.lasts now job.key request dropped id q job.occasion answer).zone; kept = k };
+    (subst (λ (k : KeptReplies). Does old now course (asked_outcome s old.lasts now job.key request
+    dropped id q job.occasion answer told) (record {
+      state = record s {
+        zone = (asked_zone s old.lasts now job.key request dropped id q
+            job.occasion answer).zone;
+        kept = k;
+      };
       lasts = (asked_zone s old.lasts now job.key request dropped id q job.occasion answer).lasts;
     })) (sym kept_so) does))

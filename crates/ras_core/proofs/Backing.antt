@@ -1,5 +1,6 @@
 -- Calls stay backed by the pools, within the limits, as they open, change and end.
-use Rattle.std.proofs.Common.{◌≡◌, ◌<◌, ◌≤◌, ◌+◌, ◌^◌, All, ℕ, Bool, true, false, List, length, refl, sym, ◌∙◌, ap, subst, arith, Some, None}
+use Rattle.std.proofs.Common.{◌≡◌, ◌<◌, ◌≤◌, ◌+◌, ◌^◌, All, ℕ, Bool, true, false, List, length}
+use Rattle.std.proofs.Common.{refl, sym, ◌∙◌, ap, subst, arith, Some, None}
 use Rattle.std.specs.Prelude.{Option, IsSome, IsTrue, slice_set}
 use Rattle.std.specs.FinMap as fin
 use Rattle.std.proofs.lemmas.List.{length-map, length-set}
@@ -11,26 +12,34 @@ use Rattle.admission.proofs.Leaving.{freed-other, freed-last}
 use Rattle.ras_module.specs.declared.call_key.CallKey.{CallKey}
 use Rattle.admission.specs.declared.call.Call.{Call}
 use Rattle.admission.specs.declared.leg.Leg.{Leg}
-use Rattle.admission.specs.Calls.{CallTable, OpenCalls, EachCall, in_use, leg_at, legs_in, units_from, units_of, new_call, with_leg, with_units, after_leave, freed_by_leave}
+use Rattle.admission.specs.Calls.{CallTable, OpenCalls, EachCall, in_use, leg_at, legs_in}
+use Rattle.admission.specs.Calls.{units_from, units_of, new_call, with_leg, with_units, after_leave}
+use Rattle.admission.specs.Calls.{freed_by_leave}
 use Rattle.admission.specs.Legs.{has_other, leg_of}
 use Rattle.admission.proofs.StoredCalls.{EachCall-insert}
-use Rattle.admission.proofs.Soundness.{in_use-open, in_use-join, in_use-set_units, in_use-left, in_use-ended, EachCall-update, EachCall-leave, EachCall-empty}
+use Rattle.admission.proofs.Soundness.{in_use-open, in_use-join, in_use-set_units, in_use-left}
+use Rattle.admission.proofs.Soundness.{in_use-ended, EachCall-update, EachCall-leave}
+use Rattle.admission.proofs.Soundness.{EachCall-empty}
 use Rattle.pools.specs.declared.interface.Figures.{Figures}
 use Rattle.pools.specs.declared.interface.Lend.{Lend}
 use Rattle.pools.specs.declared.interface.Lend.TheVariants.{Lent, Refused, Wait}
-use Rattle.pools.specs.Account.{Account, IsAnswer, MayAsk, is_idle, opening_account, figures_after_answer}
+use Rattle.pools.specs.Account.{Account, IsAnswer, MayAsk, is_idle, opening_account}
+use Rattle.pools.specs.Account.{figures_after_answer}
 use Rattle.pools.specs.Accounts.{account_at}
 use Rattle.ras_core.specs.declared.change.Question.{Question}
 use Rattle.ras_core.specs.declared.change.Purpose.{Purpose}
 use Rattle.ras_core.specs.declared.change.Purpose.TheVariants.{Opening, Raising}
-use Rattle.ras_core.specs.Pools.{figures_at, figures_of, figures_after_return, pools_after_answer, pools_after_return, pools_after_end}
+use Rattle.ras_core.specs.Pools.{figures_at, figures_of, figures_after_return, pools_after_answer}
+use Rattle.ras_core.specs.Pools.{pools_after_return, pools_after_end}
 use Rattle.ras_core.specs.inside.Parts.{Usage, IsBacked, with_usage}
-use Rattle.ras_core.specs.inside.Decisions.{IsBandWidth, IsEnterable, IsGrantable, IsPurpose, IsQuestion, granted_calls, calls_after_answer}
+use Rattle.ras_core.specs.inside.Decisions.{IsBandWidth, IsEnterable, IsGrantable, IsPurpose}
+use Rattle.ras_core.specs.inside.Decisions.{IsQuestion, granted_calls, calls_after_answer}
 use Rattle.ras_core.specs.inside.Changes.{IsOpenable, IsJoinable, IsLowerable}
 use Rattle.ras_core.specs.Soundness.{HasCounts}
 use Rattle.ras_core.proofs.Agreeing.{is_there}
 use Rattle.ras_core.proofs.PoolFigures.{figures_there}
-use Rattle.ras_core.proofs.Lending.{lent-opened, lent-opened_empty, lent-joined, lent-refused, lent-waiting, lent-part, lent-raised, lent-lowered, lent-left}
+use Rattle.ras_core.proofs.Lending.{lent-opened, lent-opened_empty, lent-joined, lent-refused}
+use Rattle.ras_core.proofs.Lending.{lent-waiting, lent-part, lent-raised, lent-lowered, lent-left}
 
 -- each call's pool is one of these, however the figures of one change
 kept_length : (calls : OpenCalls) (pools : List Figures) (i : ℕ) (f : Figures)
@@ -106,7 +115,13 @@ module _ (u : Usage) (b : IsBacked u) (key : CallKey) where
         call_limit = EachCall-update (λ call. call.units ≤ u.call_limit) u.calls key b.call_limit
             (with_units units)
             (λ call there. omega (arith, can.back_is, b.call_limit key can.call can.there));
-        limit = omega (arith, in_use-set_units u.calls key can.call units can.there, can.back_is, b.limit);
+        limit = omega (
+          arith,
+          in_use-set_units u.calls key can.call units
+              can.there,
+          can.back_is,
+          b.limit,
+        );
       })
 
   module _ (endpoint : List ℕ) (call : Call) (there : fin.get u.calls key ≡ Some call) where
@@ -127,13 +142,16 @@ module _ (u : Usage) (b : IsBacked u) (key : CallKey) where
     } where
       by_others : (o : Bool) → has_other call.legs endpoint ≡ o
           → in_use (after_leave u.calls key endpoint) ≤ u.limit
-      by_others true other = omega (arith, in_use-left u.calls key call endpoint there other, b.limit)
-      by_others false last = omega (arith, in_use-ended u.calls key call endpoint there last, b.limit)
+      by_others true other =
+          omega (arith, in_use-left u.calls key call endpoint there other, b.limit)
+      by_others false last =
+          omega (arith, in_use-ended u.calls key call endpoint there last, b.limit)
 
 module _ (u : Usage) (b : IsBacked u) (q : Question) (may : IsQuestion u q) where
   lent_for : (n : ℕ) → IsAnswer (figures_at u.pools q.pool) q.units (Lent n) → (p : Purpose)
       → IsPurpose u q p
-      → IsBacked (with_usage u (granted_calls q p n u.calls) (pools_after_answer u.pools q.pool (Lent n)))
+      → IsBacked (with_usage u (granted_calls q p n u.calls)
+      (pools_after_answer u.pools q.pool (Lent n)))
   lent_for n fits (Opening leg) can = record {
     small = b.small;
     lent = lent-opened u.pools u.calls q.call b.lent q.pool n leg can.0.absent may.pool;
@@ -177,7 +195,8 @@ module _ (u : Usage) (b : IsBacked u) (q : Question) (may : IsQuestion u q) wher
       → All (HasCounts (2 ^ 63)) u.pools → MayAsk (account_at accounts q.pool) q.units
   may_ask accounts same counts =
       let here : HasCounts (2 ^ 63) (account_at accounts q.pool).figures =
-      subst (HasCounts (2 ^ 63)) (ap (λ (fs : List Figures). figures_at fs q.pool) same ∙ figures_there accounts q.pool)
+      subst (HasCounts (2 ^ 63))
+      (ap (λ (fs : List Figures). figures_at fs q.pool) same ∙ figures_there accounts q.pool)
       (counts q.pool (opening_account 0).figures may.pool) in
       record {
         at_least_one = may.some;
@@ -196,13 +215,15 @@ module _ (u : Usage) (b : IsBacked u) (q : Question) (may : IsQuestion u q) wher
     omega (arith, can.1, b.small, few),
   )
   grantable t calls most room n few (Raising had) can = (
-    is_there (fin.get t.calls q.call) can.call (ap (λ (cs : OpenCalls). fin.get cs q.call) calls ∙ can.there),
+    is_there (fin.get t.calls q.call) can.call
+        (ap (λ (cs : OpenCalls). fin.get cs q.call) calls ∙ can.there),
     omega (arith, can.limit, b.small, few),
   )
 
   pub enterable : (t : CallTable) → t.calls ≡ u.calls → t.most ≡ u.most → 0 < t.room
       → (f : Figures) (answer : Lend) → IsAnswer f q.units answer → IsEnterable t q answer
-  enterable t calls most room f (Lent n) fits = grantable t calls most room n fits.1 q.purpose may.purpose
+  enterable t calls most room f (Lent n) fits =
+      grantable t calls most room n fits.1 q.purpose may.purpose
   enterable t calls most room f Refused fits = tt
   enterable t calls most room f Wait fits = tt
 
@@ -263,7 +284,8 @@ module _ (u : Usage) (b : IsBacked u) (key : CallKey) (endpoint : List ℕ) (cal
   its_own : (o : Bool) → has_other call.legs endpoint ≡ o → (call.pool, call.units) ≡ freed
   its_own true other = some_none (sym is ∙ freed-other u.calls key endpoint call there other)
   its_own false last =
-      same_some (call.pool, call.units) freed (sym (freed-last u.calls key endpoint call there last) ∙ is)
+      same_some (call.pool, call.units) freed
+      (sym (freed-last u.calls key endpoint call there last) ∙ is)
 
   pub freed_pool : freed.0 < length u.pools
   freed_pool = subst (λ (f : ℕ × ℕ). f.0 < length u.pools)
@@ -292,7 +314,8 @@ IsBacked-start accounts most limit call_limit idle small = record {
   lent = λ p below. omega (
     arith,
     ap (λ f. f.lent) (figures_there accounts p),
-    idle_lent (account_at accounts p) (idle p (opening_account 0) (omega (arith, below, length-map accounts (λ a. a.figures)))),
+    idle_lent (account_at accounts p)
+        (idle p (opening_account 0) (omega (arith, below, length-map accounts (λ a. a.figures)))),
     total-empty call_key_cmp_total call_key_cmp-IsAntisymmetric (units_from p),
   );
   pools = EachCall-empty (λ call. call.pool < length (figures_of accounts));

@@ -1,4 +1,5 @@
--- What is decided about a request, once it is carried out and its reply is kept, is what it comes to.
+-- What is decided about a request, once it is carried out and its reply is kept, is
+-- what it comes to.
 use Rattle.std.proofs.Common.{◌≡◌, ◌≤◌, ◌+◌, ℕ, length, List, refl, sym, ◌∙◌, ap, subst, Some, None}
 use Rattle.std.specs.Prelude.{Option, IfSome}
 use Rattle.std.specs.Option.{IsSomeAnd}
@@ -26,7 +27,8 @@ use Rattle.ras_core.specs.inside.Changes.{after_change, changed, heard_at}
 use Rattle.ras_core.specs.inside.Room.{IsPlaced}
 use Rattle.ras_core.specs.Soundness.{AreBornBefore}
 use Rattle.ras_core.specs.inside.Serving.{CountsOneMore, Does, IsJob, IsOccasion}
-use Rattle.ras_core.specs.Steps.{IsUnusedIn, IsTimely, MayChoose, ask_in_plan, choices_of, lasts_after}
+use Rattle.ras_core.specs.Steps.{IsUnusedIn, IsTimely, MayChoose, ask_in_plan, choices_of}
+use Rattle.ras_core.specs.Steps.{lasts_after}
 use Rattle.ras_core.proofs.ButLent.{counts_same, same_after_change}
 use Rattle.ras_core.proofs.Dropping.{born_with_reply}
 
@@ -37,18 +39,22 @@ zone_after z lasts now occasion endpoint change =
 
 -- the time at which a request is served
 pub timely_of : (s : State) (now : ℕ) (key : KeptKey) (occasion : Occasion) (dropped : Option ℕ)
-    → IsOccasion s now key occasion → IfSome dropped (Passes (is_over now) s.kept) → IsTimely s now dropped occasion
+    → IsOccasion s now key occasion → IfSome dropped (Passes (is_over now) s.kept)
+    → IsTimely s now dropped occasion
 timely_of s now key First dropped may over = over
 timely_of s now key (Again born left) dropped may over = may.due
 
 -- and where its entry finds a place
 pub placed_of : (s : State) (t : KeptTable) (now : ℕ) (key : KeptKey) (occasion : Occasion)
-    → t.kept ≡ s.kept → t.most ≡ s.zone.config.kept → IsOccasion s now key occasion → IsPlaced t now key occasion
+    → t.kept ≡ s.kept → t.most ≡ s.zone.config.kept → IsOccasion s now key occasion
+    → IsPlaced t now key occasion
 placed_of s t now key First kept most may = λ absent busy.
-    may.place (ap (λ k. fin.get k key) (sym kept) ∙ absent) (ap fin.len (sym kept) ∙ (busy.full ∙ most))
+    may.place (ap (λ k. fin.get k key) (sym kept)
+    ∙ absent) (ap fin.len (sym kept) ∙ (busy.full ∙ most))
     (subst (NonePasses (is_over now)) kept busy.none_over)
 placed_of s t now key (Again born left) kept most may =
-    subst (λ k. IsSomeAnd (fin.get k key) (λ entry. left_in entry.state ≡ left)) (sym kept) may.there
+    subst (λ k. IsSomeAnd (fin.get k key)
+    (λ entry. left_in entry.state ≡ left)) (sym kept) may.there
 
 module _ (s : State) (lasts : List Last) (now : ℕ) (key : KeptKey) (request : Request)
     (dropped : Option ℕ) (reply : Reply) (change : Change) where
@@ -78,7 +84,8 @@ module _ (s : State) (lasts : List Last) (now : ℕ) (key : KeptKey) (request : 
   abbrev pub served_by : Served
   served_by = record { reply = reply; zone = after_change now change s.zone }
 
-  pub answer_by : (occasion : Occasion) (endpoint : Option (List ℕ)) (plan : Plan) (given : Option (List ℕ))
+  pub answer_by : (occasion : Occasion) (endpoint : Option (List ℕ)) (plan : Plan)
+      (given : Option (List ℕ))
       → resolved plan given ≡ Some served_by
       → plan_ending s now (task_by occasion (plan_at occasion now endpoint plan))
       (plan_at occasion now endpoint plan) (choices_of (outcome_by occasion given))
@@ -86,11 +93,14 @@ module _ (s : State) (lasts : List Last) (now : ℕ) (key : KeptKey) (request : 
   answer_by First None (Settled served) None is =
       subst (λ (v : Served). plan_ending s now (task_by First (plan_at First now None (Settled v)))
       (plan_at First now None (Settled v)) (choices_of (outcome_by First None))
-      ≡ Some (outcome_by First None, state_by First None)) (sym (same_some served served_by is)) refl
+      ≡ Some (outcome_by First None, state_by First None))
+      (sym (same_some served served_by is)) refl
   answer_by First (Some id) (Settled served) None is =
-      subst (λ (v : Served). plan_ending s now (task_by First (plan_at First now (Some id) (Settled v)))
+      subst (λ (v : Served). plan_ending s now
+      (task_by First (plan_at First now (Some id) (Settled v)))
       (plan_at First now (Some id) (Settled v)) (choices_of (outcome_by First None))
-      ≡ Some (outcome_by First None, state_by First (Some id))) (sym (same_some served served_by is)) refl
+      ≡ Some (outcome_by First None, state_by First (Some id)))
+      (sym (same_some served served_by is)) refl
   answer_by (Again born left) endpoint (Settled served) None is =
       subst (λ (v : Served). plan_ending s now (task_by (Again born left) (Settled v)) (Settled v)
       (choices_of (outcome_by (Again born left) None))
@@ -99,17 +109,20 @@ module _ (s : State) (lasts : List Last) (now : ℕ) (key : KeptKey) (request : 
   answer_by occasion endpoint (Settled served) (Some id) is = absurd (cc is)
   answer_by occasion endpoint (Naming named) None is = absurd (cc is)
   answer_by First None (Naming named) (Some id) is =
-      ap (λ (v : Served). ended s now (task_by First (plan_at First now None (Naming named))) (Some id) None
+      ap (λ (v : Served). ended s now
+      (task_by First (plan_at First now None (Naming named))) (Some id) None
       (answered v)) (same_some (named id) served_by is)
   answer_by First (Some endpoint) (Naming named) (Some id) is =
-      ap (λ (v : Served). ended s now (task_by First (plan_at First now (Some endpoint) (Naming named))) (Some id) None
+      ap (λ (v : Served). ended s now
+      (task_by First (plan_at First now (Some endpoint) (Naming named))) (Some id) None
       (answered (with_heard now (Some endpoint) v))) (same_some (named id) served_by is)
   answer_by (Again born left) endpoint (Naming named) (Some id) is =
       ap (λ (v : Served). ended s now (task_by (Again born left) (Naming named)) (Some id) None
       (answered v)) (same_some (named id) served_by is)
   answer_by occasion endpoint (Asking ask lent refused) given is = absurd (cc is)
 
-  pub may_choose : (occasion : Occasion) (endpoint : Option (List ℕ)) (plan : Plan) (given : Option (List ℕ))
+  pub may_choose : (occasion : Occasion) (endpoint : Option (List ℕ)) (plan : Plan)
+      (given : Option (List ℕ))
       → resolved plan given ≡ Some served_by → IfSome given (IsUnusedIn s)
       → MayChoose s (plan_at occasion now endpoint plan) (choices_of (outcome_by occasion given))
   may_choose First endpoint (Settled served) given is unused = tt
@@ -118,8 +131,10 @@ module _ (s : State) (lasts : List Last) (now : ℕ) (key : KeptKey) (request : 
   may_choose (Again born left) endpoint (Naming named) given is unused = unused
   may_choose occasion endpoint (Asking ask lent refused) given is unused = absurd (cc is)
 
-  pub nothing_asked : (occasion : Occasion) (endpoint : Option (List ℕ)) (plan : Plan) (given : Option (List ℕ))
-      → resolved plan given ≡ Some served_by → ask_in_plan (plan_at occasion now endpoint plan) ≡ None
+  pub nothing_asked : (occasion : Occasion) (endpoint : Option (List ℕ)) (plan : Plan)
+      (given : Option (List ℕ))
+      → resolved plan given ≡ Some served_by
+      → ask_in_plan (plan_at occasion now endpoint plan) ≡ None
   nothing_asked First endpoint (Settled served) given is = refl
   nothing_asked (Again born left) endpoint (Settled served) given is = refl
   nothing_asked First endpoint (Naming named) given is = refl
@@ -133,7 +148,8 @@ module _ (s : State) (lasts : List Last) (now : ℕ) (key : KeptKey) (request : 
   lasts_stay (Again born left) endpoint = refl
 
   pools_are : (occasion : Occasion) (endpoint : Option (List ℕ))
-      → (zone_after s.zone lasts now occasion endpoint change).zone.pools ≡ (after_change now change s.zone).pools
+      → (zone_after s.zone lasts now occasion endpoint change).zone.pools
+      ≡ (after_change now change s.zone).pools
   pools_are First None = refl
   pools_are First (Some id) = refl
   pools_are (Again born left) endpoint = refl
@@ -144,8 +160,10 @@ module _ (s : State) (lasts : List Last) (now : ℕ) (key : KeptKey) (request : 
     lasts = (zone_after s.zone lasts now occasion endpoint change).lasts;
   }
 
-  pub does_by : (occasion : Occasion) (endpoint : Option (List ℕ)) (plan : Plan) (given : Option (List ℕ))
-      → resolved plan given ≡ Some served_by → IfSome given (IsUnusedIn s) → IsTimely s now dropped occasion
+  pub does_by : (occasion : Occasion) (endpoint : Option (List ℕ)) (plan : Plan)
+      (given : Option (List ℕ))
+      → resolved plan given ≡ Some served_by → IfSome given (IsUnusedIn s)
+      → IsTimely s now dropped occasion
       → AreBornBefore s.steps s.kept → length (encoding_of reply) ≤ 20000
       → Does (record { state = s; lasts = lasts }) now
       (Serving (task_by occasion (plan_at occasion now endpoint plan)))
@@ -154,17 +172,22 @@ module _ (s : State) (lasts : List Last) (now : ℕ) (key : KeptKey) (request : 
     allowed = (timely, may_choose occasion endpoint plan given is unused);
     makes = answer_by occasion endpoint plan given is;
     lasts = lasts_stay occasion endpoint
-        ∙ sym (ap (λ ask. lasts_after lasts ask None) (nothing_asked occasion endpoint plan given is));
-    counts = subst (λ (pools : List Figures). CountsOneMore s.zone.pools pools) (sym (pools_are occasion endpoint))
-        (counts_same s.zone.pools (after_change now change s.zone).pools (same_after_change now change s.zone));
-    births = λ h. born_with_reply s.kept s.steps before key occasion dropped reply (now + s.zone.config.window);
+        ∙ sym (ap (λ ask. lasts_after lasts ask None)
+        (nothing_asked occasion endpoint plan given is));
+    counts = subst (λ (pools : List Figures). CountsOneMore s.zone.pools pools)
+        (sym (pools_are occasion endpoint))
+        (counts_same s.zone.pools (after_change now change s.zone).pools
+        (same_after_change now change s.zone));
+    births = λ h. born_with_reply s.kept s.steps before key occasion dropped reply
+        (now + s.zone.config.window);
     few = few;
   }
 
 -- The same, of what the code has.
 pub does_carried : (old : Running) (now : ℕ) (job : Job) (endpoint : Option (List ℕ)) (d : Decision)
     (dropped : Option ℕ) (services : RunningZone) (kept : KeptReplies)
-    → IfSome d.given (IsUnusedIn old.state) → IsJob old.state now job → AreBornBefore old.state.steps old.state.kept
+    → IfSome d.given (IsUnusedIn old.state) → IsJob old.state now job
+    → AreBornBefore old.state.steps old.state.kept
     → IfSome dropped (Passes (is_over now) old.state.kept) → length (encoding_of d.reply) ≤ 20000
     → services ≡ zone_after old.state.zone old.lasts now job.occasion endpoint d.change
     → kept ≡ with_reply old.state.kept job.key job.occasion dropped old.state.steps d.reply
@@ -185,7 +208,8 @@ pub does_carried : (old : Running) (now : ℕ) (job : Job) (endpoint : Option (L
       state = record old.state { zone = services.zone; kept = kept };
       lasts = services.lasts;
     })
-does_carried old now job endpoint d dropped services kept unused may before over few services_is kept_is plan request decides =
+does_carried old now job endpoint d dropped services kept unused may before over few services_is
+    kept_is plan request decides =
     let s = old.state in
     let course = Serving (record {
       job = job;
@@ -193,14 +217,20 @@ does_carried old now job endpoint d dropped services kept unused may before over
       request = request;
       plan = plan_at job.occasion now endpoint plan;
     }) in
-    let outcome = outcome_by s old.lasts now job.key request dropped d.reply d.change job.occasion d.given in
+    let outcome =
+    outcome_by s old.lasts now job.key request dropped d.reply d.change job.occasion d.given in
     subst (λ (z : RunningZone). Does old now course outcome (record {
       state = record s { zone = z.zone; kept = kept };
       lasts = z.lasts;
     })) (sym services_is)
     (subst (λ (k : KeptReplies). Does old now course outcome (record {
-      state = record s { zone = (zone_after s.zone old.lasts now job.occasion endpoint d.change).zone; kept = k };
+      state = record s {
+        zone = (zone_after s.zone old.lasts now job.occasion endpoint
+            d.change).zone;
+        kept = k;
+      };
       lasts = (zone_after s.zone old.lasts now job.occasion endpoint d.change).lasts;
     })) (sym kept_is)
-    (does_by s old.lasts now job.key request dropped d.reply d.change job.occasion endpoint plan d.given
+    (does_by s old.lasts now job.key request dropped d.reply d.change
+    job.occasion endpoint plan d.given
     decides.is unused (timely_of s now job.key job.occasion dropped may over) before few))

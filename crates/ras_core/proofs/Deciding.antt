@@ -1,5 +1,6 @@
 -- Decisions about requests.
-use Rattle.std.proofs.Common.{◌≡◌, ◌≤◌, ℕ, Bool, true, false, cond, List, [], ◌∷◌, length, sym, ◌∙◌, ap, refl, Some, None, arith}
+use Rattle.std.proofs.Common.{◌≡◌, ◌≤◌, ℕ, Bool, true, false, cond, List, [], ◌∷◌, length, sym, ◌∙◌}
+use Rattle.std.proofs.Common.{ap, refl, Some, None, arith}
 use Rattle.std.specs.Prelude.{Result, Ok, Err, IsOk, MatchResult, ◌<◌, filter, if◌then◌else◌}
 use Rattle.std.specs.FinMap as fin
 use Rattle.ras_module.specs.declared.alias.Alias.{Alias}
@@ -11,7 +12,8 @@ use Rattle.ras_core.specs.declared.registering.Registering.{Registering}
 use Rattle.ras_core.specs.declared.change.Change.TheVariants.{Endpoint}
 use Rattle.ras_core.specs.declared.change.EndpointChange.TheVariants.{Renewal}
 use Rattle.ras_core.specs.State.{Zone}
-use Rattle.ras_core.specs.Registering.{keep_alive, named, has_moved, confirmation, deadline, rejection}
+use Rattle.ras_core.specs.Registering.{keep_alive, named, has_moved, confirmation, deadline}
+use Rattle.ras_core.specs.Registering.{rejection}
 use Rattle.ras_core.specs.inside.Decisions.{Decides, resolved, served}
 use Rattle.ras_core.specs.Plans.{Settled}
 use Rattle.ras_core.proofs.Agreeing.{is_there}
@@ -19,28 +21,41 @@ use Rattle.ras_core.proofs.Agreeing.{is_there}
 pub length-filter : (p : Alias → Bool) (xs : List Alias) → length (filter p xs) ≤ length xs
 length-filter p [] = omega arith
 length-filter p (x ∷ xs) = cases (p x) (length-filter p xs) where
-  cases : (b : Bool) → length (filter p xs) ≤ length xs → length (cond b (x ∷ filter p xs) (filter p xs)) ≤ length (x ∷ xs)
+  cases : (b : Bool) → length (filter p xs) ≤ length xs
+      → length (cond b (x ∷ filter p xs) (filter p xs)) ≤ length (x ∷ xs)
   cases true h = omega arith
   cases false h = omega arith
 
 -- no more than 32 aliases go into a reply
 pub fits : (r : Result (List Alias) (List Alias)) (list : List Alias)
-    → MatchResult r (λ few. (few ≡ list) × (length list ≤ 32)) (λ many. (many ≡ list) × (32 < length list)) → length list ≤ 32 → IsOk r
+    → MatchResult r (λ few. (few ≡ list) × (length list ≤ 32)) (λ many. (many ≡ list)
+    × (32 < length list)) → length list ≤ 32 → IsOk r
 fits (Ok few) list h bound = refl
 fits (Err many) list h bound = absurd (omega (arith, h.1))
 
 -- a registration is kept alive
-pub Decides-renewal : (z : Zone) (now : ℕ) (q : Registering) (id : List ℕ) (r : Registration) (reply : Reply) (until : ℕ) → IsConsistent z.live
+pub Decides-renewal : (z : Zone) (now : ℕ) (q : Registering) (id : List ℕ) (r : Registration)
+    (reply : Reply) (until : ℕ) → IsConsistent z.live
     → q.endpoint ≡ Some id → fin.get z.live id ≡ Some r → has_moved r q.ras ≡ false
     → reply ≡ confirmation z q r.call_signal r.aliases r.identifier → until ≡ deadline z now q
-    → Decides z now (keep_alive z now q (named z q.endpoint)) (record { reply = reply; given = None; change = Endpoint (Renewal r.identifier until) })
+    → Decides z now (keep_alive z now q (named z q.endpoint))
+    (record { reply = reply; given = None; change = Endpoint (Renewal r.identifier until) })
 Decides-renewal z now q id r reply until sound names there stays reply_is until_is = record {
-  possible = (is_there (fin.get z.live r.identifier) r (ap (fin.get z.live) (sound.own id r there) ∙ there), tt);
+  possible = (
+    is_there (fin.get z.live r.identifier) r
+        (ap (fin.get z.live) (sound.own id r there) ∙ there),
+    tt,
+  );
   is = ap (λ plan. resolved plan None) (ap (keep_alive z now q) (ap (named z) names ∙ there)
-      ∙ ap (λ b. if b then rejection z q FullRegistrationRequired else Settled (served z now (record {
+      ∙ ap (λ b. if b then rejection z q FullRegistrationRequired else Settled
+      (served z now (record {
         reply = confirmation z q r.call_signal r.aliases r.identifier;
         given = None;
         change = Endpoint (Renewal r.identifier (deadline z now q));
       }))) stays)
-      ∙ (λ i. Some (served z now (record { reply = sym reply_is i; given = None; change = Endpoint (Renewal r.identifier (sym until_is i)) })));
+      ∙ (λ i. Some (served z now (record {
+        reply = sym reply_is i;
+        given = None;
+        change = Endpoint (Renewal r.identifier (sym until_is i));
+      })));
 }

@@ -1,6 +1,8 @@
 -- An endpoint that leaves all its calls, one after another in any order, leaves the same.
-use Rattle.std.proofs.Common.{◌≡◌, ◌<◌, ◌≤◌, ℕ, Bool, true, false, cond, List, [], ◌∷◌, length, get_or, refl, sym, ◌∙◌, ap, subst, Some, None, arith}
-use Rattle.std.specs.Prelude.{Option, All, is_some, option_and_then, not, nat_eq, filter, ◌||◌, IsSome, if◌then◌else◌}
+use Rattle.std.proofs.Common.{◌≡◌, ◌<◌, ◌≤◌, ℕ, Bool, true, false, cond, List, [], ◌∷◌, length}
+use Rattle.std.proofs.Common.{get_or, refl, sym, ◌∙◌, ap, subst, Some, None, arith}
+use Rattle.std.specs.Prelude.{Option, All, is_some, option_and_then, not, nat_eq, filter, ◌||◌}
+use Rattle.std.specs.Prelude.{IsSome, if◌then◌else◌}
 use Rattle.std.specs.List.{fold, list_any}
 use Rattle.std.specs.Ordering.{eq_by_cmp}
 use Rattle.std.specs.Cmp.Lexicographic.{pointwise}
@@ -16,7 +18,9 @@ use Rattle.ras_module.proofs.CallKeyOrder.{call_key_cmp_total, call_key_cmp-IsAn
 use Rattle.admission.specs.declared.call.Call.{Call}
 use Rattle.admission.specs.declared.leg.Leg.{Leg}
 use Rattle.admission.specs.Legs.{leg_of, without_leg}
-use Rattle.admission.specs.Calls.{OpenCalls, EachCall, EachLeg, IsCall, IsInNoCall, after_leave, freed_by, freed_by_leave, has_leg, in_use_of, leg_at, legs_in, legs_of, put_or_remove, rest_of_call, with_legs}
+use Rattle.admission.specs.Calls.{OpenCalls, EachCall, EachLeg, IsCall, IsInNoCall, after_leave}
+use Rattle.admission.specs.Calls.{freed_by, freed_by_leave, has_leg, in_use_of, leg_at, legs_in}
+use Rattle.admission.specs.Calls.{legs_of, put_or_remove, rest_of_call, with_legs}
 use Rattle.admission.proofs.Soundness.{legs_of-leave}
 use Rattle.ras_module.specs.Same.{texts_decide}
 use Rattle.pools.specs.declared.interface.Figures.{Figures}
@@ -31,12 +35,15 @@ use Rattle.ras_core.proofs.ButLent.{same_after_end, same_through}
 use Rattle.ras_core.proofs.Backing.{IsBacked-is, IsBacked-leave, call_with_leg}
 
 -- a leg that went is gone
-filter_once : {A : Type 0} (test : A → Bool) (xs : List A) → filter test (filter test xs) ≡ filter test xs
+filter_once : {A : Type 0} (test : A → Bool) (xs : List A)
+    → filter test (filter test xs) ≡ filter test xs
 filter_once test [] = refl
 filter_once test (x ∷ xs) = cases (test x) refl (filter_once test xs) where
   cases : (b : Bool) → test x ≡ b → filter test (filter test xs) ≡ filter test xs
-      → filter test (cond b (x ∷ filter test xs) (filter test xs)) ≡ cond b (x ∷ filter test xs) (filter test xs)
-  cases true is once = ap (λ b. cond b (x ∷ filter test (filter test xs)) (filter test (filter test xs))) is
+      → filter test (cond b (x ∷ filter test xs) (filter test xs))
+      ≡ cond b (x ∷ filter test xs) (filter test xs)
+  cases true is once =
+      ap (λ b. cond b (x ∷ filter test (filter test xs)) (filter test (filter test xs))) is
       ∙ ap (λ ys. x ∷ ys) once
   cases false is once = once
 
@@ -59,18 +66,23 @@ module _ (endpoint : List ℕ) where
   -- who has no leg leaves nothing
   all_stay : (legs : List Leg) → leg_of legs endpoint ≡ None → without_leg legs endpoint ≡ legs
   all_stay [] none = refl
-  all_stay (leg ∷ legs) none = cases (pointwise nat_eq leg.endpoint endpoint) none (all_stay legs) where
-    cases : (b : Bool) → cond b (Some leg) (leg_of legs endpoint) ≡ None
-        → (leg_of legs endpoint ≡ None → without_leg legs endpoint ≡ legs)
-        → cond (not b) (leg ∷ without_leg legs endpoint) (without_leg legs endpoint) ≡ leg ∷ legs
-    cases true h others = absurd (cc h)
-    cases false h others = ap (λ ls. leg ∷ ls) (others h)
+  all_stay (leg ∷ legs) none =
+      cases (pointwise nat_eq leg.endpoint endpoint) none (all_stay legs) where
+        cases : (b : Bool) → cond b (Some leg) (leg_of legs endpoint) ≡ None
+            → (leg_of legs endpoint ≡ None → without_leg legs endpoint ≡ legs)
+            → cond (not b) (leg ∷ without_leg legs endpoint)
+            (without_leg legs endpoint) ≡ leg ∷ legs
+        cases true h others = absurd (cc h)
+        cases false h others = ap (λ ls. leg ∷ ls) (others h)
 
-  with_all : (call : Call) (legs : List Leg) → call.legs ≡ legs → 1 ≤ length legs → with_legs legs call ≡ Some call
+  with_all : (call : Call) (legs : List Leg) → call.legs ≡ legs → 1 ≤ length legs
+      → with_legs legs call ≡ Some call
   with_all call [] is some = absurd (omega (arith, some))
-  with_all call (leg ∷ legs) is some = ap (λ (ls : List Leg). Some (record call { legs = ls })) (sym is)
+  with_all call (leg ∷ legs) is some =
+      ap (λ (ls : List Leg). Some (record call { legs = ls })) (sym is)
 
-  stays : (w : Option Call) → ((call : Call) → w ≡ Some call → IsCall call) → leg_of (legs_in w) endpoint ≡ None
+  stays : (w : Option Call) → ((call : Call) → w ≡ Some call → IsCall call)
+      → leg_of (legs_in w) endpoint ≡ None
       → rest w ≡ w
   stays None sound none = refl
   stays (Some call) sound none =
@@ -79,11 +91,13 @@ module _ (endpoint : List ℕ) where
 
   -- one call is left
   after_one : (calls : OpenCalls) (key : CallKey)
-      → Changed (fin.get calls) (fin.get (after_leave calls key endpoint)) key (rest (fin.get calls key))
+      → Changed (fin.get calls) (fin.get (after_leave calls key endpoint)) key
+      (rest (fin.get calls key))
   after_one calls key = cases (rest (fin.get calls key)) where
     cases : (w : Option Call) → Changed (fin.get calls) (fin.get (put_or_remove calls key w)) key w
     cases None = Changed-remove call_key_cmp_total call_key_cmp-IsAntisymmetric calls key
-    cases (Some call) = Changed-insert call_key_cmp_total call_key_cmp-IsAntisymmetric calls key call
+    cases (Some call) =
+        Changed-insert call_key_cmp_total call_key_cmp-IsAntisymmetric calls key call
 
   -- leaving one doesn't change what it is to leave them all
   pub rest_after : (calls : OpenCalls) (key q : CallKey)
@@ -93,28 +107,34 @@ module _ (endpoint : List ℕ) where
       by_key call_key_cmp_total call_key_cmp-IsAntisymmetric q key
       (rest (fin.get (after_leave calls key endpoint) q) ≡ rest (fin.get calls q))
       (λ same. ap (λ k. rest (fin.get (after_leave calls key endpoint) k)) same
-      ∙ (ap rest c.here ∙ (rest_once (fin.get calls key) ∙ ap (λ k. rest (fin.get calls k)) (sym same))))
+      ∙ (ap rest c.here
+      ∙ (rest_once (fin.get calls key) ∙ ap (λ k. rest (fin.get calls k)) (sym same))))
       (λ differ. ap rest (c.others q differ))
 
   -- what is left stays so
   still_left : (calls : OpenCalls) (key q : CallKey) → rest (fin.get calls q) ≡ fin.get calls q
-      → rest (fin.get (after_leave calls key endpoint) q) ≡ fin.get (after_leave calls key endpoint) q
+      → rest (fin.get (after_leave calls key endpoint) q)
+      ≡ fin.get (after_leave calls key endpoint) q
   still_left calls key q left =
       let c = after_one calls key in
       by_key call_key_cmp_total call_key_cmp-IsAntisymmetric q key
-      (rest (fin.get (after_leave calls key endpoint) q) ≡ fin.get (after_leave calls key endpoint) q)
-      (λ same. subst (λ k. rest (fin.get (after_leave calls key endpoint) k) ≡ fin.get (after_leave calls key endpoint) k)
+      (rest (fin.get (after_leave calls key endpoint) q)
+      ≡ fin.get (after_leave calls key endpoint) q)
+      (λ same. subst (λ k. rest (fin.get (after_leave calls key endpoint) k)
+      ≡ fin.get (after_leave calls key endpoint) k)
       (sym same) (ap rest c.here ∙ (rest_once (fin.get calls key) ∙ sym c.here)))
       (λ differ. ap rest (c.others q differ) ∙ (left ∙ sym (c.others q differ)))
 
   now_left : (calls : OpenCalls) (key : CallKey)
-      → rest (fin.get (after_leave calls key endpoint) key) ≡ fin.get (after_leave calls key endpoint) key
+      → rest (fin.get (after_leave calls key endpoint) key)
+      ≡ fin.get (after_leave calls key endpoint) key
   now_left calls key =
       let c = after_one calls key in
       ap rest c.here ∙ (rest_once (fin.get calls key) ∙ sym c.here)
 
   -- where no leg is left, all calls were left
-  pub all_left : (old new : OpenCalls) → ((q : CallKey) → rest (fin.get new q) ≡ rest (fin.get old q))
+  pub all_left : (old new : OpenCalls)
+      → ((q : CallKey) → rest (fin.get new q) ≡ rest (fin.get old q))
       → EachCall IsCall new → IsInNoCall new endpoint → AreLeft endpoint old new
   all_left old new same sound none q =
       sym (stays (fin.get new q) (λ call is. sound q call is) (none q)) ∙ same q
@@ -131,36 +151,44 @@ module _ (endpoint : List ℕ) where
   over_rest z [] q = refl
   over_rest z (key ∷ keys) q = over_rest (leave z key) keys q ∙ rest_after z.calls key q
 
-  over_still : (z : Zone) (keys : List CallKey) (q : CallKey) → rest (fin.get z.calls q) ≡ fin.get z.calls q
+  over_still : (z : Zone) (keys : List CallKey) (q : CallKey)
+      → rest (fin.get z.calls q) ≡ fin.get z.calls q
       → rest (fin.get (over z keys).calls q) ≡ fin.get (over z keys).calls q
   over_still z [] q left = left
   over_still z (key ∷ keys) q left = over_still (leave z key) keys q (still_left z.calls key q left)
 
-  over_left : (z : Zone) (keys : List CallKey) (q : CallKey) → list_any (eq_by_cmp call_key_cmp q) keys ≡ true
+  over_left : (z : Zone) (keys : List CallKey) (q : CallKey)
+      → list_any (eq_by_cmp call_key_cmp q) keys ≡ true
       → rest (fin.get (over z keys).calls q) ≡ fin.get (over z keys).calls q
   over_left z [] q among = absurd (cc among)
   over_left z (key ∷ keys) q among =
       by_key call_key_cmp_total call_key_cmp-IsAntisymmetric q key
       (rest (fin.get (over z (key ∷ keys)).calls q) ≡ fin.get (over z (key ∷ keys)).calls q)
       (λ same. over_still (leave z key) keys q
-      (subst (λ k. rest (fin.get (after_leave z.calls key endpoint) k) ≡ fin.get (after_leave z.calls key endpoint) k)
+      (subst (λ k. rest (fin.get (after_leave z.calls key endpoint) k)
+      ≡ fin.get (after_leave z.calls key endpoint) k)
       (sym same) (now_left z.calls key)))
       (λ differ. over_left (leave z key) keys q (later (eq_by_cmp call_key_cmp q key)
-      (test_false (eq_by_cmp call_key_cmp q key) (key_decides call_key_cmp_total call_key_cmp-IsAntisymmetric q key) differ) among)) where
+      (test_false (eq_by_cmp call_key_cmp q key)
+      (key_decides call_key_cmp_total call_key_cmp-IsAntisymmetric q key) differ) among)) where
         later : (b : Bool) → b ≡ false → (b || list_any (eq_by_cmp call_key_cmp q) keys) ≡ true
             → list_any (eq_by_cmp call_key_cmp q) keys ≡ true
-        later b is h = subst (λ (b : Bool). (b || list_any (eq_by_cmp call_key_cmp q) keys) ≡ true) is h
+        later b is h =
+            subst (λ (b : Bool). (b || list_any (eq_by_cmp call_key_cmp q) keys) ≡ true) is h
 
   -- each call is left, whether its key came or not
   pub over_all : (z : Zone) → AreLeft endpoint z.calls (without_legs_of z endpoint).calls
-  over_all z q = sym (cases (fin.contains_key z.calls q) refl) ∙ over_rest z (fin.keys z.calls) q where
-    cases : (b : Bool) → fin.contains_key z.calls q ≡ b
-        → rest (fin.get (over z (fin.keys z.calls)).calls q) ≡ fin.get (over z (fin.keys z.calls)).calls q
-    cases true is = over_left z (fin.keys z.calls) q (sym (fin.contains_key-keys z.calls q) ∙ is)
-    cases false is = over_still z (fin.keys z.calls) q (none (fin.get z.calls q) is) where
-      none : (w : Option Call) → is_some w ≡ false → rest w ≡ w
-      none None h = refl
-      none (Some call) h = absurd (cc h)
+  over_all z q = sym (cases (fin.contains_key z.calls q) refl)
+      ∙ over_rest z (fin.keys z.calls) q where
+        cases : (b : Bool) → fin.contains_key z.calls q ≡ b
+            → rest (fin.get (over z (fin.keys z.calls)).calls q)
+            ≡ fin.get (over z (fin.keys z.calls)).calls q
+        cases true is =
+            over_left z (fin.keys z.calls) q (sym (fin.contains_key-keys z.calls q) ∙ is)
+        cases false is = over_still z (fin.keys z.calls) q (none (fin.get z.calls q) is) where
+          none : (w : Option Call) → is_some w ≡ false → rest w ≡ w
+          none None h = refl
+          none (Some call) h = absurd (cc h)
 
   pub same_after_leave : (calls : OpenCalls) (pools : List Figures) (key : CallKey)
       → AreSameButLent pools (pools_after_end pools (freed_by_leave calls key endpoint))
@@ -184,18 +212,21 @@ module _ (endpoint : List ℕ) where
     cases None absent =
         let c = after_one u.calls key in
         let same : after_leave u.calls key endpoint ≡ u.calls =
-        fin.same_map call_key_cmp_total call_key_cmp-IsAntisymmetric (after_leave u.calls key endpoint) u.calls
+        fin.same_map call_key_cmp_total call_key_cmp-IsAntisymmetric
+        (after_leave u.calls key endpoint) u.calls
         (λ q. by_key call_key_cmp_total call_key_cmp-IsAntisymmetric q key
         (fin.get (after_leave u.calls key endpoint) q ≡ fin.get u.calls q)
         (λ same. ap (fin.get (after_leave u.calls key endpoint)) same
         ∙ (c.here ∙ (ap rest absent ∙ sym (ap (fin.get u.calls) same ∙ absent))))
         (λ differ. c.others q differ)) in
-        let freed : freed_by_leave u.calls key endpoint ≡ None = ap (option_and_then (freed_by endpoint)) absent in
+        let freed : freed_by_leave u.calls key endpoint ≡ None =
+        ap (option_and_then (freed_by endpoint)) absent in
         IsBacked-is u (after_leave u.calls key endpoint)
         (pools_after_end u.pools (freed_by_leave u.calls key endpoint)) u.most b same
         (ap (pools_after_end u.pools) freed) refl
 
-  over_backed : (z : Zone) (keys : List CallKey) → IsBacked (usage_of z) → IsBacked (usage_of (over z keys))
+  over_backed : (z : Zone) (keys : List CallKey) → IsBacked (usage_of z)
+      → IsBacked (usage_of (over z keys))
   over_backed z [] b = b
   over_backed z (key ∷ keys) b = over_backed (leave z key) keys (backed_after (usage_of z) key b)
 
@@ -216,7 +247,8 @@ module _ (endpoint : List ℕ) where
       fin.same_map call_key_cmp_total call_key_cmp-IsAntisymmetric all.calls new.calls
       (λ q. over_all z q ∙ sym (left.calls q)) in
       let pools : all.pools ≡ new.pools =
-      ext_get_or (opening_account 0).figures all.pools new.pools (same_pools.each ∙ sym left.pools.each)
+      ext_get_or (opening_account 0).figures all.pools new.pools
+      (same_pools.each ∙ sym left.pools.each)
       (λ i below.
       let here : i < length z.pools = omega (arith, below, same_pools.each) in
       let x = same_pools.same i here in
@@ -226,7 +258,8 @@ module _ (endpoint : List ℕ) where
       (all_backed.lent i below ∙ (ap (λ (calls : OpenCalls). in_use_of calls i) calls
       ∙ sym (backed.lent i (omega (arith, here, left.pools.each)))))) in
       over_else z (fin.keys z.calls) ∙ (λ j. record z { calls = calls j; pools = pools j }) where
-        same_figures : (f g : Figures) → f.limit ≡ g.limit → f.refusals ≡ g.refusals → f.waits ≡ g.waits
+        same_figures : (f g : Figures) → f.limit ≡ g.limit
+            → f.refusals ≡ g.refusals → f.waits ≡ g.waits
             → f.lent ≡ g.lent → f ≡ g
         same_figures f g limit refusals waits lent j = record {
           limit = limit j;
@@ -236,7 +269,8 @@ module _ (endpoint : List ℕ) where
         }
 
 -- an endpoint has fewer legs after it left a call
-pub fewer_legs : (endpoint : List ℕ) (calls : OpenCalls) (key : CallKey) → IsSome (leg_at calls key endpoint)
+pub fewer_legs : (endpoint : List ℕ) (calls : OpenCalls) (key : CallKey)
+    → IsSome (leg_at calls key endpoint)
     → legs_of (after_leave calls key endpoint) endpoint < legs_of calls endpoint
 fewer_legs endpoint calls key has =
     let call = call_with_leg calls key endpoint has in
@@ -257,11 +291,13 @@ fewer_legs endpoint calls key has =
       some_leg (Some leg) h = refl
 
 -- what holds of each leg holds of those that are left, which are of others
-rest_legs : (endpoint : List ℕ) (was call : Call) (legs : List Leg) → without_leg was.legs endpoint ≡ legs
+rest_legs : (endpoint : List ℕ) (was call : Call) (legs : List Leg)
+    → without_leg was.legs endpoint ≡ legs
     → with_legs legs was ≡ Some call → call.legs ≡ without_leg was.legs endpoint
 rest_legs endpoint was call [] is rest = absurd (cc rest)
 rest_legs endpoint was call (leg ∷ legs) is rest =
-    ap (λ (c : Call). c.legs) (sym (same_some (record was { legs = leg ∷ legs }) call rest)) ∙ sym is
+    ap (λ (c : Call). c.legs) (sym (same_some (record was { legs = leg ∷ legs }) call rest))
+    ∙ sym is
 
 pub legs_left : (endpoint : List ℕ) (P Q : Leg → Type 0)
     → ((leg : Leg) → (leg.endpoint ≡ endpoint → ⊥) → P leg → Q leg)
@@ -271,15 +307,17 @@ legs_left endpoint P Q f old new left each key call there = cases (fin.get old k
   test leg = not (pointwise nat_eq leg.endpoint endpoint)
 
   other : (leg : Leg) → test leg ≡ true → leg.endpoint ≡ endpoint → ⊥
-  other leg passes same = differ (pointwise nat_eq leg.endpoint endpoint) ((texts_decide leg.endpoint endpoint).1 same) passes where
-    differ : (b : Bool) → b ≡ true → not b ≡ true → ⊥
-    differ true h is = absurd (cc is)
-    differ false h is = absurd (cc h)
+  other leg passes same = differ (pointwise nat_eq leg.endpoint endpoint)
+      ((texts_decide leg.endpoint endpoint).1 same) passes where
+        differ : (b : Bool) → b ≡ true → not b ≡ true → ⊥
+        differ true h is = absurd (cc is)
+        differ false h is = absurd (cc h)
 
   cases : (w : Option Call) → fin.get old key ≡ w → All Q call.legs
   cases None is = some_none (sym there ∙ (left key ∙ ap (rest_of endpoint) is))
   cases (Some was) is =
-      let rest : rest_of_call endpoint was ≡ Some call = sym (ap (rest_of endpoint) is) ∙ (sym (left key) ∙ there) in
+      let rest : rest_of_call endpoint was ≡ Some call = sym (ap (rest_of endpoint) is)
+      ∙ (sym (left key) ∙ there) in
       subst (λ (legs : List Leg). All Q legs)
       (sym (rest_legs endpoint was call (without_leg was.legs endpoint) refl rest))
       (λ k d below. f (get_or (without_leg was.legs endpoint) k d)

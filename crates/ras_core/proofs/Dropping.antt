@@ -1,5 +1,6 @@
 -- What the kept replies are after one was dropped, and after one was added.
-use Rattle.std.proofs.Common.{Bor, ◌≡◌, ◌<◌, ◌+◌, ℕ, Bool, true, false, refl, sym, ◌∙◌, ap, subst, Some, None, arith}
+use Rattle.std.proofs.Common.{Bor, ◌≡◌, ◌<◌, ◌+◌, ℕ, Bool, true, false, refl, sym, ◌∙◌, ap, subst}
+use Rattle.std.proofs.Common.{Some, None, arith}
 use Rattle.std.specs.Prelude.{Option, IfSome, Contains, List, ◌↔◌, is_some}
 use Rattle.registrations.specs.Registry.{Live, IsUnused}
 use Rattle.ras_core.specs.Unused.{IsUnusedFor}
@@ -13,7 +14,9 @@ use Rattle.ras_module.specs.declared.reply.Reply.{Reply}
 use Rattle.ras_module.specs.declared.request.Request.{Request}
 use Rattle.kept_replies.specs.declared.key.KeptKey.{KeptKey}
 use Rattle.kept_replies.specs.declared.entry.KeptEntry.{KeptEntry}
-use Rattle.kept_replies.specs.Kept.{KeptReplies, AreBornApart, IsFreeBirth, IsNamed, KeptTable, Becomes, NonePasses, Passes, births, without, without_birth, done, pending, finished, postponed, is_over}
+use Rattle.kept_replies.specs.Kept.{KeptReplies, AreBornApart, IsFreeBirth, IsNamed, KeptTable}
+use Rattle.kept_replies.specs.Kept.{Becomes, NonePasses, Passes, births, without, without_birth}
+use Rattle.kept_replies.specs.Kept.{done, pending, finished, postponed, is_over}
 use Rattle.kept_replies.proofs.Births.{births-has}
 use Rattle.kept_replies.proofs.KeyOrder.{key_cmp_total, key_cmp-IsAntisymmetric}
 use Rattle.ras_core.specs.declared.job.Occasion.{Occasion}
@@ -22,7 +25,8 @@ use Rattle.ras_core.specs.inside.Room.{HasPlaceIn}
 use Rattle.ras_core.specs.Keeping.{after_drop, with_reply, with_request}
 use Rattle.ras_core.specs.Soundness.{AreBornBefore}
 
-get_without : (kept : KeptReplies) (row : Option (KeptKey × KeptEntry)) (key : KeptKey) (entry : KeptEntry)
+get_without : (kept : KeptReplies)
+    (row : Option (KeptKey × KeptEntry)) (key : KeptKey) (entry : KeptEntry)
     → fin.get (without kept row) key ≡ Some entry → fin.get kept key ≡ Some entry
 get_without kept None key entry there = there
 get_without kept (Some row) key entry there =
@@ -35,7 +39,8 @@ get_without kept (Some row) key entry there =
 pub get_after_drop : (kept : KeptReplies) (dropped : Option ℕ) (key : KeptKey) (entry : KeptEntry)
     → fin.get (after_drop kept dropped) key ≡ Some entry → fin.get kept key ≡ Some entry
 get_after_drop kept None key entry there = there
-get_after_drop kept (Some born) key entry there = get_without kept (fin.get (births kept) born) key entry there
+get_after_drop kept (Some born) key entry there =
+    get_without kept (fin.get (births kept) born) key entry there
 
 module _ (kept : KeptReplies) (apart : AreBornApart kept) (test : KeptEntry → Bool) (born : ℕ) where
   -- a place becomes free
@@ -45,54 +50,73 @@ module _ (kept : KeptReplies) (apart : AreBornApart kept) (test : KeptEntry → 
         → IsSomeAnd w (λ row. test row.1 ≡ true) → fin.len kept ≡ fin.len (without kept w) + 1
     cases None is h = absurd h
     cases (Some row) is h =
-        len_less key_cmp_total key_cmp-IsAntisymmetric kept row.0 row.1 (births-has kept apart born row is).0
+        len_less key_cmp_total key_cmp-IsAntisymmetric kept row.0 row.1
+        (births-has kept apart born row is).0
 
 module _ (kept : KeptReplies) (steps : ℕ) (before : AreBornBefore steps kept) where
   -- an entry that is born now shares its birth with none
-  pub is_free : (dropped : Option ℕ) (key : KeptKey) → IsFreeBirth (after_drop kept dropped) key steps
+  pub is_free : (dropped : Option ℕ) (key : KeptKey)
+      → IsFreeBirth (after_drop kept dropped) key steps
   is_free dropped key other entry there same =
-      absurd (omega (arith, before other entry (get_after_drop kept dropped other entry there), same))
+      absurd (omega (
+        arith,
+        before other entry
+            (get_after_drop kept dropped other entry there),
+        same,
+      ))
 
-  born_later : (key : KeptKey) (entry : KeptEntry) → fin.get kept key ≡ Some entry → entry.born < steps + 1
+  born_later : (key : KeptKey) (entry : KeptEntry) → fin.get kept key ≡ Some entry
+      → entry.born < steps + 1
   born_later key entry there = omega (arith, before key entry there)
 
   born_inserted : (dropped : Option ℕ) (key : KeptKey) (new : KeptEntry) → new.born ≡ steps
       → AreBornBefore (steps + 1) (fin.insert (after_drop kept dropped) key new)
   born_inserted dropped key new now q entry there =
-      let c = Changed-insert key_cmp_total key_cmp-IsAntisymmetric (after_drop kept dropped) key new in
+      let c =
+      Changed-insert key_cmp_total key_cmp-IsAntisymmetric (after_drop kept dropped) key new in
       by_key key_cmp_total key_cmp-IsAntisymmetric q key (entry.born < steps + 1)
       (λ same. subst (λ (e : KeptEntry). e.born < steps + 1)
-      (same_some new entry (sym c.here ∙ (ap (fin.get (fin.insert (after_drop kept dropped) key new)) (sym same) ∙ there)))
+      (same_some new entry (sym c.here
+      ∙ (ap (fin.get (fin.insert (after_drop kept dropped) key new)) (sym same) ∙ there)))
       (omega (arith, now)))
-      (λ differ. born_later q entry (get_after_drop kept dropped q entry (sym (c.others q differ) ∙ there)))
+      (λ differ. born_later q entry
+      (get_after_drop kept dropped q entry (sym (c.others q differ) ∙ there)))
 
-  born_updated : (key : KeptKey) (f : KeptEntry → KeptEntry) → ((e : KeptEntry) → (f e).born ≡ e.born)
+  born_updated : (key : KeptKey) (f : KeptEntry → KeptEntry)
+      → ((e : KeptEntry) → (f e).born ≡ e.born)
       → AreBornBefore (steps + 1) (update kept key f)
   born_updated key f stays q entry there =
       let c = Changed-update key_cmp_total key_cmp-IsAntisymmetric kept key f in
       by_key key_cmp_total key_cmp-IsAntisymmetric q key (entry.born < steps + 1)
-      (λ same. old (fin.get kept key) refl (sym c.here ∙ (ap (fin.get (update kept key f)) (sym same) ∙ there)))
+      (λ same. old (fin.get kept key) refl
+      (sym c.here ∙ (ap (fin.get (update kept key f)) (sym same) ∙ there)))
       (λ differ. born_later q entry (sym (c.others q differ) ∙ there)) where
-        old : (w : Option KeptEntry) → fin.get kept key ≡ w → option_map f w ≡ Some entry → entry.born < steps + 1
+        old : (w : Option KeptEntry) → fin.get kept key ≡ w → option_map f w ≡ Some entry
+            → entry.born < steps + 1
         old None is h = absurd (cc h)
         old (Some e) is h =
             subst (λ (e : KeptEntry). e.born < steps + 1) (same_some (f e) entry h)
             (omega (arith, stays e, before key e is))
 
   pub born_dropped : (born : ℕ) → AreBornBefore (steps + 1) (without_birth kept born)
-  born_dropped born q entry there = born_later q entry (get_after_drop kept (Some born) q entry there)
+  born_dropped born q entry there =
+      born_later q entry (get_after_drop kept (Some born) q entry there)
 
   pub born_same : AreBornBefore (steps + 1) kept
   born_same = born_later
 
-  pub born_with_reply : (key : KeptKey) (occasion : Occasion) (dropped : Option ℕ) (reply : Reply) (until : ℕ)
+  pub born_with_reply : (key : KeptKey) (occasion : Occasion) (dropped : Option ℕ)
+      (reply : Reply) (until : ℕ)
       → AreBornBefore (steps + 1) (with_reply kept key occasion dropped steps reply until)
-  born_with_reply key First dropped reply until = born_inserted dropped key (done steps reply until) refl
+  born_with_reply key First dropped reply until =
+      born_inserted dropped key (done steps reply until) refl
   born_with_reply key (Again first left) dropped reply until =
       born_updated key (finished reply until) (λ e. refl)
 
-  pub born_with_request : (key : KeptKey) (occasion : Occasion) (dropped : Option ℕ) (request : Request) (reply : Reply) (retry times : ℕ)
-      → AreBornBefore (steps + 1) (with_request kept key occasion dropped steps request reply retry times)
+  pub born_with_request : (key : KeptKey) (occasion : Occasion) (dropped : Option ℕ)
+      (request : Request) (reply : Reply) (retry times : ℕ)
+      → AreBornBefore (steps + 1)
+      (with_request kept key occasion dropped steps request reply retry times)
   born_with_request key First dropped request reply retry times =
       born_inserted dropped key (pending steps request reply retry times) refl
   born_with_request key (Again first left) dropped request reply retry times =
@@ -100,7 +124,8 @@ module _ (kept : KeptReplies) (steps : ℕ) (before : AreBornBefore steps kept) 
 
 -- an identifier that no endpoint has, and none of those that are named, is unused
 pub unused_for : (live : Live) (kept : KeptReplies) (named : List (List ℕ)) (id : List ℕ)
-    → ((id : List ℕ) → Contains named id ↔ IsNamed kept id) → IsUnused live named id → IsUnusedFor live kept id
+    → ((id : List ℕ) → Contains named id ↔ IsNamed kept id) → IsUnused live named id
+    → IsUnusedFor live kept id
 unused_for live kept named id iff unused = record {
   unused = record {
     not_live = unused.not_live;
@@ -111,12 +136,14 @@ unused_for live kept named id iff unused = record {
 }
 
 -- a look-up that finds nothing
-pub not_found : {A : Type 0} {v : Option A} (w : Option (Bor A)) → option_copied w ≡ v → is_some w ≡ false → v ≡ None
+pub not_found : {A : Type 0} {v : Option A} (w : Option (Bor A)) → option_copied w ≡ v
+    → is_some w ≡ false → v ≡ None
 not_found None is none = sym is
 not_found (Some x) is none = absurd (cc none)
 
 -- where there is no place, one becomes free
-pub has_place : (t new : KeptTable) (now : ℕ) (key : KeptKey) (dropped : Option ℕ) → AreBornApart t.kept
+pub has_place : (t new : KeptTable) (now : ℕ) (key : KeptKey)
+    (dropped : Option ℕ) → AreBornApart t.kept
     → fin.len t.kept ≡ t.most → fin.get t.kept key ≡ None → HasPlaceIn t now key
     → IfSome dropped (Passes (is_over now) t.kept)
     → IfSome dropped (λ born. Becomes t new (without_birth t.kept born))
@@ -124,7 +151,13 @@ pub has_place : (t new : KeptTable) (now : ℕ) (key : KeptKey) (dropped : Optio
 has_place t new now key None apart full absent place over becomes none =
     absurd (place absent (record { full = full; none_over = none refl }))
 has_place t new now key (Some born) apart full absent place over becomes none =
-    omega (arith, ap fin.len becomes.rows, becomes.most, full, fewer t.kept apart (is_over now) born over)
+    omega (
+      arith,
+      ap fin.len becomes.rows,
+      becomes.most,
+      full,
+      fewer t.kept apart (is_over now) born over,
+    )
 
 -- nothing that is kept was born
 pub born_nothing : (steps : ℕ) → AreBornBefore steps fin.empty

@@ -1,5 +1,6 @@
 -- What holds of every step.
-use Rattle.std.proofs.Common.{◌≡◌, ◌≤◌, ◌+◌, ℕ, Bool, true, false, List, [], ◌∷◌, length, sym, ◌∙◌, ap, subst, Some, None, arith}
+use Rattle.std.proofs.Common.{◌≡◌, ◌≤◌, ◌+◌, ℕ, Bool, true, false, List, [], ◌∷◌, length, sym, ◌∙◌}
+use Rattle.std.proofs.Common.{ap, subst, Some, None, arith}
 use Rattle.std.specs.Prelude.{Option, Ok, IsTrue, nat_lt, max, if◌then◌else◌}
 use Rattle.std.proofs.lemmas.Bool.Decides.{nat_tests}
 use Rattle.std.specs.FinMap as fin
@@ -22,8 +23,11 @@ use Rattle.ras_core.specs.Plans.{Plan}
 use Rattle.ras_core.specs.Requests.{plan_of}
 use Rattle.ras_core.specs.Keeping.{is_repeat}
 use Rattle.ras_core.specs.Turns.{IsNothingDueIn}
-use Rattle.ras_core.specs.Machine.{Ending, Course, Ignoring, Repeating, at_moment, course, course_ending, datagram_course, first, keyed_course, most_steps, planned_course, read_course, serving, turn_course}
-use Rattle.ras_core.specs.Steps.{EachState, IsAllowed, HasReply, IsWithinLimit, RunningRun, Step, choices_of, item_of}
+use Rattle.ras_core.specs.Machine.{Ending, Course, Ignoring, Repeating, at_moment, course}
+use Rattle.ras_core.specs.Machine.{course_ending, datagram_course, first, keyed_course, most_steps}
+use Rattle.ras_core.specs.Machine.{planned_course, read_course, serving, turn_course}
+use Rattle.ras_core.specs.Steps.{EachState, IsAllowed, HasReply, IsWithinLimit, RunningRun, Step}
+use Rattle.ras_core.specs.Steps.{choices_of, item_of}
 use Rattle.ras_core.proofs.Retrying.{plan_there}
 
 not_above : (n most : ℕ) → n ≤ most → nat_lt most n ≡ false
@@ -36,8 +40,10 @@ answered : (steps : ℕ) (b : Bool) (now : ℕ) (answer : Ending) (outcome : Out
 answered steps true now answer outcome after is = is
 answered steps false now answer outcome after is = absurd (cc is)
 
-module _ (s : State) (source : Address) (bytes : List ℕ) (now : ℕ) (request : Request) (entry : KeptEntry)
-    (few : length bytes ≤ 4096) (read : message_reading bytes ≡ Ok (Some request)) (served : HasReply request)
+module _ (s : State) (source : Address) (bytes : List ℕ) (now : ℕ)
+    (request : Request) (entry : KeptEntry)
+    (few : length bytes ≤ 4096) (read : message_reading bytes ≡ Ok (Some request))
+    (served : HasReply request)
     (there : fin.get s.kept (record { source = source; bytes = bytes }) ≡ Some entry)
     (repeat : is_repeat s now entry ≡ true) (dropped : Option ℕ) where
   key : KeptKey
@@ -49,37 +55,48 @@ module _ (s : State) (source : Address) (bytes : List ℕ) (now : ℕ) (request 
   course_is : datagram_course s now (record { source = source; bytes = bytes }) dropped
       ≡ Repeating source (reply_in entry.state)
   course_is =
-      ap (λ b. if b then Ignoring TooLong else read_course s now (record { source = source; bytes = bytes }) dropped (message_reading bytes))
+      ap (λ b. if b then Ignoring TooLong else read_course s now
+      (record { source = source; bytes = bytes }) dropped (message_reading bytes))
       (not_above (length bytes) 4096 few)
       ∙ (ap (read_course s now (record { source = source; bytes = bytes }) dropped) read
-      ∙ (ap (planned_course s now (record { source = source; bytes = bytes }) request dropped) plan.1
-      ∙ (ap (keyed_course s now (record { source = source; bytes = bytes }) request plan.0 dropped) there
+      ∙ (ap (planned_course s now
+      (record { source = source; bytes = bytes }) request dropped) plan.1
+      ∙ (ap (keyed_course s now
+      (record { source = source; bytes = bytes }) request plan.0 dropped) there
       ∙ ap (λ b. if b then Repeating source (reply_in entry.state)
-      else serving (first (record { source = source; bytes = bytes })) None now request plan.0) repeat)))
+      else serving (first (record { source = source; bytes = bytes })) None now request plan.0)
+      repeat)))
 
-pub repeated : (s : State) (source : Address) (bytes : List ℕ) (moment : ℕ) (request : Request) (entry : KeptEntry)
+pub repeated : (s : State) (source : Address) (bytes : List ℕ) (moment : ℕ)
+    (request : Request) (entry : KeptEntry)
     (outcome : Outcome) (after : State)
     → length bytes ≤ 4096 → message_reading bytes ≡ Ok (Some request) → HasReply request
     → fin.get s.kept (record { source = source; bytes = bytes }) ≡ Some entry
-    → IsTrue (is_repeat s (max s.clock moment) entry) → Step s (event.Datagram source bytes moment) outcome after
+    → IsTrue (is_repeat s (max s.clock moment) entry)
+    → Step s (event.Datagram source bytes moment) outcome after
     → (outcome.output ≡ Some (record { to = source; bytes = encoding_of (reply_in entry.state) }))
     × (after ≡ record s { clock = max s.clock moment; steps = s.steps + 1 })
 repeated s source bytes moment request entry outcome after few read served there repeat step =
     let now = max s.clock moment in
     let choices = choices_of outcome in
     let made = answered s.steps (nat_lt s.steps most_steps) now
-    (course_ending s now (course s (event.Datagram source bytes moment) choices) choices) outcome after step.makes in
-    let course_so = course_is s source bytes now request entry few read served there repeat choices.dropped in
-    let whole = sym (ap (λ (c : Course). at_moment now (s.steps + 1) (course_ending s now c choices)) course_so) ∙ made in
+    (course_ending s now (course s (event.Datagram source bytes moment) choices) choices) outcome
+    after step.makes in
+    let course_so =
+    course_is s source bytes now request entry few read served there repeat choices.dropped in
+    let whole = sym (ap (λ (c : Course). at_moment now
+    (s.steps + 1) (course_ending s now c choices)) course_so) ∙ made in
     let parts = same_some _ (outcome, after) whole in (
       ap (λ (a : Outcome × State). a.0.output) (sym parts),
       ap (λ (a : Outcome × State). a.1) (sym parts),
     )
 
 pub idle : (s : State) (moment : ℕ) (outcome : Outcome) (after : State)
-    → Step s (event.Turn moment) outcome after → outcome.note ≡ note.Idle → IsNothingDueIn s (max s.clock moment)
+    → Step s (event.Turn moment) outcome after → outcome.note ≡ note.Idle
+    → IsNothingDueIn s (max s.clock moment)
 idle s moment outcome after step noted =
-    subst (λ (n : Note). IsAllowed s (max s.clock moment) (turn_course s (max s.clock moment) (item_of n)) (choices_of outcome))
+    subst (λ (n : Note). IsAllowed s (max s.clock moment)
+    (turn_course s (max s.clock moment) (item_of n)) (choices_of outcome))
     noted step.allowed
 
 pub within_limit : (old : Running) (entries : List (Event × Outcome)) (new : Running)

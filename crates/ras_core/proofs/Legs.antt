@@ -1,5 +1,6 @@
 -- The endpoints of the calls' legs stay registered.
-use Rattle.std.proofs.Common.{◌≡◌, ◌+◌, ℕ, List, length, get_or, refl, sym, ◌∙◌, ap, subst, Some, None}
+use Rattle.std.proofs.Common.{◌≡◌, ◌+◌, ℕ, List, length, get_or, refl, sym, ◌∙◌, ap, subst, Some}
+use Rattle.std.proofs.Common.{None}
 use Rattle.std.specs.Prelude.{Option, Result, Ok, Err, OnOk, OnErr, IfSome, IsSome}
 use Rattle.std.specs.Option.{option_map}
 use Rattle.std.specs.FinMap as fin
@@ -11,12 +12,15 @@ use Rattle.keyed.proofs.Maps.{by_key, Changed-insert, Changed-remove, Changed-up
 use Rattle.registrations.specs.declared.registration.Registration.{Registration}
 use Rattle.registrations.specs.Registry.{Live, after_hear, after_rewrite, with_deadline}
 use Rattle.admission.specs.Calls.{EachLeg, OpenCalls, freed_by_leave, legs_of}
-use Rattle.admission.proofs.Soundness.{EachLeg-open, EachLeg-join, EachLeg-set_units, EachLeg-leave, EachLeg-other, IsInNoCall-zero}
+use Rattle.admission.proofs.Soundness.{EachLeg-open, EachLeg-join, EachLeg-set_units, EachLeg-leave}
+use Rattle.admission.proofs.Soundness.{EachLeg-other, IsInNoCall-zero}
 use Rattle.pools.specs.declared.interface.Figures.{Figures}
 use Rattle.ras_core.specs.declared.change.EndpointChange.{EndpointChange}
-use Rattle.ras_core.specs.declared.change.EndpointChange.TheVariants.{Renewal, Rewriting, Addition, Removal}
+use Rattle.ras_core.specs.declared.change.EndpointChange.TheVariants.{Renewal, Rewriting, Addition}
+use Rattle.ras_core.specs.declared.change.EndpointChange.TheVariants.{Removal}
 use Rattle.ras_core.specs.declared.change.CallChange.{CallChange}
-use Rattle.ras_core.specs.declared.change.CallChange.TheVariants.{Opening, Joining, Lowering, Leaving}
+use Rattle.ras_core.specs.declared.change.CallChange.TheVariants.{Opening, Joining, Lowering}
+use Rattle.ras_core.specs.declared.change.CallChange.TheVariants.{Leaving}
 use Rattle.ras_core.specs.declared.change.Question.{Question}
 use Rattle.ras_core.specs.declared.change.Purpose.{Purpose}
 use Rattle.ras_core.specs.declared.change.Purpose.TheVariants as purpose
@@ -28,7 +32,8 @@ use Rattle.ras_core.specs.declared.config.ConfigParts.{ConfigParts}
 use Rattle.ras_core.specs.inside.Parts.{AreParts, Roll, Usage, with_usage}
 use Rattle.ras_core.specs.inside.Leaving.{IsOther}
 use Rattle.ras_core.specs.Soundness.{HaveEndpoints}
-use Rattle.ras_core.specs.inside.Changes.{IsCallChange, IsFree, IsRegistered, after_endpoint_change, calls_after, leg_added, pools_after}
+use Rattle.ras_core.specs.inside.Changes.{IsCallChange, IsFree, IsRegistered, after_endpoint_change}
+use Rattle.ras_core.specs.inside.Changes.{calls_after, leg_added, pools_after}
 use Rattle.ras_core.specs.inside.Decisions.{calls_after_answer, granted_calls, leg_of_purpose}
 use Rattle.ras_core.proofs.Backing.{call_with_leg, length-after_end}
 
@@ -68,7 +73,8 @@ legs_without : (live : Live) (calls : OpenCalls) (id : List ℕ) → HaveEndpoin
 legs_without live calls id have zero key call there k d below =
     let c = Changed-remove nat_list_cmp_total exact_bytes live id in
     subst (λ w. IsSome w)
-    (sym (c.others _ (EachLeg-other calls id (IsInNoCall-zero calls id zero) key call there k d below)))
+    (sym (c.others _
+    (EachLeg-other calls id (IsInNoCall-zero calls id zero) key call there k d below)))
     (have key call there k d below)
 
 -- where no leg is of who goes, all legs stay
@@ -76,14 +82,17 @@ pub legs-remove : (live : Live) (calls : OpenCalls) (id : List ℕ) → HaveEndp
     → EachLeg (IsOther id) calls → HaveEndpoints (fin.remove live id) calls
 legs-remove live calls id have gone key call there k d below =
     let c = Changed-remove nat_list_cmp_total exact_bytes live id in
-    subst (λ w. IsSome w) (sym (c.others (get_or call.legs k d).endpoint (gone key call there k d below)))
+    subst (λ w. IsSome w)
+    (sym (c.others (get_or call.legs k d).endpoint (gone key call there k d below)))
     (have key call there k d below)
 
 pub legs-update : (live : Live) (calls : OpenCalls) (id : List ℕ) (f : Registration → Registration)
     → HaveEndpoints live calls → HaveEndpoints (update live id f) calls
-legs-update live calls id f have = legs_stay live (update live id f) calls have (Stays-update live id f)
+legs-update live calls id f have =
+    legs_stay live (update live id f) calls have (Stays-update live id f)
 
-pub legs-heard : (live : Live) (calls : OpenCalls) (now : ℕ) (id : List ℕ) → HaveEndpoints live calls
+pub legs-heard : (live : Live) (calls : OpenCalls) (now : ℕ) (id : List ℕ)
+    → HaveEndpoints live calls
     → HaveEndpoints (heard_now now id live) calls
 legs-heard live calls now id have =
     legs_stay live (heard_now now id live) calls have (Stays-update live id (after_hear now))
@@ -108,7 +117,8 @@ pub legs-endpoint_result : {F : Type 0} (result : Result (Unit {0}) F) (old new 
     → IsFree calls change → OnOk result (new.live ≡ after_endpoint_change now change old.live)
     → OnErr result (new ≡ old) → HaveEndpoints new.live calls
 legs-endpoint_result (Ok done) old new calls now change have free ok err =
-    subst (λ live. HaveEndpoints live calls) (sym ok) (legs-endpoint old.live calls now change have free)
+    subst (λ live. HaveEndpoints live calls) (sym ok)
+    (legs-endpoint old.live calls now change have free)
 legs-endpoint_result (Err fault) old new calls now change have free ok err =
     subst (λ (roll : Roll). HaveEndpoints roll.live calls) (sym err) have
 
@@ -177,13 +187,16 @@ module _ (config : ConfigParts) (roll : Roll) (old : Usage) (parts : AreParts co
     legs = legs;
   }
 
-  pub AreParts-change : {F : Type 0} (result : Result (Unit {0}) F) (new : Usage) (change : CallChange)
+  pub AreParts-change : {F : Type 0} (result : Result (Unit {0}) F)
+      (new : Usage) (change : CallChange)
       → IsCallChange old change → IfSome (leg_added change) (IsRegistered roll.live)
-      → OnOk result (new ≡ with_usage old (calls_after change old.calls) (pools_after change old.calls old.pools))
+      → OnOk result (new ≡ with_usage old (calls_after change old.calls)
+      (pools_after change old.calls old.pools))
       → OnErr result (new ≡ old) → AreParts config roll new
   AreParts-change (Ok done) new change can is ok err =
       subst (AreParts config roll) (sym ok)
       (AreParts-calls (calls_after change old.calls) (pools_after change old.calls old.pools)
       (length-pools_after change old.calls old.pools)
       (legs-calls roll.live old change parts.legs can is))
-  AreParts-change (Err fault) new change can is ok err = subst (AreParts config roll) (sym err) parts
+  AreParts-change (Err fault) new change can is ok err =
+      subst (AreParts config roll) (sym err) parts

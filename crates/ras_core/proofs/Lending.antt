@@ -1,5 +1,6 @@
 -- What pools have lent stays what their calls use, as calls open, change and end.
-use Rattle.std.proofs.Common.{◌≡◌, ◌≢◌, ◌<◌, ◌≤◌, ◌+◌, ℕ, zero, Bool, true, false, List, length, slice_set, nat_eq, refl, sym, ◌∙◌, ap, subst, arith, Some, None}
+use Rattle.std.proofs.Common.{◌≡◌, ◌≢◌, ◌<◌, ◌≤◌, ◌+◌, ℕ, zero, Bool, true, false, List, length}
+use Rattle.std.proofs.Common.{slice_set, nat_eq, refl, sym, ◌∙◌, ap, subst, arith, Some, None}
 use Rattle.std.specs.Prelude.{if◌then◌else◌}
 use Rattle.std.specs.FinMap as fin
 use Rattle.std.proofs.lemmas.List.{length-set}
@@ -9,14 +10,17 @@ use Rattle.keyed.proofs.Decide.{by_place}
 use Rattle.ras_module.specs.declared.call_key.CallKey.{CallKey}
 use Rattle.admission.specs.declared.call.Call.{Call}
 use Rattle.admission.specs.declared.leg.Leg.{Leg}
-use Rattle.admission.specs.Calls.{OpenCalls, in_use_of, units_from, new_call, with_leg, with_units, after_leave, freed_by_leave}
+use Rattle.admission.specs.Calls.{OpenCalls, in_use_of, units_from, new_call, with_leg, with_units}
+use Rattle.admission.specs.Calls.{after_leave, freed_by_leave}
 use Rattle.admission.specs.Legs.{has_other}
 use Rattle.admission.proofs.Leaving.{freed-other, freed-last}
-use Rattle.admission.proofs.Soundness.{in_use_of-open, in_use_of-join, in_use_of-set_units, in_use_of-left, in_use_of-ended, total-part}
+use Rattle.admission.proofs.Soundness.{in_use_of-open, in_use_of-join, in_use_of-set_units}
+use Rattle.admission.proofs.Soundness.{in_use_of-left, in_use_of-ended, total-part}
 use Rattle.pools.specs.declared.interface.Figures.{Figures}
 use Rattle.pools.specs.declared.interface.Lend.TheVariants.{Lent, Refused, Wait}
 use Rattle.pools.specs.Account.{figures_after_answer}
-use Rattle.ras_core.specs.Pools.{figures_at, pools_after_answer, pools_after_return, pools_after_end, figures_after_return}
+use Rattle.ras_core.specs.Pools.{figures_at, pools_after_answer, pools_after_return}
+use Rattle.ras_core.specs.Pools.{pools_after_end, figures_after_return}
 use Rattle.ras_core.specs.Soundness.{IsLentTo}
 use Rattle.ras_core.proofs.PoolFigures.{figures_here, figures_elsewhere}
 
@@ -42,7 +46,8 @@ IsLentTo-set : (pools : List Figures) (calls new : OpenCalls) (i : ℕ) (f : Fig
     → IsLentTo (slice_set pools i f) new
 IsLentTo-set pools calls new i f lent below here others p p_below =
     by_place p i ((figures_at (slice_set pools i f) p).lent ≡ in_use_of new p)
-    (λ same. ap (λ g. g.lent) (figures_here pools i f p same below) ∙ (here ∙ ap (in_use_of new) (sym same)))
+    (λ same. ap (λ g. g.lent) (figures_here pools i f p same below)
+    ∙ (here ∙ ap (in_use_of new) (sym same)))
     (λ differ. ap (λ g. g.lent) (figures_elsewhere pools i f p differ)
     ∙ (lent p (omega (arith, p_below, length-set pools i f)) ∙ sym (others p differ)))
 
@@ -51,14 +56,25 @@ pub IsLentTo-calls : (pools : List Figures) (calls new : OpenCalls) → IsLentTo
     → ((p : ℕ) → in_use_of new p ≡ in_use_of calls p) → IsLentTo pools new
 IsLentTo-calls pools calls new lent same p below = lent p below ∙ sym (same p)
 
-module _ (pools : List Figures) (calls : OpenCalls) (key : CallKey) (lent : IsLentTo pools calls) where
+module _ (pools : List Figures) (calls : OpenCalls) (key : CallKey)
+    (lent : IsLentTo pools calls) where
   pub lent-opened : (i units : ℕ) (leg : Leg) → fin.get calls key ≡ None → i < length pools
-      → IsLentTo (pools_after_answer pools i (Lent units)) (fin.insert calls key (new_call i units leg))
+      → IsLentTo (pools_after_answer pools i (Lent units))
+      (fin.insert calls key (new_call i units leg))
   lent-opened i units leg absent below =
       IsLentTo-set pools calls (fin.insert calls key (new_call i units leg)) i
       (figures_after_answer (figures_at pools i) (Lent units)) lent below
-      (omega (arith, lent i below, in_use_of-open calls key i i units leg absent, same_pool i units))
-      (λ p differ. omega (arith, in_use_of-open calls key p i units leg absent, other_pool i p units differ))
+      (omega (
+        arith,
+        lent i below,
+        in_use_of-open calls key i i units leg absent,
+        same_pool i units,
+      ))
+      (λ p differ. omega (
+        arith,
+        in_use_of-open calls key p i units leg absent,
+        other_pool i p units differ,
+      ))
 
   pub lent-opened_empty : (i : ℕ) (leg : Leg) → fin.get calls key ≡ None
       → IsLentTo pools (fin.insert calls key (new_call i 0 leg))
@@ -73,9 +89,11 @@ module _ (pools : List Figures) (calls : OpenCalls) (key : CallKey) (lent : IsLe
       (λ p. in_use_of-join calls key p call leg there)
 
   -- another answer than a loan
-  pub lent-refused : (i : ℕ) → i < length pools → IsLentTo (pools_after_answer pools i Refused) calls
+  pub lent-refused : (i : ℕ) → i < length pools
+      → IsLentTo (pools_after_answer pools i Refused) calls
   lent-refused i below =
-      IsLentTo-set pools calls calls i (figures_after_answer (figures_at pools i) Refused) lent below
+      IsLentTo-set pools calls calls i
+      (figures_after_answer (figures_at pools i) Refused) lent below
       (lent i below) (λ p differ. refl)
 
   pub lent-waiting : (i : ℕ) → i < length pools → IsLentTo (pools_after_answer pools i Wait) calls
@@ -83,7 +101,8 @@ module _ (pools : List Figures) (calls : OpenCalls) (key : CallKey) (lent : IsLe
       IsLentTo-set pools calls calls i (figures_after_answer (figures_at pools i) Wait) lent below
       (lent i below) (λ p differ. refl)
 
-  module _ (call : Call) (there : fin.get calls key ≡ Some call) (below : call.pool < length pools) where
+  module _ (call : Call) (there : fin.get calls key ≡ Some call)
+      (below : call.pool < length pools) where
     -- what a call has is a part of what its pool has lent
     pub lent-part : call.units ≤ (figures_at pools call.pool).lent
     lent-part =
@@ -115,7 +134,8 @@ module _ (pools : List Figures) (calls : OpenCalls) (key : CallKey) (lent : IsLe
         )
 
     pub lent-raised : (more : ℕ)
-        → IsLentTo (pools_after_answer pools call.pool (Lent more)) (update calls key (with_units (call.units + more)))
+        → IsLentTo (pools_after_answer pools call.pool (Lent more))
+        (update calls key (with_units (call.units + more)))
     lent-raised more =
         IsLentTo-set pools calls (update calls key (with_units (call.units + more))) call.pool
         (figures_after_answer (figures_at pools call.pool) (Lent more)) lent below
@@ -132,10 +152,12 @@ module _ (pools : List Figures) (calls : OpenCalls) (key : CallKey) (lent : IsLe
 
     -- an endpoint leaves, and the call ends with its last leg
     pub lent-left : (endpoint : List ℕ)
-        → IsLentTo (pools_after_end pools (freed_by_leave calls key endpoint)) (after_leave calls key endpoint)
+        → IsLentTo (pools_after_end pools (freed_by_leave calls key endpoint))
+        (after_leave calls key endpoint)
     lent-left endpoint = cases (has_other call.legs endpoint) refl where
       cases : (b : Bool) → has_other call.legs endpoint ≡ b
-          → IsLentTo (pools_after_end pools (freed_by_leave calls key endpoint)) (after_leave calls key endpoint)
+          → IsLentTo (pools_after_end pools (freed_by_leave calls key endpoint))
+          (after_leave calls key endpoint)
       cases true other =
           subst (λ freed. IsLentTo (pools_after_end pools freed) (after_leave calls key endpoint))
           (sym (freed-other calls key endpoint call there other))

@@ -1,5 +1,6 @@
 -- Steps in which no request is served.
-use Rattle.std.proofs.Common.{Bor, ◌≡◌, ◌<◌, ◌≤◌, ◌+◌, ℕ, Bool, true, List, refl, sym, ap, subst, Some, None, arith}
+use Rattle.std.proofs.Common.{Bor, ◌≡◌, ◌<◌, ◌≤◌, ◌+◌, ℕ, Bool, true, List, refl, sym, ap, subst}
+use Rattle.std.proofs.Common.{Some, None, arith}
 use Rattle.std.specs.Prelude.{Option, IsTrue, is_some, if◌then◌else◌}
 use Rattle.std.specs.Option.{IsSomeAnd, option_copied}
 use Rattle.std.proofs.lemmas.Bool.Decides.{nat_tests}
@@ -37,14 +38,17 @@ noted_outcome what output = record {
   given = None;
 }
 
--- An item is done: what is noted and what is left are as the machine has it. The machine is seen by its
--- parts, `old`, and by its value.
-module _ (old value : Running) (is : old ≡ value) (now : ℕ) (item : DueItem) (due : IsDueIn value.state now item) where
-  pub does_item : (output : Option Datagram) (outcome : Outcome) → outcome ≡ noted_outcome (note.Done item) output
+-- An item is done: what is noted and what is left are as the machine has it. The machine is seen by
+-- its parts, `old`, and by its value.
+module _ (old value : Running) (is : old ≡ value) (now : ℕ) (item : DueItem)
+    (due : IsDueIn value.state now item) where
+  pub does_item : (output : Option Datagram) (outcome : Outcome)
+      → outcome ≡ noted_outcome (note.Done item) output
       → (new : Running) → (effect old.state now item).output ≡ output
       → (effect old.state now item).state ≡ new.state → new.lasts ≡ old.lasts
       → AreSameButLent old.state.zone.pools new.state.zone.pools
-      → (AreBornBefore old.state.steps old.state.kept → AreBornBefore (old.state.steps + 1) new.state.kept)
+      → (AreBornBefore old.state.steps old.state.kept
+      → AreBornBefore (old.state.steps + 1) new.state.kept)
       → HasFewOctets output → Does value now (Doing item) outcome new
   does_item output outcome noted new sent leaves lasts pools births few =
       subst (λ (m : Running). Does m now (Doing item) outcome new) is
@@ -66,23 +70,27 @@ pub does_hear : (old : Running) (now : ℕ) (id : List ℕ) (services : RunningZ
       lasts = services.lasts;
     })
 does_hear old now id services there is =
-    subst (λ (z : RunningZone). Does old now (response_course old.state (Some id)) (noted_outcome note.Served None) (record {
+    subst (λ (z : RunningZone). Does old now (response_course old.state (Some id))
+    (noted_outcome note.Served None) (record {
       state = record old.state { zone = z.zone };
       lasts = z.lasts;
     })) (sym is)
-    (subst (λ (b : Bool). Does old now (if b then Hearing id else Ignoring UnknownEndpoint) (noted_outcome note.Served None) (record {
+    (subst (λ (b : Bool). Does old now (if b then Hearing id else Ignoring UnknownEndpoint)
+    (noted_outcome note.Served None) (record {
       state = record old.state { zone = heard_zone.zone };
       lasts = heard_zone.lasts;
     })) (sym there) (record {
       allowed = tt;
       makes = refl;
       lasts = refl;
-      counts = counts_same old.state.zone.pools old.state.zone.pools (same_after_end old.state.zone.pools None);
+      counts = counts_same old.state.zone.pools old.state.zone.pools
+          (same_after_end old.state.zone.pools None);
       births = λ before. born_same old.state.kept old.state.steps before;
       few = tt;
     })) where
       heard_zone : RunningZone
-      heard_zone = heard_at (record { zone = old.state.zone; lasts = old.lasts }) First now (Some id)
+      heard_zone =
+          heard_at (record { zone = old.state.zone; lasts = old.lasts }) First now (Some id)
 
 -- who leaves changes no setting
 pub settings_stay : (z : Zone) (id : List ℕ) → (without_legs_of z id).config ≡ z.config
@@ -103,6 +111,7 @@ tries_few_in times now None is few = is
 tries_few_in times now (Some r) is few = tries_few times now r is few
 
 -- a look-up that finds something
-pub found_some : {A : Type 0} {v : Option A} (w : Option (Bor A)) → option_copied w ≡ v → is_some w ≡ true → is_some v ≡ true
+pub found_some : {A : Type 0} {v : Option A} (w : Option (Bor A)) → option_copied w ≡ v
+    → is_some w ≡ true → is_some v ≡ true
 found_some None is some = absurd (cc some)
 found_some (Some x) is some = ap is_some (sym is)

@@ -1,5 +1,6 @@
 -- The figures and the last requests of pools, as their accounts change.
-use Rattle.std.proofs.Common.{◌≡◌, ◌≢◌, ◌<◌, ◌≤◌, ◌+◌, ◌^◌, IsTrue, ℕ, List, [], ◌∷◌, length, map, get_or, set, All, refl, sym, ◌∙◌, ap, arith, Some}
+use Rattle.std.proofs.Common.{◌≡◌, ◌≢◌, ◌<◌, ◌≤◌, ◌+◌, ◌^◌, IsTrue, ℕ, List, [], ◌∷◌, length, map}
+use Rattle.std.proofs.Common.{get_or, set, All, refl, sym, ◌∙◌, ap, arith, Some}
 use Rattle.std.proofs.lemmas.List.{map-set, get_or-set_other}
 use Rattle.std.proofs.lemmas.List.Elements.{All-map, All-set}
 use Rattle.std.proofs.lemmas.Grind.{get_or-set_at}
@@ -8,10 +9,12 @@ use Rattle.std.proofs.Math.Seq.{map-set_same}
 use Rattle.pools.specs.declared.interface.Figures.{Figures}
 use Rattle.pools.specs.declared.interface.Lend.{Lend}
 use Rattle.pools.specs.declared.interface.Lend.TheVariants.{Lent, Refused, Wait}
-use Rattle.pools.specs.Account.{Account, opening_account, account_after_answer, account_after_return}
+use Rattle.pools.specs.Account.{Account, opening_account, account_after_answer}
+use Rattle.pools.specs.Account.{account_after_return}
 use Rattle.pools.specs.Account.{IsWithinLimit, is_idle, account_without_loans, figures_after_answer}
 use Rattle.pools.specs.Accounts.{account_at, accounts_after_answer, accounts_after_return}
-use Rattle.ras_core.specs.Pools.{figures_of, lasts_of, figures_at, pools_after_answer, pools_after_return}
+use Rattle.ras_core.specs.Pools.{figures_of, lasts_of, figures_at, pools_after_answer}
+use Rattle.ras_core.specs.Pools.{pools_after_return}
 use Rattle.ras_core.specs.Pools.{figures_after_return, figures_without_loans, without_loans}
 use Rattle.ras_core.specs.Soundness.{HasCounts}
 

@@ -1,11 +1,13 @@
 -- What the ranges of a zone's settings give.
-use Rattle.std.proofs.Common.{◌≡◌, ◌≤◌, ◌<◌, ◌||◌, ℕ, Bool, true, false, List, refl, Some, None, arith}
+use Rattle.std.proofs.Common.{◌≡◌, ◌≤◌, ◌<◌, ◌||◌, ℕ, Bool, true, false, List, refl, Some, None}
+use Rattle.std.proofs.Common.{arith}
 use Rattle.std.specs.Prelude.{Option, IsSome, SomeIff, nat_lt, codes, if◌then◌else◌}
 use Rattle.std.proofs.lemmas.Bool.Decides.{nat_tests}
 use Rattle.ras_core.specs.declared.config.ConfigParts.{ConfigParts}
 use Rattle.ras_core.specs.Ranges.{is_outside, range_fault}
 
-passes : (b : Bool) (x : List ℕ) (rest : Option (List ℕ)) → (if b then Some x else rest) ≡ None → (b ≡ false) × (rest ≡ None)
+passes : (b : Bool) (x : List ℕ) (rest : Option (List ℕ)) → (if b then Some x else rest) ≡ None
+    → (b ≡ false) × (rest ≡ None)
 passes true x rest h = absurd (cc h)
 passes false x rest h = (refl, h)
 
@@ -42,8 +44,10 @@ pub limits : (parts : ConfigParts) → range_fault parts ≡ None → Limits par
 unfolding range_fault
 limits parts h =
     let limit = passes (is_outside 1 1000000000000 parts.limit) (codes "zone.limit") _ h in
-    let call_limit = passes (is_outside 1 4294967295 parts.call_limit) (codes "zone.call_limit") _ limit.1 in
-    let time = passes (is_outside 1 4294967295 parts.time_to_live) (codes "zone.time_to_live") _ call_limit.1 in
+    let call_limit =
+    passes (is_outside 1 4294967295 parts.call_limit) (codes "zone.call_limit") _ limit.1 in
+    let time = passes (is_outside 1 4294967295 parts.time_to_live)
+    (codes "zone.time_to_live") _ call_limit.1 in
     let endpoints = passes (is_outside 1 20000 parts.endpoints) (codes "zone.endpoints") _ time.1 in
     let calls = passes (is_outside 1 20000 parts.calls) (codes "zone.calls") _ endpoints.1 in
     let kept = passes (is_outside 1 65536 parts.kept) (codes "zone.kept") _ calls.1 in
@@ -53,7 +57,8 @@ limits parts h =
     let retries = passes (is_outside 1 16 parts.retries) (codes "zone.retries") _ delay.1 in
     let asks = passes (is_outside 1 16 parts.asks) (codes "zone.asks") _ retries.1 in
     let ask_wait = passes (is_outside 1 3600000 parts.ask_wait) (codes "zone.ask_wait") _ asks.1 in
-    let turn = passes (is_outside 1 86400000 parts.pool_turn) (codes "zone.pool_turn") _ ask_wait.1 in
+    let turn =
+    passes (is_outside 1 86400000 parts.pool_turn) (codes "zone.pool_turn") _ ask_wait.1 in
     record {
       some_time = (inside 1 4294967295 parts.time_to_live time.0).0;
       time = (inside 1 4294967295 parts.time_to_live time.0).1;
@@ -71,6 +76,7 @@ limits parts h =
       pool_turn = (inside 1 86400000 parts.pool_turn turn.0).1;
     }
 
-pub is_time : (seconds : ℕ) (o : Option ℕ) → SomeIff o (0 < seconds) seconds → 1 ≤ seconds → IsSome o
+pub is_time : (seconds : ℕ) (o : Option ℕ) → SomeIff o (0 < seconds) seconds
+    → 1 ≤ seconds → IsSome o
 is_time seconds None iff some = absurd (iff (omega arith))
 is_time seconds (Some t) iff some = refl

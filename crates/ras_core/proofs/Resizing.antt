@@ -1,5 +1,6 @@
 -- A call for which its pool is asked for more.
-use Rattle.std.proofs.Common.{◌≡◌, ◌<◌, ◌≤◌, ◌-◌, ◌==◌, ℕ, Bool, false, min, length, refl, sym, ◌∙◌, ap, Some, arith}
+use Rattle.std.proofs.Common.{◌≡◌, ◌<◌, ◌≤◌, ◌-◌, ◌==◌, ℕ, Bool, false, min, length, refl, sym, ◌∙◌}
+use Rattle.std.proofs.Common.{ap, Some, arith}
 use Rattle.std.specs.Prelude.{nat_le, if◌then◌else◌}
 use Rattle.std.specs.FinMap as fin
 use Rattle.std.proofs.lemmas.Bool.Decides.{nat_tests}
@@ -24,7 +25,8 @@ module _ (z : Zone) (q : BandwidthChange) (call : Call) (w r n : ℕ) where
         purpose = Raising call.units;
       })
   Asks-resizing there below within w_is more r_is some n_is =
-      let wants : nat_le (wanted z q.asked) call.units ≡ false = grind (arith, nat_tests, w_is, more) in
+      let wants : nat_le (wanted z q.asked) call.units ≡ false =
+      grind (arith, nat_tests, w_is, more) in
       let has : (room z == 0) ≡ false = grind (arith, nat_tests, r_is, some) in
       let units : min (wanted z q.asked - call.units) (room z) ≡ n =
       ap (λ x. min (x - call.units) (room z)) (sym w_is)
@@ -46,10 +48,13 @@ module _ (z : Zone) (q : BandwidthChange) (call : Call) (w r n : ℕ) where
         is =
             ap (λ (b : Bool). if b then Settled (lowering z q call (wanted z q.asked))
             else if room z == 0 then Settled (staying z q call)
-            else Asking (record { pool = call.pool; units = min (wanted z q.asked - call.units) (room z) })
+            else Asking
+            (record { pool = call.pool; units = min (wanted z q.asked - call.units) (room z) })
             (raising z q call) (staying z q call)) wants
             ∙ (ap (λ (b : Bool). if b then Settled (staying z q call)
-            else Asking (record { pool = call.pool; units = min (wanted z q.asked - call.units) (room z) })
+            else Asking
+            (record { pool = call.pool; units = min (wanted z q.asked - call.units) (room z) })
             (raising z q call) (staying z q call)) has
-            ∙ ap (λ (x : ℕ). Asking (record { pool = call.pool; units = x }) (raising z q call) (staying z q call)) units);
+            ∙ ap (λ (x : ℕ). Asking (record { pool = call.pool; units = x }) (raising z q call)
+            (staying z q call)) units);
       }

@@ -1,5 +1,6 @@
 -- Runs go on by one step.
-use Rattle.std.proofs.Common.{◌≡◌, ℕ, ◌+◌, ◌<◌, List, [], ◌∷◌, ◌++◌, length, take, get_or, refl, sym, ◌∙◌, ap, subst, append_assoc, arith, length-append}
+use Rattle.std.proofs.Common.{◌≡◌, ℕ, ◌+◌, ◌<◌, List, [], ◌∷◌, ◌++◌, length, take, get_or, refl}
+use Rattle.std.proofs.Common.{sym, ◌∙◌, ap, subst, append_assoc, arith, length-append}
 use Rattle.std.proofs.lemmas.List.{take_more}
 use Rattle.std.specs.List.{zip}
 use Rattle.ras_core.specs.declared.event.Event.{Event}
@@ -13,8 +14,12 @@ run_more : (z mid after : State) (events : List Event) (made : List Outcome) (ev
     → Run z (zip (events ++ event ∷ []) (made ++ outcome ∷ [])) after
 run_more z mid after [] [] event outcome each run step =
     (after, subst (λ (s : State). Step s event outcome after) run step, refl)
-run_more z mid after (e ∷ events) (o ∷ made) event outcome each run step =
-    (run.0, run.1, run_more run.0 mid after events made event outcome (omega (arith, each)) run.2 step)
+run_more z mid after (e ∷ events) (o ∷ made) event outcome each run step = (
+  run.0,
+  run.1,
+  run_more run.0 mid after events made event outcome
+      (omega (arith, each)) run.2 step,
+)
 run_more z mid after [] (o ∷ made) event outcome each run step = absurd (omega (arith, each))
 run_more z mid after (e ∷ events) [] event outcome each run step = absurd (omega (arith, each))
 
@@ -24,8 +29,12 @@ steps_more : (old mid new : Running) (events : List Event) (made : List Outcome)
     → RunningRun old (zip (events ++ event ∷ []) (made ++ outcome ∷ [])) new
 steps_more old mid new [] [] event outcome each run step =
     (new, subst (λ (r : Running). RunningStep r event outcome new) run step, refl)
-steps_more old mid new (e ∷ events) (o ∷ made) event outcome each run step =
-    (run.0, run.1, steps_more run.0 mid new events made event outcome (omega (arith, each)) run.2 step)
+steps_more old mid new (e ∷ events) (o ∷ made) event outcome each run step = (
+  run.0,
+  run.1,
+  steps_more run.0 mid new events made event outcome
+      (omega (arith, each)) run.2 step,
+)
 steps_more old mid new [] (o ∷ made) event outcome each run step = absurd (omega (arith, each))
 steps_more old mid new (e ∷ events) [] event outcome each run step = absurd (omega (arith, each))
 
@@ -40,11 +49,18 @@ runs_on old mid new events i event before now outcome below is run step =
     record {
       made = run.made ++ outcome ∷ [];
       added = ap (λ os. os ++ outcome ∷ []) run.added ∙ append_assoc before run.made (outcome ∷ []);
-      each = rw longer (omega (arith, run.each, length-append run.made (outcome ∷ []), length-append (take i events) (event ∷ [])));
+      each = rw longer (omega (
+        arith,
+        run.each,
+        length-append run.made (outcome ∷ []),
+        length-append (take i events) (event ∷ []),
+      ));
       run = subst (λ (es : List Event). Run old.state (zip es (run.made ++ outcome ∷ [])) new.state)
-          (sym longer) (run_more old.state mid.state new.state (take i events) run.made event outcome
+          (sym longer)
+          (run_more old.state mid.state new.state (take i events) run.made event outcome
           run.each run.run step.step);
       steps = subst (λ (es : List Event). RunningRun old (zip es (run.made ++ outcome ∷ [])) new)
-          (sym longer) (steps_more old mid new (take i events) run.made event outcome run.each run.steps
+          (sym longer)
+          (steps_more old mid new (take i events) run.made event outcome run.each run.steps
           step);
     }

@@ -1,5 +1,6 @@
 -- The endpoint that is registered with an alias is the one that holds it in the table.
-use Rattle.std.proofs.Common.{◌≡◌, ◌<◌, ◌+◌, ℕ, Bool, true, false, List, ◌∷◌, drop, length, get_or, refl, sym, ◌∙◌, ap, Some, None}
+use Rattle.std.proofs.Common.{◌≡◌, ◌<◌, ◌+◌, ℕ, Bool, true, false, List, ◌∷◌, drop, length, get_or}
+use Rattle.std.proofs.Common.{refl, sym, ◌∙◌, ap, Some, None}
 use Rattle.std.specs.Prelude.{Option}
 use Rattle.std.specs.Option.{option_map}
 use Rattle.std.specs.FinMap as fin
@@ -39,16 +40,20 @@ module _ (live : Live) (held : Held) (agree : Agree live held) (alias : Alias) w
   pub holder_registered : (id : List ℕ) → holder_of held alias ≡ Some id
       → registered_with live alias ≡ fin.get live id
   holder_registered id is = cases (fin.get held alias) refl where
-    cases : (w : Option Holding) → fin.get held alias ≡ w → registered_with live alias ≡ fin.get live id
+    cases : (w : Option Holding) → fin.get held alias ≡ w
+        → registered_with live alias ≡ fin.get live id
     cases None none = some_none (sym is ∙ ap (λ w. option_map (λ (h : Holding). h.holder) w) none)
     cases (Some h) there =
         let by = agree.held_by alias h there in
         let same : h.holder ≡ id =
-        same_some h.holder id (sym (ap (λ w. option_map (λ (h : Holding). h.holder) w) there) ∙ is) in
-        find_one nat_list_cmp_total exact_bytes (λ r. has_alias r.aliases alias) live h.holder by.0 by.1.live_is
+        same_some h.holder id (sym (ap (λ w. option_map (λ (h : Holding). h.holder) w) there)
+        ∙ is) in
+        find_one nat_list_cmp_total exact_bytes
+        (λ r. has_alias r.aliases alias) live h.holder by.0 by.1.live_is
         ((any_decides same_alias alias_decides (by.0).aliases alias).1 by.1.has)
         (λ q s s_there has. same_some s by.0 (sym s_there
-        ∙ (ap (fin.get live) (same_some q h.holder (sym (is_held q s s_there has) ∙ (is ∙ ap Some (sym same))))
+        ∙ (ap (fin.get live)
+        (same_some q h.holder (sym (is_held q s s_there has) ∙ (is ∙ ap Some (sym same))))
         ∙ by.1.live_is)))
         ∙ (sym by.1.live_is ∙ ap (fin.get live) same)
 

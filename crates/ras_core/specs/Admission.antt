@@ -1,13 +1,17 @@
 -- Admission of calls (H.323, 7.2.4; H.225.0: ARQ, ACF, ARJ). Each case applies where none above it
 -- does.
-use Rattle.std.specs.Prelude.{ℕ, ◌==◌, min, List, [], ◌∷◌, length, Option, None, Some, if◌then◌else◌}
+use Rattle.std.specs.Prelude.{ℕ, ◌==◌, min, List, [], ◌∷◌, length, Option, None, Some}
+use Rattle.std.specs.Prelude.{if◌then◌else◌}
 use Rattle.std.specs.List.{find}
 use Rattle.std.specs.FinMap.{get, insert, len, values}
 use Rattle.keyed.specs.Maps.{update}
 use Rattle.ras_module.specs.declared.address.Address.{Address}
 use Rattle.ras_module.specs.declared.alias.Alias.{Alias}
 use Rattle.ras_module.specs.declared.reason.AdmissionRejectReason.{AdmissionRejectReason}
-use Rattle.ras_module.specs.declared.reason.AdmissionRejectReason.TheVariants.{CalledPartyNotRegistered, RequestDenied, InvalidEndpointIdentifier, ResourceUnavailable}
+use Rattle.ras_module.specs.declared.reason.AdmissionRejectReason.TheVariants.{CalledPartyNotRegistered}
+use Rattle.ras_module.specs.declared.reason.AdmissionRejectReason.TheVariants.{RequestDenied}
+use Rattle.ras_module.specs.declared.reason.AdmissionRejectReason.TheVariants.{InvalidEndpointIdentifier}
+use Rattle.ras_module.specs.declared.reason.AdmissionRejectReason.TheVariants.{ResourceUnavailable}
 use Rattle.ras_module.specs.declared.reply.Reply.TheVariants.{Acf, Arj}
 use Rattle.ras_module.specs.Aliases.{has_alias}
 use Rattle.registrations.specs.declared.registration.Registration.{Registration}
@@ -37,8 +41,8 @@ translation live [] other = other
 translation live (alias ∷ aliases) other =
     address_or (translation live aliases other) (registered_with live alias)
 
--- address translation: who answers a call is told its own address; who makes one is told that of the
--- first alias that is registered, else the address that it gave
+-- address translation: who answers a call is told its own address; who makes one is told that of
+-- the first alias that is registered, else the address that it gave
 abbrev pub destination : Zone → Admission → Registration → Option Address
 destination z q r =
     if q.answer then Some r.call_signal else translation z.live q.dest q.dest_address
@@ -82,8 +86,8 @@ abbrev pub calling : Zone → Admission → Option Address → (Address → Plan
 calling z q None next = Settled (denial z q CalledPartyNotRegistered)
 calling z q (Some told) next = next told
 
--- an endpoint that takes part already is told its leg's address again, and the units that it asks for, but
--- no more than the call's
+-- an endpoint that takes part already is told its leg's address again, and the units that it asks
+-- for, but no more than the call's
 abbrev pub taking_part : Zone → Admission → Registration → Call → Option Leg → Plan
 taking_part z q r call (Some leg) =
     Settled (unchanged z (Acf q.seq (min q.asked call.units) leg.told))

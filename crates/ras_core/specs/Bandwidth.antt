@@ -3,7 +3,9 @@
 use Rattle.std.specs.Prelude.{ℕ, ◌+◌, ◌-◌, ◌==◌, nat_le, min, Option, None, Some, if◌then◌else◌}
 use Rattle.std.specs.FinMap.{get}
 use Rattle.keyed.specs.Maps.{update}
-use Rattle.ras_module.specs.declared.reason.BandRejectReason.TheVariants.{NotBound, InvalidConferenceId, InsufficientResources}
+use Rattle.ras_module.specs.declared.reason.BandRejectReason.TheVariants.{NotBound}
+use Rattle.ras_module.specs.declared.reason.BandRejectReason.TheVariants.{InvalidConferenceId}
+use Rattle.ras_module.specs.declared.reason.BandRejectReason.TheVariants.{InsufficientResources}
 use Rattle.ras_module.specs.declared.reply.Reply.TheVariants.{Bcf, Brj}
 use Rattle.registrations.specs.declared.registration.Registration.{Registration}
 use Rattle.admission.specs.declared.call.Call.{Call}
@@ -44,7 +46,8 @@ raising z q call more = record {
 abbrev pub staying : Zone → BandwidthChange → Call → Served
 staying z q call = unchanged z (Brj q.seq InsufficientResources call.units)
 
--- a call that needs no more than it has; one that finds no room; and one for which its pool is asked
+-- a call that needs no more than it has; one that finds no room; and one for which
+-- its pool is asked
 abbrev pub resizing : Zone → BandwidthChange → Call → Plan
 resizing z q call =
     if nat_le (wanted z q.asked) call.units then Settled (lowering z q call (wanted z q.asked))

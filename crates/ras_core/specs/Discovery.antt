@@ -11,8 +11,8 @@ abbrev pub is_foreign : Zone → Option (List ℕ) → Bool
 is_foreign z None = false
 is_foreign z (Some name) = not (pointwise nat_eq name z.config.identifier)
 
--- The gatekeeper makes itself known, with its name and its RAS address, to whoever asks for none or for
--- this one.
+-- The gatekeeper makes itself known, with its name and its RAS address, to whoever asks for
+-- none or for this one.
 abbrev pub discovery : Zone → ℕ → Option (List ℕ) → Reply
 discovery z seq gatekeeper =
     if is_foreign z gatekeeper

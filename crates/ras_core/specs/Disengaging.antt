@@ -3,7 +3,8 @@
 use Rattle.std.specs.Prelude.{ℕ, List, Option, None, Some}
 use Rattle.std.specs.FinMap.{get}
 use Rattle.ras_module.specs.declared.call_key.CallKey.{CallKey}
-use Rattle.ras_module.specs.declared.reason.DisengageRejectReason.TheVariants.{NotRegistered, RequestToDropOther}
+use Rattle.ras_module.specs.declared.reason.DisengageRejectReason.TheVariants.{NotRegistered}
+use Rattle.ras_module.specs.declared.reason.DisengageRejectReason.TheVariants.{RequestToDropOther}
 use Rattle.ras_module.specs.declared.reply.Reply.TheVariants.{Dcf, Drj}
 use Rattle.registrations.specs.declared.registration.Registration.{Registration}
 use Rattle.admission.specs.declared.leg.Leg.{Leg}

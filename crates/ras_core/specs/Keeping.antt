@@ -1,6 +1,7 @@
 -- What is kept of a request that is served, so that the same datagram is told the same, and how a
 -- request in progress goes on (H.225.0, RAS timers and request in progress).
-use Rattle.std.specs.Prelude.{ℕ, ◌+◌, ◌&&◌, Bool, true, false, not, nat_lt, is_some, List, Option, None, Some, if◌then◌else◌}
+use Rattle.std.specs.Prelude.{ℕ, ◌+◌, ◌&&◌, Bool, true, false, not, nat_lt, is_some, List, Option}
+use Rattle.std.specs.Prelude.{None, Some, if◌then◌else◌}
 use Rattle.std.specs.FinMap.{get, insert}
 use Rattle.keyed.specs.Maps.{update}
 use Rattle.ras_module.specs.declared.reply.Reply.{Reply}
@@ -9,7 +10,8 @@ use Rattle.ras_module.specs.declared.request.Request.{Request}
 use Rattle.registrations.specs.Registry.{Live}
 use Rattle.kept_replies.specs.declared.entry.KeptEntry.{KeptEntry}
 use Rattle.kept_replies.specs.declared.key.KeptKey.{KeptKey}
-use Rattle.kept_replies.specs.Kept.{KeptReplies, done, pending, finished, postponed, identifier_in, is_over, reply_in, without_birth}
+use Rattle.kept_replies.specs.Kept.{KeptReplies, done, pending, finished, postponed, identifier_in}
+use Rattle.kept_replies.specs.Kept.{is_over, reply_in, without_birth}
 use Rattle.pools.specs.declared.interface.Lend.{Lend}
 use Rattle.pools.specs.declared.interface.Lend.TheVariants.{Lent, Refused, Wait}
 use Rattle.ras_core.specs.declared.config.ConfigParts.{ConfigParts}
@@ -34,8 +36,8 @@ is_repeat s now entry =
     not (is_over now entry)
     && is_registered_still s.zone.live (identifier_in (reply_in entry.state))
 
--- A request that is served: its datagram, and whether it is served first or again; the birth of the entry
--- that is dropped for it; and what it comes to.
+-- A request that is served: its datagram, and whether it is served first or again; the birth of the
+-- entry that is dropped for it; and what it comes to.
 pub record Task : Type 0 where
   pub job : Job
   pub dropped : Option ℕ
@@ -72,7 +74,8 @@ waits occasion (Lent units) = false
 waits occasion Refused = false
 waits occasion Wait = may_wait occasion
 
--- units that were lent are used; else the request is refused, also where it waited for the last time
+-- units that were lent are used; else the request is refused, also where it waited
+-- for the last time
 abbrev pub answered_by : (ℕ → Served) → Served → Lend → Served
 answered_by lent refused (Lent units) = lent units
 answered_by lent refused Refused = refused
@@ -105,7 +108,8 @@ with_reply kept key First dropped born reply until =
 with_reply kept key (Again birth left) dropped born reply until =
     update kept key (finished reply until)
 
--- the request is kept, to be served again at this moment and so many times; or once less than before
+-- the request is kept, to be served again at this moment and so many times; or
+-- once less than before
 abbrev pub with_request : KeptReplies → KeptKey → Occasion → Option ℕ → ℕ → Request → Reply → ℕ → ℕ
     → KeptReplies
 with_request kept key First dropped born request reply retry times =

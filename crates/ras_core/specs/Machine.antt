@@ -1,5 +1,6 @@
 -- The gatekeeper as a machine: what each event is answered, and what it leaves.
-use Rattle.std.specs.Prelude.{ℕ, ◌+◌, ◌^◌, ◌==◌, nat_lt, max, is_some, List, length, Option, None, Some, Result, Ok, Err, if◌then◌else◌}
+use Rattle.std.specs.Prelude.{ℕ, ◌+◌, ◌^◌, ◌==◌, nat_lt, max, is_some, List, length, Option, None}
+use Rattle.std.specs.Prelude.{Some, Result, Ok, Err, if◌then◌else◌}
 use Rattle.std.specs.FinMap.{get, len}
 use Rattle.ras_module.specs.declared.address.Address.{Address}
 use Rattle.ras_module.specs.declared.reply.Reply.{Reply}
@@ -22,18 +23,21 @@ use Rattle.ras_core.specs.declared.job.Occasion.{Occasion}
 use Rattle.ras_core.specs.declared.job.Occasion.TheVariants.{First, Again}
 use Rattle.ras_core.specs.declared.outcome.Datagram.{Datagram}
 use Rattle.ras_core.specs.declared.outcome.IgnoredCause.{IgnoredCause}
-use Rattle.ras_core.specs.declared.outcome.IgnoredCause.TheVariants.{TooLong, Unreadable, NotServed, Busy, UnknownEndpoint}
+use Rattle.ras_core.specs.declared.outcome.IgnoredCause.TheVariants.{TooLong, Unreadable, NotServed}
+use Rattle.ras_core.specs.declared.outcome.IgnoredCause.TheVariants.{Busy, UnknownEndpoint}
 use Rattle.ras_core.specs.declared.outcome.Note.{Note}
 use Rattle.ras_core.specs.declared.outcome.Note.TheVariants as note
 use Rattle.ras_core.specs.declared.outcome.Outcome.{Outcome}
 use Rattle.ras_core.specs.State.{State, with_live, heard_now}
 use Rattle.ras_core.specs.Plans.{Served, Ask, Plan, Settled, Naming, Asking}
 use Rattle.ras_core.specs.Requests.{endpoint_of, plan_of}
-use Rattle.ras_core.specs.Keeping.{Task, Progress, answered, by_answer, is_repeat, kept_after, plan_at, with_answered_pool}
+use Rattle.ras_core.specs.Keeping.{Task, Progress, answered, by_answer, is_repeat, kept_after}
+use Rattle.ras_core.specs.Keeping.{plan_at, with_answered_pool}
 use Rattle.ras_core.specs.Turns.{effect}
 
--- What was chosen in a step: the identifier that was handed out, the answer of the pool that was asked,
--- the birth of the kept entry that was dropped, and the item that was done of those that are due.
+-- What was chosen in a step: the identifier that was handed out, the answer of the pool that
+-- was asked, the birth of the kept entry that was dropped, and the item that was done of
+-- those that are due.
 pub record Choices : Type 0 where
   pub given : Option (List ℕ)
   pub answer : Option Lend
@@ -70,7 +74,8 @@ full_course now key request plan (Some born) = serving (first key) (Some born) n
 -- A datagram that came before is answered by what is kept. One whose entry is over, or confirms a
 -- registration that has gone, is served anew, and its reply takes the entry's place; so it needs no
 -- other, however many are kept.
-abbrev pub keyed_course : State → ℕ → KeptKey → Request → Plan → Option ℕ → Option KeptEntry → Course
+abbrev pub keyed_course : State → ℕ → KeptKey → Request → Plan → Option ℕ
+    → Option KeptEntry → Course
 keyed_course s now key request plan dropped (Some entry) =
     if is_repeat s now entry
     then Repeating key.source (reply_in entry.state)
@@ -110,8 +115,9 @@ datagram_course s now key dropped =
     then Ignoring TooLong
     else read_course s now key dropped (message_reading key.bytes)
 
--- A request that waits is served again. (The cases in which nothing is done are those of an entry that isn't
--- there, doesn't wait, or has a request without a plan; no run from the opening state meets them.)
+-- A request that waits is served again. (The cases in which nothing is done are those of an
+-- entry that isn't there, doesn't wait, or has a request without a plan; no run from the opening
+-- state meets them.)
 abbrev pub again : KeptKey → ℕ → ℕ → Job
 again key born left = record { key = key; occasion = Again born left }
 

@@ -1,12 +1,18 @@
 -- Registration of endpoints (H.323, 7.2.2; H.225.0: RRQ, RCF, RRJ). Each case applies where none
 -- above it does.
-use Rattle.std.specs.Prelude.{◌+◌, ◌*◌, ◌==◌, ℕ, Bool, false, not, nat_lt, min, List, [], ◌∷◌, length, Option, None, Some, if◌then◌else◌}
+use Rattle.std.specs.Prelude.{◌+◌, ◌*◌, ◌==◌, ℕ, Bool, false, not, nat_lt, min, List, [], ◌∷◌}
+use Rattle.std.specs.Prelude.{length, Option, None, Some, if◌then◌else◌}
 use Rattle.std.specs.FinMap.{get, insert, len}
 use Rattle.keyed.specs.Maps.{update}
 use Rattle.ras_module.specs.declared.address.Address.{Address}
 use Rattle.ras_module.specs.declared.alias.Alias.{Alias}
 use Rattle.ras_module.specs.declared.reason.RegistrationRejectReason.{RegistrationRejectReason}
-use Rattle.ras_module.specs.declared.reason.RegistrationRejectReason.TheVariants.{DiscoveryRequired, InvalidCallSignalAddress, InvalidRasAddress, DuplicateAlias, ResourceUnavailable, FullRegistrationRequired}
+use Rattle.ras_module.specs.declared.reason.RegistrationRejectReason.TheVariants.{DiscoveryRequired}
+use Rattle.ras_module.specs.declared.reason.RegistrationRejectReason.TheVariants.{InvalidCallSignalAddress}
+use Rattle.ras_module.specs.declared.reason.RegistrationRejectReason.TheVariants.{InvalidRasAddress}
+use Rattle.ras_module.specs.declared.reason.RegistrationRejectReason.TheVariants.{DuplicateAlias}
+use Rattle.ras_module.specs.declared.reason.RegistrationRejectReason.TheVariants.{ResourceUnavailable}
+use Rattle.ras_module.specs.declared.reason.RegistrationRejectReason.TheVariants.{FullRegistrationRequired}
 use Rattle.ras_module.specs.declared.reply.Reply.{Reply}
 use Rattle.ras_module.specs.declared.reply.Reply.TheVariants.{Rcf, Rrj}
 use Rattle.ras_module.specs.Addresses.{same_address}
@@ -98,7 +104,8 @@ unless_held z now q e [] = entering z now q e (at_address z.live e.call_signal)
 unless_held z now q e (alias ∷ held) = rejection z q (DuplicateAlias (alias ∷ held))
 
 -- a full registration, with these addresses and distinct aliases
-abbrev pub full_registration : Zone → ℕ → Registering → Option Address → Option Address → List Alias → Plan
+abbrev pub full_registration : Zone → ℕ → Registering → Option Address
+    → Option Address → List Alias → Plan
 full_registration z now q None ras aliases = rejection z q InvalidCallSignalAddress
 full_registration z now q (Some call_signal) None aliases = rejection z q InvalidRasAddress
 full_registration z now q (Some call_signal) (Some ras) aliases =

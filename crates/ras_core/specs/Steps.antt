@@ -1,5 +1,6 @@
 -- Steps of the machine, and runs.
-use Rattle.std.specs.Prelude.{ℕ, ◌≡◌, ◌≤◌, ◌++◌, List, [], ◌∷◌, length, slice_set, Some, Option, None, IfSome}
+use Rattle.std.specs.Prelude.{ℕ, ◌≡◌, ◌≤◌, ◌++◌, List, [], ◌∷◌, length, slice_set, Some, Option}
+use Rattle.std.specs.Prelude.{None, IfSome}
 use Rattle.std.specs.List.{zip}
 use Rattle.admission.specs.Calls.{in_use}
 use Rattle.pools.specs.declared.interface.Lend.{Lend}
@@ -23,7 +24,8 @@ use Rattle.ras_core.specs.Pools.{figures_at}
 use Rattle.ras_core.specs.Plans.{Ask, Plan, Settled, Naming, Asking}
 use Rattle.ras_core.specs.Unused.{IsUnusedFor}
 use Rattle.ras_core.specs.Turns.{IsDueIn, IsNothingDueIn}
-use Rattle.ras_core.specs.Machine.{Choices, Course, Ignoring, Hearing, Repeating, Serving, Doing, Idle, course, machine, moment_of}
+use Rattle.ras_core.specs.Machine.{Choices, Course, Ignoring, Hearing, Repeating, Serving, Doing}
+use Rattle.ras_core.specs.Machine.{Idle, course, machine, moment_of}
 
 -- the item that was done; None where the note says that nothing was due
 abbrev pub item_of : Note → Option DueItem
@@ -50,13 +52,14 @@ MayChoose s (Naming named) choices = IfSome choices.given (IsUnusedIn s)
 MayChoose s (Asking ask lent refused) choices =
     IfSome choices.answer (IsAnswer (figures_at s.zone.pools ask.pool) ask.units)
 
--- the entry that is dropped for a request that comes is over; a request is served again when that is due
+-- the entry that is dropped for a request that comes is over; a request is served
+-- again when that is due
 abbrev pub IsTimely : State → ℕ → Option ℕ → Occasion → Type 0
 IsTimely s now dropped First = IfSome dropped (Passes (is_over now) s.kept)
 IsTimely s now dropped (Again born left) = IsDueIn s now (Retry born)
 
--- What may be chosen: no place is found for a reply only where nothing that is kept is over; what is
--- done is due; and only where nothing is due, nothing is done.
+-- What may be chosen: no place is found for a reply only where nothing that is kept is over; what
+-- is done is due; and only where nothing is due, nothing is done.
 abbrev pub IsAllowed : State → ℕ → Course → Choices → Type 0
 IsAllowed s now (Ignoring Busy) choices = NonePasses (is_over now) s.kept
 IsAllowed s now (Ignoring other) choices = Unit {0}
@@ -69,7 +72,8 @@ IsAllowed s now Idle choices = IsNothingDueIn s now
 
 -- From s, the event has this outcome and leaves the state so, by choices that may be made.
 pub record Step (s : State) (event : Event) (outcome : Outcome) (after : State) : Type 0 where
-  pub allowed : IsAllowed s (moment_of s event) (course s event (choices_of outcome)) (choices_of outcome)
+  pub allowed : IsAllowed s (moment_of s event)
+      (course s event (choices_of outcome)) (choices_of outcome)
   pub makes : machine s event (choices_of outcome) ≡ Some (outcome, after)
 
 -- step after step, over entries of an event with its outcome
@@ -87,8 +91,8 @@ abbrev pub ask_in : Course → Option Ask
 ask_in (Serving task) = ask_in_plan task.plan
 ask_in other = None
 
--- The pool that was asked has that request, with the answer, as its last one; the last requests of all
--- others stay, and all stay where none was asked.
+-- The pool that was asked has that request, with the answer, as its last one; the last requests of
+-- all others stay, and all stay where none was asked.
 abbrev pub lasts_after : List Last → Option Ask → Option Lend → List Last
 lasts_after lasts (Some ask) (Some answer) = slice_set lasts ask.pool (Some (ask.units, answer))
 lasts_after lasts (Some ask) None = lasts
@@ -99,10 +103,11 @@ abbrev pub HasFewOctets : Option Datagram → Type 0
 HasFewOctets None = Unit {0}
 HasFewOctets (Some datagram) = length datagram.bytes ≤ 20000
 
--- One step of a gatekeeper as it runs: the machine makes it; the pool that is asked has that request, with
--- the outcome's answer, as its last one, and no other pool's last request changes; what is sent has at
--- most 20,000 octets; and the state after it is sound.
-pub record RunningStep (old : Running) (event : Event) (outcome : Outcome) (new : Running) : Type 0 where
+-- One step of a gatekeeper as it runs: the machine makes it; the pool that is asked has that
+-- request, with the outcome's answer, as its last one, and no other pool's last request changes;
+-- what is sent has at most 20,000 octets; and the state after it is sound.
+pub record RunningStep (old : Running) (event : Event) (outcome : Outcome)
+    (new : Running) : Type 0 where
   pub step : Step old.state event outcome new.state
   pub lasts : new.lasts
       ≡ lasts_after old.lasts (ask_in (course old.state event (choices_of outcome))) outcome.answer
@@ -126,8 +131,8 @@ pub record IsWithinLimit (s : State) : Type 0 where
   pub limit : in_use s.zone.calls ≤ s.zone.config.limit
   pub lent : IsLentTo s.zone.pools s.zone.calls
 
--- What was added to the outcomes is one outcome for each event, and with the events it is a run of the
--- machine, which the gatekeeper made step by step.
+-- What was added to the outcomes is one outcome for each event, and with the events it is a run of
+-- the machine, which the gatekeeper made step by step.
 pub record RunsOn (old : Running) (events : List Event) (before now : List Outcome) (new : Running)
     : Type 0 where
   pub made : List Outcome

@@ -10,7 +10,8 @@ use Rattle.registrations.specs.declared.registration.Registration.{Registration}
 use Rattle.registrations.specs.Registry.{after_ask, after_calm}
 use Rattle.kept_replies.specs.Kept.{without_birth}
 use Rattle.expiry.specs.declared.due_item.DueItem.{DueItem}
-use Rattle.expiry.specs.declared.due_item.DueItem.TheVariants.{RegistrationOver, Interrogate, Silent, Retry, KeptOver, PoolTurn}
+use Rattle.expiry.specs.declared.due_item.DueItem.TheVariants.{RegistrationOver, Interrogate}
+use Rattle.expiry.specs.declared.due_item.DueItem.TheVariants.{Silent, Retry, KeptOver, PoolTurn}
 use Rattle.expiry.specs.declared.times.Times.{Times}
 use Rattle.expiry.specs.Due.{IsDue, IsNothingDue}
 use Rattle.ras_core.specs.declared.config.ConfigParts.{ConfigParts}
@@ -60,8 +61,8 @@ abbrev pub without_silent : Zone → List ℕ → Zone
 without_silent z endpoint =
     with_live (without_legs_of z endpoint) (update z.live endpoint after_calm)
 
--- The requestSeqNum of the interrogation after one with this number. It is from 1 to 65535 (H.225.0,
--- RequestSeqNum).
+-- The requestSeqNum of the interrogation after one with this number. It is from 1 to 65535
+-- (H.225.0, RequestSeqNum).
 abbrev pub number_after : ℕ → ℕ
 number_after number = if number == 65535 then 1 else number + 1
 
@@ -78,8 +79,8 @@ interrogation s now endpoint = record {
   };
 }
 
--- What each item comes to, but for a request that is served again. (In a turn of the pools each pool makes one
--- too. It changes no figure of a pool, so a state doesn't show it.)
+-- What each item comes to, but for a request that is served again. (In a turn of the pools each
+-- pool makes one too. It changes no figure of a pool, so a state doesn't show it.)
 abbrev pub effect : State → ℕ → DueItem → Effect
 effect s now (RegistrationOver id) =
     quietly (record s { zone = without_endpoint s.zone id })

@@ -2,7 +2,8 @@
 use Rattle.std.specs.Prelude.{ℕ, List, Option, None, Some, nat_lt, if◌then◌else◌}
 use Rattle.std.specs.FinMap.{get, remove}
 use Rattle.ras_module.specs.declared.address.Address.{Address}
-use Rattle.ras_module.specs.declared.reason.UnregRejectReason.TheVariants.{NotCurrentlyRegistered, CallInProgress}
+use Rattle.ras_module.specs.declared.reason.UnregRejectReason.TheVariants.{NotCurrentlyRegistered}
+use Rattle.ras_module.specs.declared.reason.UnregRejectReason.TheVariants.{CallInProgress}
 use Rattle.ras_module.specs.declared.reply.Reply.TheVariants.{Ucf, Urj}
 use Rattle.registrations.specs.declared.registration.Registration.{Registration}
 use Rattle.registrations.specs.Registry.{at_address}

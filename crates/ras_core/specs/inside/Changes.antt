@@ -1,5 +1,6 @@
 -- What a request may change in a zone, and when that change can be made.
-use Rattle.std.specs.Prelude.{◌≡◌, ◌≢◌, ◌+◌, ◌<◌, ℕ, List, [], length, Option, None, Some, IsSome, IfSome}
+use Rattle.std.specs.Prelude.{◌≡◌, ◌≢◌, ◌+◌, ◌<◌, ℕ, List, [], length, Option, None, Some, IsSome}
+use Rattle.std.specs.Prelude.{IfSome}
 use Rattle.std.specs.FinMap.{get, insert, remove, len}
 use Rattle.keyed.specs.Maps.{update}
 use Rattle.ras_module.specs.declared.call_key.CallKey.{CallKey}
@@ -8,12 +9,15 @@ use Rattle.registrations.specs.Registry.{Live, at_address, with_deadline, after_
 use Rattle.registrations.specs.Agreement.{registered_elsewhere}
 use Rattle.admission.specs.declared.call.Call.{Call}
 use Rattle.admission.specs.declared.leg.Leg.{Leg}
-use Rattle.admission.specs.Calls.{OpenCalls, leg_at, legs_of, new_call, with_leg, with_units, after_leave, freed_by_leave}
+use Rattle.admission.specs.Calls.{OpenCalls, leg_at, legs_of, new_call, with_leg, with_units}
+use Rattle.admission.specs.Calls.{after_leave, freed_by_leave}
 use Rattle.admission.specs.Legs.{leg_of}
 use Rattle.ras_core.specs.declared.change.EndpointChange.{EndpointChange}
-use Rattle.ras_core.specs.declared.change.EndpointChange.TheVariants.{Renewal, Rewriting, Addition, Removal}
+use Rattle.ras_core.specs.declared.change.EndpointChange.TheVariants.{Renewal, Rewriting, Addition}
+use Rattle.ras_core.specs.declared.change.EndpointChange.TheVariants.{Removal}
 use Rattle.ras_core.specs.declared.change.CallChange.{CallChange}
-use Rattle.ras_core.specs.declared.change.CallChange.TheVariants.{Opening, Joining, Lowering, Leaving}
+use Rattle.ras_core.specs.declared.change.CallChange.TheVariants.{Opening, Joining, Lowering}
+use Rattle.ras_core.specs.declared.change.CallChange.TheVariants.{Leaving}
 use Rattle.ras_core.specs.declared.change.Change.{Change}
 use Rattle.ras_core.specs.declared.change.Change.TheVariants.{Nothing, Endpoint, Calls}
 use Rattle.ras_core.specs.declared.job.Occasion.{Occasion}

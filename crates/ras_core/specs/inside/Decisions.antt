@@ -1,5 +1,6 @@
 -- What the code decides about a request: a reply with a change, or a question to a pool.
-use Rattle.std.specs.Prelude.{◌≡◌, ◌≢◌, ◌+◌, ◌^◌, ◌<◌, ◌≤◌, ℕ, Bool, true, false, List, length, Option, None, Some, IsSome, IfSome}
+use Rattle.std.specs.Prelude.{◌≡◌, ◌≢◌, ◌+◌, ◌^◌, ◌<◌, ◌≤◌, ℕ, Bool, true, false, List, length}
+use Rattle.std.specs.Prelude.{Option, None, Some, IsSome, IfSome}
 use Rattle.std.specs.FinMap.{get, insert, len}
 use Rattle.keyed.specs.Maps.{update}
 use Rattle.ras_module.specs.declared.reason.AdmissionRejectReason.TheVariants.{RequestDenied}
@@ -28,8 +29,8 @@ use Rattle.ras_core.specs.inside.Changes.{after_change, IsOpenable, IsRegistered
 abbrev pub served : Zone → ℕ → Decision → Served
 served z now d = record { reply = d.reply; zone = after_change now d.change z }
 
--- the way in which a request is served, where no pool is asked and the identifier is handed out that
--- is called for
+-- the way in which a request is served, where no pool is asked and the identifier is handed out
+-- that is called for
 abbrev pub resolved : Plan → Option (List ℕ) → Option Served
 resolved (Settled served) None = Some served
 resolved (Settled served) (Some id) = None

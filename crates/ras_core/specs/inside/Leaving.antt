@@ -17,7 +17,8 @@ pub record IsSameButLent (old new : Figures) : Type 0 where
 
 pub record AreSameButLent (old new : List Figures) : Type 0 where
   pub each : length new ≡ length old
-  pub same : (pool : ℕ) → pool < length old → IsSameButLent (figures_at old pool) (figures_at new pool)
+  pub same : (pool : ℕ) → pool < length old
+      → IsSameButLent (figures_at old pool) (figures_at new pool)
 
 -- what is left of a call, if there is one, without the endpoint's leg
 abbrev pub rest_of : List ℕ → Option Call → Option Call

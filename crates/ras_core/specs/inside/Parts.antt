@@ -65,8 +65,9 @@ pub record RunningZone : Type 0 where
   pub zone : Zone
   pub lasts : List Last
 
--- A gatekeeper as it runs, by its parts: beside that zone the replies that are kept, the clock, the number
--- of the next interrogation, the moment of the next turn of the pools, and how many steps were made.
+-- A gatekeeper as it runs, by its parts: beside that zone the replies that are kept, the
+-- clock, the number of the next interrogation, the moment of the next turn of the pools, and
+-- how many steps were made.
 abbrev pub running_of : RunningZone → KeptReplies → ℕ → ℕ → ℕ → ℕ → Running
 running_of z kept clock interrogation_number next_pool_turn steps = record {
   state = record {

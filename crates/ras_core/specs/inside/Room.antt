@@ -18,7 +18,8 @@ HasPlaceIn t now key = get t.kept key ≡ None → IsBusy t now → ⊥
 -- a request that comes finds a place; one that is served again has its entry
 abbrev pub IsPlaced : KeptTable → ℕ → KeptKey → Occasion → Type 0
 IsPlaced t now key First = HasPlaceIn t now key
-IsPlaced t now key (Again born left) = IsSomeAnd (get t.kept key) (λ entry. left_in entry.state ≡ left)
+IsPlaced t now key (Again born left) =
+    IsSomeAnd (get t.kept key) (λ entry. left_in entry.state ≡ left)
 
 -- an entry is dropped for it exactly where it has none and there is no other place
 abbrev pub IsDropped : KeptTable → KeptKey → Occasion → Option ℕ → Type 0

@@ -28,7 +28,8 @@ use Rattle.ras_core.specs.Steps.{IsAllowed, HasReply, HasFewOctets, ask_in, choi
 
 -- the requests as they are served
 abbrev pub rrq_of : Registering → Request
-rrq_of q = Rrq q.seq q.call_signal q.ras q.aliases q.gatekeeper q.time_to_live q.keep_alive q.endpoint
+rrq_of q =
+    Rrq q.seq q.call_signal q.ras q.aliases q.gatekeeper q.time_to_live q.keep_alive q.endpoint
 
 abbrev pub urq_of : Unregistering → Request
 urq_of q = Urq q.seq q.call_signal q.endpoint
@@ -47,7 +48,8 @@ abbrev pub CountsOneMore : List Figures → List Figures → Type 0
 CountsOneMore old new = (most : ℕ) → All (HasCounts most) old → All (HasCounts (most + 1)) new
 
 -- What a course comes to, before the clock and the number of steps are set.
-pub record Does (old : Running) (now : ℕ) (c : Course) (outcome : Outcome) (new : Running) : Type 0 where
+pub record Does (old : Running) (now : ℕ) (c : Course) (outcome : Outcome)
+    (new : Running) : Type 0 where
   pub allowed : IsAllowed old.state now c (choices_of outcome)
   pub makes : course_ending old.state now c (choices_of outcome) ≡ Some (outcome, new.state)
   pub lasts : new.lasts ≡ lasts_after old.lasts (ask_in c) outcome.answer
@@ -80,8 +82,8 @@ Serves old now job request outcome new =
     (plan : Plan) → plan_of old.state.zone now request ≡ Some plan
     → Does old now (serving job outcome.dropped now request plan) outcome new
 
--- an entry is dropped for the reply to a request exactly where its datagram has none and there is no
--- other place
+-- an entry is dropped for the reply to a request exactly where its datagram has none and there
+-- is no other place
 abbrev pub DropsFor : State → Job → Option ℕ → Type 0
 DropsFor s job dropped =
     IsDropped (record { kept = s.kept; most = s.zone.config.kept; room = 0 })
@@ -111,5 +113,6 @@ pub record IsAgain (s : State) (now born : ℕ) (job : Job) (request : Request) 
 
 -- or nothing is
 abbrev pub IsWaitingRequest : State → ℕ → ℕ → Option (Job × Request) → Type 0
-IsWaitingRequest s now born None = retry_course s now born (get (births s.kept) born) ≡ Doing (Retry born)
+IsWaitingRequest s now born None =
+    retry_course s now born (get (births s.kept) born) ≡ Doing (Retry born)
 IsWaitingRequest s now born (Some found) = IsAgain s now born found.0 found.1

@@ -7,7 +7,8 @@ use Rattle.ras_core.proofs.bandwidth.Bandwidth.close.Goals as goal
 pub returns-clause-figures : goal.returns-clause-figures
 returns-clause-figures g c =
     ap figures_of c.close.ensures.accounts
-    ∙ (figures-close c.self.inside.pools ∙ ap (λ (l : Lending). figures_without_loans l.usage.pools) c.self.view_is)
+    ∙ (figures-close c.self.inside.pools
+    ∙ ap (λ (l : Lending). figures_without_loans l.usage.pools) c.self.view_is)
 
 pub returns-clause-lasts : goal.returns-clause-lasts
 returns-clause-lasts g c =
@@ -16,5 +17,6 @@ returns-clause-lasts g c =
 
 pub returns-clause-repaid : goal.returns-clause-repaid
 returns-clause-repaid g c =
-    subst (λ fs. All (λ f. f.lent ≡ 0) fs) (sym (ap figures_of c.close.ensures.accounts ∙ figures-close c.self.inside.pools))
+    subst (λ fs. All (λ f. f.lent ≡ 0) fs)
+    (sym (ap figures_of c.close.ensures.accounts ∙ figures-close c.self.inside.pools))
     (repaid (figures_of c.self.inside.pools))

@@ -22,7 +22,8 @@ pub loop-call-smaller : goal.loop-call-smaller
 loop-call-smaller g c =
     let e = c.args.endpoint.now in
     let calls = c.loop-call.self.usage.calls in
-    let has = subst (λ (l : Lending). IsSome (leg_at l.usage.calls c.in-Some.call e)) c.self.view_is c.in-Some.ensures in
+    let has = subst (λ (l : Lending). IsSome (leg_at l.usage.calls c.in-Some.call e)) c.self.view_is
+    c.in-Some.ensures in
     subst (λ (u : Usage). legs_of u.calls e < legs_of calls e) (sym c.leave.ensures.usage)
     (fewer_legs e calls c.in-Some.call has)
 
@@ -47,7 +48,8 @@ loop-call-preserved g c =
 
 pub returns-clause-left : goal.returns-clause-left
 returns-clause-left g c =
-    let none = subst (λ (l : Lending). IsInNoCall l.usage.calls c.args.endpoint.now) c.self.view_is c.in_default.ensures in
+    let none = subst (λ (l : Lending). IsInNoCall l.usage.calls c.args.endpoint.now) c.self.view_is
+    c.in_default.ensures in
     record {
       calls = all_left c.args.endpoint.now c.args.self.now.usage.calls c.loop-call.self.usage.calls
           c.loop-call.invariant.calls c.len-sound.ensures.calls none;

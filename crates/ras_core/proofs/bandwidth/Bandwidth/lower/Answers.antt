@@ -13,7 +13,8 @@ pub take_back-requires-clause-lent : goal.take_back-requires-clause-lent
 take_back-requires-clause-lent g c =
     let i = c.self.inside in
     let u = usage_in i.calls i.pools i.limit i.call_limit in
-    let can = subst (λ (l : Lending). IsLowerable l.usage.calls c.args.key.now c.args.units c.args.pool c.args.back)
+    let can = subst (λ (l : Lending). IsLowerable l.usage.calls c.args.key.now c.args.units
+    c.args.pool c.args.back)
     (sym c.self.view_is) c.requires in
     omega (
       arith,
@@ -26,9 +27,11 @@ pub invariant_of-self : goal.invariant_of-self
 invariant_of-self g c =
     let i = c.self.inside in
     let u = usage_in i.calls i.pools i.limit i.call_limit in
-    let can = subst (λ (l : Lending). IsLowerable l.usage.calls c.args.key.now c.args.units c.args.pool c.args.back)
+    let can = subst (λ (l : Lending). IsLowerable l.usage.calls c.args.key.now c.args.units
+    c.args.pool c.args.back)
     (sym c.self.view_is) c.requires in
-    let lowered = on_ok c.set_units.result c.unwrap.result c.unwrap.ensures c.set_units.ensures.ok in
+    let lowered =
+    on_ok c.set_units.result c.unwrap.result c.unwrap.ensures c.set_units.ensures.ok in
     IsBacked-is (with_usage u _ (pools_after_return u.pools c.args.pool c.args.back))
     c.set_units.new.self.calls (figures_of c.take_back.new.self) c.set_units.new.self.most
     (IsBacked-lower u c.self.invariant c.args.key.now c.args.units c.args.pool c.args.back can)
@@ -41,8 +44,10 @@ pub returns-clause-usage : goal.returns-clause-usage
 returns-clause-usage g c =
     let i = c.self.inside in
     let u = usage_in i.calls i.pools i.limit i.call_limit in
-    let lowered = on_ok c.set_units.result c.unwrap.result c.unwrap.ensures c.set_units.ensures.ok in
-    let pools = ap figures_of c.take_back.ensures.after ∙ (figures-return i.pools c.args.pool c.from.result
+    let lowered =
+    on_ok c.set_units.result c.unwrap.result c.unwrap.ensures c.set_units.ensures.ok in
+    let pools = ap figures_of c.take_back.ensures.after
+    ∙ (figures-return i.pools c.args.pool c.from.result
     ∙ ap (pools_after_return u.pools c.args.pool) c.from.ensures) in
     subst (λ (l : Lending). usage_in c.set_units.new.self c.take_back.new.self i.limit i.call_limit
     ≡ with_usage l.usage (update l.usage.calls c.args.key.now (with_units c.args.units))
@@ -58,4 +63,5 @@ returns-clause-usage g c =
 pub returns-clause-lasts : goal.returns-clause-lasts
 returns-clause-lasts g c =
     ap lasts_of c.take_back.ensures.after
-    ∙ (lasts-return c.self.inside.pools c.args.pool c.from.result ∙ ap (λ (l : Lending). l.lasts) c.self.view_is)
+    ∙ (lasts-return c.self.inside.pools c.args.pool c.from.result
+    ∙ ap (λ (l : Lending). l.lasts) c.self.view_is)

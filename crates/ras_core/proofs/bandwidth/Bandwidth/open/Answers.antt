@@ -16,5 +16,6 @@ invariant_of-self-2 g c =
     let opened = on_ok c.open.result c.unwrap.result c.unwrap.ensures c.open.ensures.ok in
     IsBacked-is (with_usage u _ u.pools) c.open.new.self.calls u.pools c.open.new.self.most
     (IsBacked-open u c.self.invariant c.args.key c.args.pool c.args.leg can)
-    (opened.rows ∙ ap (λ cs. fin.insert cs c.args.key (new_call c.args.pool 0 c.args.leg)) c.reserve.ensures.calls)
+    (opened.rows ∙ ap (λ cs. fin.insert cs c.args.key (new_call c.args.pool 0 c.args.leg))
+    c.reserve.ensures.calls)
     refl (opened.most ∙ c.reserve.ensures.most)

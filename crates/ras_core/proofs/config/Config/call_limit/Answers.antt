@@ -3,7 +3,9 @@ use Rattle.ras_core.proofs.RangesKept.{limits}
 use Rattle.ras_core.proofs.config.Config.call_limit.Goals as goal
 
 pub overflow_cast-result : goal.overflow_cast-result
-overflow_cast-result c = omega (arith, (limits c.self.inside.parts c.self.invariant.ranges).call_limit)
+overflow_cast-result c =
+    omega (arith, (limits c.self.inside.parts c.self.invariant.ranges).call_limit)
 
 pub returns-clause-few : goal.returns-clause-few
-returns-clause-few c = omega (arith, (limits c.self.inside.parts c.self.invariant.ranges).call_limit)
+returns-clause-few c =
+    omega (arith, (limits c.self.inside.parts c.self.invariant.ranges).call_limit)

@@ -7,8 +7,16 @@ returns-clause-some c = (limits c.self.inside.parts c.self.invariant.ranges).som
 
 pub overflow_add-result : goal.overflow_add-result
 overflow_add-result c =
-    omega (arith, (limits c.self.inside.parts c.self.invariant.ranges).window, c.milliseconds-start.ensures.small)
+    omega (
+      arith,
+      (limits c.self.inside.parts c.self.invariant.ranges).window,
+      c.milliseconds-start.ensures.small,
+    )
 
 pub overflow_add-result-2 : goal.overflow_add-result-2
 overflow_add-result-2 c =
-    omega (arith, (limits c.self.inside.parts c.self.invariant.ranges).delay, c.milliseconds-start.ensures.small)
+    omega (
+      arith,
+      (limits c.self.inside.parts c.self.invariant.ranges).delay,
+      c.milliseconds-start.ensures.small,
+    )

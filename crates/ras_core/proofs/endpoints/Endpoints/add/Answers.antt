@@ -15,7 +15,8 @@ set_all-requires-clause-free c alias has other =
     let agree = subst (λ (t : Roll). Agree t.live held) c.self.view_is c.self.invariant in
     let r = c.args.registration in
     free_of_others held alias r.identifier
-    (free_to_add c.args.self.now held agree r c.requires alias (subst (λ (xs : List Alias). Contains xs alias) c.as_slice-aliases.ensures.items has))
+    (free_to_add c.args.self.now held agree r c.requires alias
+    (subst (λ (xs : List Alias). Contains xs alias) c.as_slice-aliases.ensures.items has))
     (subst (λ (h : Held). IsHeldByAnother h alias r.identifier) c.reserve-2.ensures.held other)
 
 pub invariant_of-self-2 : goal.invariant_of-self-2
@@ -25,11 +26,14 @@ invariant_of-self-2 c =
     let r = c.args.registration in
     let live_is : c.insert.new.self.live ≡ fin.insert c.args.self.now.live r.identifier r =
     (on_ok c.insert.result c.unwrap.result c.unwrap.ensures c.insert.ensures.ok).rows
-    ∙ ap (λ l. fin.insert l r.identifier r) (c.reserve.ensures.live ∙ ap (λ (t : Roll). t.live) c.self.view_is) in
+    ∙ ap (λ l. fin.insert l r.identifier r)
+    (c.reserve.ensures.live ∙ ap (λ (t : Roll). t.live) c.self.view_is) in
     let held_is : c.set_all.new.self.held ≡ with_aliases held r.aliases r.identifier r.call_signal =
     c.set_all.ensures.held
-    ∙ (ap (λ h. with_aliases h c.as_slice-aliases.result.now r.identifier r.call_signal) c.reserve-2.ensures.held
-    ∙ ap (λ xs. with_aliases held xs r.identifier r.call_signal) c.as_slice-aliases.ensures.items) in
+    ∙ (ap (λ h. with_aliases h c.as_slice-aliases.result.now r.identifier r.call_signal)
+    c.reserve-2.ensures.held
+    ∙ ap (λ xs. with_aliases held xs r.identifier r.call_signal)
+    c.as_slice-aliases.ensures.items) in
     subst (λ (l : Live). Agree l c.set_all.new.self.held) (sym live_is)
     (subst (λ (h : Held). Agree (fin.insert c.args.self.now.live r.identifier r) h) (sym held_is)
     (Agree-add c.args.self.now held agree r c.requires))

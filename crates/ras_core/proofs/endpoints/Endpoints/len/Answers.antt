@@ -12,4 +12,5 @@ returns-clause-aliases c =
     (one_holder i.registrations.live i.aliases.held c.self.invariant)
 
 pub returns-clause-endpoints : goal.returns-clause-endpoints
-returns-clause-endpoints c = subst (λ (t : Roll). IsConsistent t.live) c.self.view_is c.len.ensures.sound
+returns-clause-endpoints c =
+    subst (λ (t : Roll). IsConsistent t.live) c.self.view_is c.len.ensures.sound

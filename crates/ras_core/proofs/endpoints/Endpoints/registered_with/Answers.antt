@@ -10,7 +10,8 @@ returns-in_err-holder c =
     let i = c.self.inside in
     let none = sym c.holder.ensures ∙ ap option_copied (c.in_err-holder.was) in
     ap option_copied c.from_residual.ensures
-    ∙ (sym (none_registered i.registrations.live i.aliases.held c.self.invariant c.args.alias.now none)
+    ∙ (sym
+    (none_registered i.registrations.live i.aliases.held c.self.invariant c.args.alias.now none)
     ∙ ap (λ (roll : Roll). registered_with roll.live c.args.alias.now) c.self.view_is)
 
 pub returns : goal.returns

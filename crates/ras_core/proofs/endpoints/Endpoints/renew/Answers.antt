@@ -8,4 +8,5 @@ pub invariant_of-self : goal.invariant_of-self
 invariant_of-self c =
     let i = c.self.inside in
     subst (λ (l : Live). Agree l i.aliases.held) (sym c.renew.ensures.rows)
-    (Agree-update i.registrations.live i.aliases.held c.args.id.now (with_deadline c.args.deadline) c.self.invariant (λ r. refl) (λ r. refl))
+    (Agree-update i.registrations.live i.aliases.held c.args.id.now
+    (with_deadline c.args.deadline) c.self.invariant (λ r. refl) (λ r. refl))

@@ -12,7 +12,8 @@ returns-in-Some c =
     let i = c.loop-alias.alias-index in
     let some = sym c.registered_with.ensures ∙ ap option_copied c.in-Some.is in
     sym (c.loop-alias.invariant
-    ∙ (translation-next live aliases c.args.other i c.alias-item.result c.loop-alias-test.true c.alias-item.is
+    ∙ (translation-next live aliases c.args.other i c.alias-item.result
+    c.loop-alias-test.true c.alias-item.is
     ∙ ap (address_or (translation live (drop (i + 1) aliases) c.args.other)) some))
 
 pub loop-alias-preserved : goal.loop-alias-preserved
@@ -22,7 +23,8 @@ loop-alias-preserved c =
     let i = c.loop-alias.alias-index in
     let none = sym c.registered_with.ensures ∙ ap option_copied c.in_default.is in
     c.loop-alias.invariant
-    ∙ (translation-next live aliases c.args.other i c.alias-item.result c.loop-alias-test.true c.alias-item.is
+    ∙ (translation-next live aliases c.args.other i c.alias-item.result
+    c.loop-alias-test.true c.alias-item.is
     ∙ ap (address_or (translation live (drop (i + 1) aliases) c.args.other)) none)
 
 pub returns : goal.returns

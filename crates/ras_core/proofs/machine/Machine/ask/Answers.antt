@@ -21,11 +21,15 @@ use Rattle.ras_core.proofs.machine.Machine.ask.Goals as goal
 pub keep-dropped-requires-clause-place : goal.keep-dropped-requires-clause-place
 keep-dropped-requires-clause-place g c =
     let i = c.self.inside in
-    let s = (running_of i.services i.kept.kept i.clock i.interrogation_number i.next_pool_turn i.steps).state in
-    subst (λ (n : ℕ). IsPlaced c.reserve.new.kept n c.args.job.key c.args.job.occasion) (sym c.milliseconds-start.ensures.same)
-    (placed_of s c.reserve.new.kept c.args.now c.args.job.key c.args.job.occasion c.reserve.ensures.kept
+    let s = (running_of i.services i.kept.kept i.clock i.interrogation_number i.next_pool_turn
+    i.steps).state in
+    subst (λ (n : ℕ). IsPlaced c.reserve.new.kept n c.args.job.key c.args.job.occasion)
+    (sym c.milliseconds-start.ensures.same)
+    (placed_of s c.reserve.new.kept c.args.now c.args.job.key
+    c.args.job.occasion c.reserve.ensures.kept
     (c.reserve.ensures.most ∙ c.self.invariant.0)
-    (subst (λ (m : Running). IsJob m.state c.args.now c.args.job) (sym c.self.view_is) c.requires.job))
+    (subst (λ (m : Running). IsJob m.state c.args.now c.args.job)
+    (sym c.self.view_is) c.requires.job))
 
 pub returns-clause-does : goal.returns-clause-does
 returns-clause-does g c plan asks =
@@ -39,7 +43,8 @@ returns-clause-does g c plan asks =
     let answer = c.in_ok-answer.answer in
     let w = c.waits-waits.result in
     let reply = c.reply-reply.result in
-    let old = running_of i.services i.kept.kept i.clock i.interrogation_number i.next_pool_turn i.steps in
+    let old =
+    running_of i.services i.kept.kept i.clock i.interrogation_number i.next_pool_turn i.steps in
     let services = c.hear.new.self in
     let kept = c.keep-dropped.new.kept.kept in
     let asked : RunningZone = record {
@@ -56,14 +61,18 @@ returns-clause-does g c plan asks =
     let kept_is : kept ≡ kept_as i.kept.kept job.key job.occasion dropped i.steps request reply w
     (term_of i.services.zone.config now) =
     c.keep-dropped.ensures.kept
-    ∙ (λ j. kept_as (c.reserve.ensures.kept j) job.key job.occasion dropped i.steps request reply w (c.term-term.ensures.same j)) in
+    ∙ (λ j. kept_as (c.reserve.ensures.kept j) job.key job.occasion dropped i.steps request reply w
+    (c.term-term.ensures.same j)) in
     let reply_is : reply ≡ reply_of q answer w i.services.zone.config.delay =
     c.reply-reply.ensures ∙ ap (λ n. reply_of q answer w n) c.delay-delay.ensures in
-    let over = subst (λ (k : KeptReplies). IfSome dropped (Passes (is_over now) k)) c.reserve.ensures.kept
-    (subst (λ (n : ℕ). IfSome dropped (Passes (is_over n) c.reserve.new.kept.kept)) c.milliseconds-start.ensures.same
+    let over =
+    subst (λ (k : KeptReplies). IfSome dropped (Passes (is_over now) k)) c.reserve.ensures.kept
+    (subst (λ (n : ℕ). IfSome dropped (Passes (is_over n) c.reserve.new.kept.kept))
+    c.milliseconds-start.ensures.same
     c.keep-dropped.ensures.over) in
     let back = sym c.self.view_is in
-    let does = does_answered old now job id request q dropped answer w reply services kept c.waits-waits.ensures
+    let does = does_answered old now job id request q dropped answer w reply services
+    kept c.waits-waits.ensures
     c.requires.seq c.in_ok-answer.ensures.answer
     (subst (λ (m : Running). IsJob m.state now job) back c.requires.job)
     (subst (λ (m : Running). AreBornBefore m.state.steps m.state.kept) back c.requires.births)

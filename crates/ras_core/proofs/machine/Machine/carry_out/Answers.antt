@@ -25,23 +25,29 @@ returns-clause-does g c plan request decides =
     let endpoint = c.args.endpoint in
     let d = c.args.decision in
     let dropped = c.keep_reply-dropped.result in
-    let old = running_of i.services i.kept.kept i.clock i.interrogation_number i.next_pool_turn i.steps in
+    let old =
+    running_of i.services i.kept.kept i.clock i.interrogation_number i.next_pool_turn i.steps in
     let services = c.hear.new.self in
     let kept = c.keep_reply-dropped.new.kept.kept in
     let applied : c.apply.new.self ≡ changed i.services now d.change =
     on_ok c.apply.result c.in_ok-apply.field-0 c.in_ok-apply.was c.apply.ensures.ok in
-    let services_is : services ≡ zone_after i.services.zone i.services.lasts now job.occasion endpoint d.change =
+    let services_is : services
+    ≡ zone_after i.services.zone i.services.lasts now job.occasion endpoint d.change =
     c.hear.ensures ∙ ap (λ (z : RunningZone). heard_at z job.occasion now endpoint) applied in
     let until_is : c.term-term.result.until ≡ now + i.services.zone.config.window =
     ap (λ t. t.until) c.term-term.ensures.same in
     let kept_is : kept ≡ with_reply i.kept.kept job.key job.occasion dropped i.steps d.reply
     (now + i.services.zone.config.window) =
     c.keep_reply-dropped.ensures.kept
-    ∙ (λ j. with_reply (c.reserve.ensures.kept j) job.key job.occasion dropped i.steps d.reply (until_is j)) in
-    let over = subst (λ (k : KeptReplies). IfSome dropped (Passes (is_over now) k)) c.reserve.ensures.kept
-    (subst (λ (n : ℕ). IfSome dropped (Passes (is_over n) c.reserve.new.kept.kept)) c.milliseconds-start.ensures.same
+    ∙ (λ j. with_reply (c.reserve.ensures.kept j) job.key job.occasion dropped i.steps d.reply
+    (until_is j)) in
+    let over =
+    subst (λ (k : KeptReplies). IfSome dropped (Passes (is_over now) k)) c.reserve.ensures.kept
+    (subst (λ (n : ℕ). IfSome dropped (Passes (is_over n) c.reserve.new.kept.kept))
+    c.milliseconds-start.ensures.same
     c.keep_reply-dropped.ensures.over) in
-    let few = subst (λ (o : Datagram). length o.bytes ≤ 20000) c.in_ok-output.ensures.encoded c.in_ok-output.ensures.few in
+    let few = subst (λ (o : Datagram). length o.bytes ≤ 20000) c.in_ok-output.ensures.encoded
+    c.in_ok-output.ensures.few in
     let back = sym c.self.view_is in
     let does = does_carried old now job endpoint d dropped services kept
     (subst (λ (m : Running). IfSome d.given (IsUnusedIn m.state)) back c.requires.unused)

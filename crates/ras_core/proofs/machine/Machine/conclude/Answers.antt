@@ -8,4 +8,5 @@ pub returns-in-Decided-clause-does : goal.returns-in-Decided-clause-does
 returns-in-Decided-clause-does g c =
     if_ok_with _ _ c.carry_out.result c.carry_out.ensures.does
     (λ outcome does plan concludes. does plan c.args.request
-    (subst (λ (k : Conclusion). Concludes c.args.self.now.state.zone c.args.now plan k) c.in-Decided.is concludes))
+    (subst (λ (k : Conclusion). Concludes c.args.self.now.state.zone c.args.now plan k)
+    c.in-Decided.is concludes))

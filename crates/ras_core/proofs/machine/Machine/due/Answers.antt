@@ -6,5 +6,6 @@ use Rattle.ras_core.proofs.machine.Machine.due.Goals as goal
 
 pub returns : goal.returns
 returns g c =
-    subst (λ (m : Running). MatchOption c.due.result (IsNothingDueIn m.state c.args.now) (IsDueIn m.state c.args.now))
+    subst (λ (m : Running). MatchOption c.due.result (IsNothingDueIn m.state c.args.now)
+    (IsDueIn m.state c.args.now))
     c.self.view_is c.due.ensures

@@ -11,9 +11,13 @@ use Rattle.ras_core.proofs.machine.Machine.expire.Goals as goal
 pub returns-clause-does : goal.returns-clause-does
 returns-clause-does g c =
     let i = c.self.inside in
-    let old = running_of i.services i.kept.kept i.clock i.interrogation_number i.next_pool_turn i.steps in
+    let old =
+    running_of i.services i.kept.kept i.clock i.interrogation_number i.next_pool_turn i.steps in
     let rows_are = sym c.drop_born.ensures.rows in
-    let new : Running = record { state = record old.state { kept = c.drop_born.new.self.kept }; lasts = old.lasts } in
+    let new : Running = record {
+      state = record old.state { kept = c.drop_born.new.self.kept };
+      lasts = old.lasts;
+    } in
     does_item old _ c.self.view_is c.args.now (KeptOver c.args.born) c.requires
     None c.noted.result c.noted.ensures new
     refl (ap (λ k. record old.state { kept = k }) rows_are)

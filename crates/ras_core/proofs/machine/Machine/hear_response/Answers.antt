@@ -10,13 +10,16 @@ use Rattle.ras_core.proofs.machine.Machine.hear_response.Goals as goal
 pub returns : goal.returns
 returns g c =
     let i = c.self.inside in
-    let old = running_of i.services i.kept.kept i.clock i.interrogation_number i.next_pool_turn i.steps in
+    let old =
+    running_of i.services i.kept.kept i.clock i.interrogation_number i.next_pool_turn i.steps in
     let id = c.args.endpoint.now in
     let new : Running = record {
       state = record old.state { zone = c.hear.new.self.zone };
       lasts = c.hear.new.self.lasts;
     } in
-    subst (λ (m : Running). Does m c.args.now (response_course m.state (Some id)) c.noted.result new) c.self.view_is
-    (subst (λ (o : Outcome). Does old c.args.now (response_course old.state (Some id)) o new) (sym c.noted.ensures)
+    subst (λ (m : Running). Does m c.args.now
+    (response_course m.state (Some id)) c.noted.result new) c.self.view_is
+    (subst (λ (o : Outcome). Does old c.args.now (response_course old.state (Some id)) o new)
+    (sym c.noted.ensures)
     (does_hear old c.args.now id c.hear.new.self
     (found_some c.get.result c.get.ensures c.if-is_none.ensures) c.hear.ensures))

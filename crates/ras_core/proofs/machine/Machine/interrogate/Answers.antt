@@ -15,14 +15,16 @@ use Rattle.ras_core.proofs.machine.Machine.interrogate.Goals as goal
 pub inquire-requires : goal.inquire-requires
 inquire-requires g c =
     let z = c.self.inside.services.zone in
-    let due = subst (λ (m : Running). IsDueIn m.state c.args.now (Interrogate c.args.id)) (sym c.self.view_is) c.requires in
+    let due = subst (λ (m : Running). IsDueIn m.state c.args.now (Interrogate c.args.id))
+    (sym c.self.view_is) c.requires in
     tries_few_in (times_of z.config) c.args.now (fin.get z.live c.args.id) due.1
     (subst (λ (t : Times). t.asks ≤ 16) c.times-few.ensures.same c.times-few.ensures.asks)
 
 pub returns-clause-does : goal.returns-clause-does
 returns-clause-does g c =
     let i = c.self.inside in
-    let old = running_of i.services i.kept.kept i.clock i.interrogation_number i.next_pool_turn i.steps in
+    let old =
+    running_of i.services i.kept.kept i.clock i.interrogation_number i.next_pool_turn i.steps in
     let number = c.following-self-inside in
     let new : Running = record {
       state = record old.state {
@@ -36,7 +38,8 @@ returns-clause-does g c =
     let zone_is = sym c.inquire.ensures.zone in
     does_item old _ c.self.view_is c.args.now (Interrogate c.args.id) c.requires
     (Some c.in_ok-output.output) c.noted.result c.noted.ensures new
-    (ap (option_map (inquiry i.interrogation_number)) there ∙ ap Some (sym c.in_ok-output.ensures.encoded))
+    (ap (option_map (inquiry i.interrogation_number)) there
+    ∙ ap Some (sym c.in_ok-output.ensures.encoded))
     (λ j. record old.state { zone = zone_is j; interrogation_number = sym number.ensures j })
     c.inquire.ensures.lasts
     (subst (λ (z : Zone). AreSameButLent i.services.zone.pools z.pools) zone_is

@@ -10,16 +10,19 @@ use Rattle.ras_core.proofs.machine.Machine.lapse.Goals as goal
 pub invariant_of-self : goal.invariant_of-self
 invariant_of-self g c = (
   c.self.invariant.0 ∙ sym (ap (λ (z : Zone). z.config.kept) c.lapse.ensures.zone
-      ∙ ap (λ (config : ConfigParts). config.kept) (settings_stay c.self.inside.services.zone c.args.id)),
+      ∙ ap (λ (config : ConfigParts). config.kept)
+      (settings_stay c.self.inside.services.zone c.args.id)),
   c.self.invariant.1,
 )
 
 pub returns-clause-does : goal.returns-clause-does
 returns-clause-does g c =
     let i = c.self.inside in
-    let old = running_of i.services i.kept.kept i.clock i.interrogation_number i.next_pool_turn i.steps in
+    let old =
+    running_of i.services i.kept.kept i.clock i.interrogation_number i.next_pool_turn i.steps in
     let left = c.lapse.new.self in
-    let new : Running = record { state = record old.state { zone = left.zone }; lasts = left.lasts } in
+    let new : Running =
+    record { state = record old.state { zone = left.zone }; lasts = left.lasts } in
     does_item old _ c.self.view_is c.args.now (RegistrationOver c.args.id) c.requires
     None c.noted.result c.noted.ensures new
     refl (ap (λ (z : Zone). record old.state { zone = z }) (sym c.lapse.ensures.zone))

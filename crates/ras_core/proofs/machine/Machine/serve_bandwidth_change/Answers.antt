@@ -17,14 +17,17 @@ returns-clause-does g c =
     let s = c.args.self.now.state in
     if_ok_with _ _ c.conclude.result c.conclude.ensures.does
     (λ outcome does plan is.
-    subst (λ (p : Plan). Does c.args.self.now c.args.now (serving c.args.job outcome.dropped c.args.now (brq_of c.args.q) p) outcome c.conclude.new.self)
+    subst (λ (p : Plan). Does c.args.self.now c.args.now (serving c.args.job outcome.dropped
+    c.args.now (brq_of c.args.q) p) outcome c.conclude.new.self)
     (same_some (bandwidth s.zone c.args.q) plan is)
     (subst (λ (r : Request). Does c.args.self.now c.args.now (Serving (record {
       job = c.args.job;
       dropped = outcome.dropped;
       request = r;
-      plan = plan_at (c.args.job).occasion c.args.now (Some (c.args.q).endpoint) (bandwidth s.zone c.args.q);
+      plan = plan_at (c.args.job).occasion c.args.now
+          (Some (c.args.q).endpoint) (bandwidth s.zone c.args.q);
     })) outcome c.conclude.new.self) c.into_request.ensures
     (does (bandwidth s.zone c.args.q)
-    (subst (λ (m : Running). Concludes m.state.zone c.args.now (bandwidth m.state.zone c.args.q) c.change_bandwidth-conclusion.result)
+    (subst (λ (m : Running). Concludes m.state.zone c.args.now
+    (bandwidth m.state.zone c.args.q) c.change_bandwidth-conclusion.result)
     c.self.view_is c.change_bandwidth-conclusion.ensures.concludes))))

@@ -14,9 +14,11 @@ returns-clause-does g c =
     let settled = Settled (unchanged z (discovery z c.args.seq c.args.gatekeeper)) in
     if_ok_with _ _ c.carry_out.result c.carry_out.ensures.does
     (λ outcome does plan is. does plan (Grq c.args.seq c.args.gatekeeper)
-    (subst (λ (p : Plan). Decides z c.args.now p c.reply-decision.result) (same_some settled plan is)
+    (subst (λ (p : Plan). Decides z c.args.now p c.reply-decision.result)
+    (same_some settled plan is)
     (subst (Decides z c.args.now settled) (sym c.reply-decision.ensures) (record {
       possible = tt;
       is = ap (λ reply. Some (unchanged z reply)) (sym (c.discover.ensures
-          ∙ ap (λ (m : Running). discovery m.state.zone c.args.seq c.args.gatekeeper) c.self.view_is));
+          ∙ ap (λ (m : Running). discovery m.state.zone c.args.seq c.args.gatekeeper)
+          c.self.view_is));
     }))))

@@ -15,6 +15,10 @@ returns-clause-does g c =
     let s = c.args.self.now.state in
     if_ok_with _ _ c.carry_out.result c.carry_out.ensures.does
     (λ outcome does plan is.
-    subst (λ (p : Plan). Does c.args.self.now c.args.now (serving c.args.job outcome.dropped c.args.now (drq_of c.args.q.now) p) outcome c.carry_out.new.self)
-    (same_some (disengagement s.zone c.args.q.now) plan is) (does (disengagement s.zone c.args.q.now) (drq_of c.args.q.now)
-    (subst (λ (m : Running). Decides m.state.zone c.args.now (disengagement m.state.zone c.args.q.now) c.disengage-decision.result) c.self.view_is c.disengage-decision.ensures.decides)))
+    subst (λ (p : Plan). Does c.args.self.now c.args.now (serving c.args.job outcome.dropped
+    c.args.now (drq_of c.args.q.now) p) outcome c.carry_out.new.self)
+    (same_some (disengagement s.zone c.args.q.now) plan is)
+    (does (disengagement s.zone c.args.q.now) (drq_of c.args.q.now)
+    (subst (λ (m : Running). Decides m.state.zone c.args.now
+    (disengagement m.state.zone c.args.q.now) c.disengage-decision.result) c.self.view_is
+    c.disengage-decision.ensures.decides)))

@@ -15,6 +15,9 @@ returns-clause-does g c =
     let s = c.args.self.now.state in
     if_ok_with _ _ c.carry_out.result c.carry_out.ensures.does
     (λ outcome does plan is.
-    subst (λ (p : Plan). Does c.args.self.now c.args.now (serving c.args.job outcome.dropped c.args.now (rrq_of c.args.q.now) p) outcome c.carry_out.new.self)
-    (same_some (registration s.zone c.args.now c.args.q.now) plan is) (does (registration s.zone c.args.now c.args.q.now) (rrq_of c.args.q.now)
-    (subst (λ (m : Running). Decides m.state.zone c.args.now (registration m.state.zone c.args.now c.args.q.now) c.in_ok-decision.decision) c.self.view_is c.in_ok-decision.ensures.decides)))
+    subst (λ (p : Plan). Does c.args.self.now c.args.now (serving c.args.job outcome.dropped
+    c.args.now (rrq_of c.args.q.now) p) outcome c.carry_out.new.self)
+    (same_some (registration s.zone c.args.now c.args.q.now) plan is)
+    (does (registration s.zone c.args.now c.args.q.now) (rrq_of c.args.q.now)
+    (subst (λ (m : Running). Decides m.state.zone c.args.now (registration m.state.zone c.args.now
+    c.args.q.now) c.in_ok-decision.decision) c.self.view_is c.in_ok-decision.ensures.decides)))

@@ -10,17 +10,21 @@ use Rattle.ras_core.proofs.machine.Machine.silence.Goals as goal
 pub invariant_of-self : goal.invariant_of-self
 invariant_of-self g c = (
   c.self.invariant.0 ∙ sym (ap (λ (z : Zone). z.config.kept) c.silence.ensures.zone
-      ∙ ap (λ (config : ConfigParts). config.kept) (settings_stay c.self.inside.services.zone c.args.id)),
+      ∙ ap (λ (config : ConfigParts). config.kept)
+      (settings_stay c.self.inside.services.zone c.args.id)),
   c.self.invariant.1,
 )
 
 pub returns-clause-does : goal.returns-clause-does
 returns-clause-does g c =
     let i = c.self.inside in
-    let old = running_of i.services i.kept.kept i.clock i.interrogation_number i.next_pool_turn i.steps in
+    let old =
+    running_of i.services i.kept.kept i.clock i.interrogation_number i.next_pool_turn i.steps in
     let left = c.silence.new.self in
-    let new : Running = record { state = record old.state { zone = left.zone }; lasts = left.lasts } in
+    let new : Running =
+    record { state = record old.state { zone = left.zone }; lasts = left.lasts } in
     does_item old _ c.self.view_is c.args.now (Silent c.args.id) c.requires
     None c.noted.result c.noted.ensures new
     refl (ap (λ (z : Zone). record old.state { zone = z }) (sym c.silence.ensures.zone))
-    c.silence.ensures.lasts c.silence.ensures.pools (λ before. born_same i.kept.kept i.steps before) tt
+    c.silence.ensures.lasts c.silence.ensures.pools
+    (λ before. born_same i.kept.kept i.steps before) tt

@@ -10,7 +10,8 @@ returns-clause-counts g c =
     let one_more : 2 ^ 62 + old + 1 ≡ 2 ^ 62 + (c.self.inside.steps + 1) =
     omega (arith, ap (λ (m : Running). m.state.steps) c.self.view_is) in
     subst (λ (most : ℕ). All (HasCounts most) c.self-2.inside.services.zone.pools) one_more
-    (subst (λ (m : Running). All (HasCounts (2 ^ 62 + old + 1)) m.state.zone.pools) (sym c.self-2.view_is)
+    (subst (λ (m : Running). All (HasCounts (2 ^ 62 + old + 1)) m.state.zone.pools)
+    (sym c.self-2.view_is)
     (does.counts (2 ^ 62 + old) c.requires.counts))
 
 pub returns-clause-births : goal.returns-clause-births

@@ -11,7 +11,8 @@ use Rattle.ras_core.proofs.machine.Machine.turn_pools.Goals as goal
 pub returns-clause-does : goal.returns-clause-does
 returns-clause-does g c =
     let i = c.self.inside in
-    let old = running_of i.services i.kept.kept i.clock i.interrogation_number i.next_pool_turn i.steps in
+    let old =
+    running_of i.services i.kept.kept i.clock i.interrogation_number i.next_pool_turn i.steps in
     let services = c.turn_pools.new.self in
     let same : services ≡ i.services = c.turn_pools.ensures in
     let new : Running = record {
@@ -22,7 +23,8 @@ returns-clause-does g c =
       lasts = services.lasts;
     } in
     let now_is = sym c.milliseconds.ensures.same in
-    let turn_is = sym (c.pool_turn.ensures.same ∙ ap (λ (z : RunningZone). z.zone.config.pool_turn) same) in
+    let turn_is =
+    sym (c.pool_turn.ensures.same ∙ ap (λ (z : RunningZone). z.zone.config.pool_turn) same) in
     does_item old _ c.self.view_is c.args.now PoolTurn c.requires
     None c.noted.result c.noted.ensures new
     refl (λ j. record old.state { zone = (sym same j).zone; next_pool_turn = now_is j + turn_is j })

@@ -15,7 +15,8 @@ use Rattle.ras_core.proofs.machine.Machine.waiting.Goals as goal
 pub returns : goal.returns
 returns g c =
     let i = c.self.inside in
-    let s = (running_of i.services i.kept.kept i.clock i.interrogation_number i.next_pool_turn i.steps).state in
+    let s = (running_of i.services i.kept.kept i.clock i.interrogation_number i.next_pool_turn
+    i.steps).state in
     let key = c.in-Some.key.now in
     let entry = c.in-Some.entry.now in
     let found : fin.get (births i.kept.kept) c.args.born ≡ Some (key, entry) =
@@ -28,4 +29,5 @@ returns g c =
     c.in-Pending.request c.in-Pending.reply c.in-Pending.retry c.in-Pending.left c.in-Pending.is
     c.in_ok-copy.field-0 c.in_ok-copy-2.field-0 c.in_ok-copy.ensures c.in_ok-copy-2.ensures
     (is_served c.in-Pending.request c.in_default-request.not-Irr)
-    (subst (λ (m : Running). IsDueIn m.state c.args.now (Retry c.args.born)) (sym c.self.view_is) c.requires))
+    (subst (λ (m : Running). IsDueIn m.state c.args.now (Retry c.args.born))
+    (sym c.self.view_is) c.requires))

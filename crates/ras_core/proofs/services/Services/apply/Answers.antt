@@ -13,14 +13,16 @@ invariant_of-self g c =
     let u = i.bandwidth.usage in
     let change = c.in-Endpoint.change in
     let possible = subst (λ x. IsPossible c.args.self.now.zone x) c.in-Endpoint.is c.requires in
-    let here = subst (λ (m : RunningZone). IsPossible m.zone (Endpoint change)) (sym c.self.view_is) possible in
+    let here = subst (λ (m : RunningZone). IsPossible m.zone (Endpoint change))
+    (sym c.self.view_is) possible in
     record {
       endpoints = c.apply.ensures.most ∙ parts.endpoints;
       calls = parts.calls;
       limit = parts.limit;
       call_limit = parts.call_limit;
       pools = parts.pools;
-      legs = legs-endpoint_result c.apply.result i.endpoints c.apply.new.self u.calls c.args.now change
+      legs =
+          legs-endpoint_result c.apply.result i.endpoints c.apply.new.self u.calls c.args.now change
           parts.legs here.1 c.apply.ensures.live c.apply.ensures.err;
     }
 
@@ -31,7 +33,10 @@ invariant_of-self-in-Calls g c =
     let u = i.bandwidth.usage in
     let change = c.in-Calls.change in
     let possible = subst (λ x. IsPossible c.args.self.now.zone x) c.in-Calls.is c.requires in
-    let here = subst (λ (m : RunningZone). IsPossible m.zone (Calls change)) (sym c.self.view_is) possible in
-    let can = subst (λ (u : Usage). IsCallChange u change) (sym (usage_is i.config i.endpoints u parts)) here.0 in
-    AreParts-change i.config i.endpoints u parts c.apply-in-Calls.result c.apply-in-Calls.new.self.usage change
+    let here = subst (λ (m : RunningZone). IsPossible m.zone (Calls change))
+    (sym c.self.view_is) possible in
+    let can = subst (λ (u : Usage). IsCallChange u change)
+    (sym (usage_is i.config i.endpoints u parts)) here.0 in
+    AreParts-change i.config i.endpoints u parts c.apply-in-Calls.result
+    c.apply-in-Calls.new.self.usage change
     can here.1 c.apply-in-Calls.ensures.ok c.apply-in-Calls.ensures.err

@@ -17,12 +17,14 @@ invariant_of-self-2 g c =
     let parts = c.self.invariant in
     let old = i.bandwidth.usage in
     let answer = c.ask.result in
-    let leg = subst (λ (m : RunningZone). IfSome (leg_of_purpose q.purpose) (IsRegistered m.zone.live))
+    let leg =
+    subst (λ (m : RunningZone). IfSome (leg_of_purpose q.purpose) (IsRegistered m.zone.live))
     (sym c.self.view_is) c.requires.leg in
     let pools = pools_after_answer old.pools q.pool answer in
     subst (λ (u : Usage). AreParts i.config i.endpoints u)
     (sym (c.ask.ensures.usage
-    ∙ ap (λ (u : Usage). with_usage u (calls_after_answer q answer u.calls) (pools_after_answer u.pools q.pool answer))
+    ∙ ap (λ (u : Usage). with_usage u (calls_after_answer q answer u.calls)
+    (pools_after_answer u.pools q.pool answer))
     c.reserve.ensures.usage))
     (AreParts-calls i.config i.endpoints old parts (calls_after_answer q answer old.calls) pools
     (length-set old.pools q.pool (figures_after_answer (figures_at old.pools q.pool) answer))

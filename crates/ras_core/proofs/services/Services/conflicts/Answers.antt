@@ -8,4 +8,10 @@ unwrap-requires g c =
     let aliases = c.as_slice.result.now in
     let elsewhere = is_registered_elsewhere c.self.inside.endpoints.live c.args.address in
     fits c.new.result c.in_ok-held.held c.new.ensures
-    (omega (arith, ap length c.in_ok-held.ensures, length-filter elsewhere aliases, ap length c.as_slice.ensures.items, c.as_slice.ensures.few))
+    (omega (
+      arith,
+      ap length c.in_ok-held.ensures,
+      length-filter elsewhere aliases,
+      ap length c.as_slice.ensures.items,
+      c.as_slice.ensures.few,
+    ))

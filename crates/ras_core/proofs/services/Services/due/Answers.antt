@@ -13,14 +13,19 @@ returns g c =
     let i = c.self.inside in
     let next = c.args.next_pool_turn in
     let kept = c.args.kept.now.kept in
-    let found = λ (now : ℕ) (times : Times) (live : Live) (calls : OpenCalls). MatchOption c.due.result
+    let found =
+    λ (now : ℕ) (times : Times) (live : Live) (calls : OpenCalls). MatchOption c.due.result
     (IsNothingDue now next times live calls kept) (IsDue now next times live calls kept) in
-    let at_now = subst (λ now. found now c.times-times.result c.table-endpoints.result.now.live c.table-calls.result.now.calls)
+    let at_now = subst (λ now. found now c.times-times.result c.table-endpoints.result.now.live
+    c.table-calls.result.now.calls)
     c.milliseconds.ensures.same c.due.ensures in
-    let by_times = subst (λ times. found c.args.now times c.table-endpoints.result.now.live c.table-calls.result.now.calls)
+    let by_times = subst (λ times. found c.args.now times c.table-endpoints.result.now.live
+    c.table-calls.result.now.calls)
     c.times-times.ensures.same at_now in
-    let by_live = subst (λ live. found c.args.now (times_of i.config) live c.table-calls.result.now.calls)
+    let by_live =
+    subst (λ live. found c.args.now (times_of i.config) live c.table-calls.result.now.calls)
     c.table-endpoints.ensures by_times in
     let by_calls = subst (λ calls. found c.args.now (times_of i.config) i.endpoints.live calls)
     c.table-calls.ensures by_live in
-    subst (λ (m : RunningZone). found c.args.now (times_of m.zone.config) m.zone.live m.zone.calls) c.self.view_is by_calls
+    subst (λ (m : RunningZone). found c.args.now
+    (times_of m.zone.config) m.zone.live m.zone.calls) c.self.view_is by_calls

@@ -14,7 +14,9 @@ returns-clause-decides g c =
     Decides-renewal z c.args.now q c.in-Some.id r c.confirmation.result c.deadline.result
     (subst (λ (m : RunningZone). IsConsistent m.zone.live) c.self.view_is c.get.ensures.sound)
     c.in-Some.is
-    (sym (c.in-Some-get.ensures.found ∙ ap (λ (m : RunningZone). fin.get m.zone.live c.in-Some.id) c.self.view_is))
+    (sym (c.in-Some-get.ensures.found
+    ∙ ap (λ (m : RunningZone). fin.get m.zone.live c.in-Some.id) c.self.view_is))
     (sym c.if-has_moved.ensures)
-    (c.confirmation.ensures ∙ ap (λ xs. confirmation z q r.call_signal xs r.identifier) c.in_ok-copy.ensures)
+    (c.confirmation.ensures
+    ∙ ap (λ xs. confirmation z q r.call_signal xs r.identifier) c.in_ok-copy.ensures)
     c.deadline.ensures

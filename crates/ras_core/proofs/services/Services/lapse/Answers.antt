@@ -23,7 +23,8 @@ invariant_of-self g c =
       pools = parts.pools;
       legs = subst (λ live. HaveEndpoints live u.calls) (sym c.remove.ensures.live)
           (legs-remove i.endpoints.live u.calls c.args.id.now parts.legs
-          (subst (λ (m : RunningZone). EachLeg (IsOther c.args.id.now) m.zone.calls) (sym c.self.view_is) c.leave_all.ensures.gone));
+          (subst (λ (m : RunningZone). EachLeg (IsOther c.args.id.now) m.zone.calls)
+          (sym c.self.view_is) c.leave_all.ensures.gone));
     }
 
 pub returns-clause-zone : goal.returns-clause-zone
@@ -37,6 +38,8 @@ returns-clause-zone g c =
       calls = i.bandwidth.usage.calls;
       pools = i.bandwidth.usage.pools;
     })
-    ∙ (ap (λ (m : RunningZone). with_live m.zone (fin.remove m.zone.live c.args.id.now)) c.self.view_is
+    ∙ (ap (λ (m : RunningZone). with_live m.zone
+    (fin.remove m.zone.live c.args.id.now)) c.self.view_is
     ∙ (ap (λ (z : Zone). with_live z (fin.remove z.live c.args.id.now)) c.leave_all.ensures.zone
-    ∙ ap (λ live. with_live (without_legs_of z id) (fin.remove live c.args.id.now)) (endpoints_stay z id)))
+    ∙ ap (λ live. with_live (without_legs_of z id) (fin.remove live c.args.id.now))
+    (endpoints_stay z id)))

@@ -15,11 +15,13 @@ returns-clause-sound g c =
       settings = c.parts-settings.ensures.ranges;
       endpoints = c.len.ensures.endpoints;
       aliases = c.len.ensures.aliases;
-      few_endpoints = subst (λ (most : ℕ). map.len i.endpoints.live ≤ most) parts.endpoints c.len.ensures.few;
+      few_endpoints =
+          subst (λ (most : ℕ). map.len i.endpoints.live ≤ most) parts.endpoints c.len.ensures.few;
       calls = c.len-calls.ensures.calls;
       few_calls = subst (λ (most : ℕ). map.len u.calls ≤ most) parts.calls c.len-calls.ensures.few;
       legs = parts.legs;
-      call_limit = subst (λ (most : ℕ). EachCall (λ call. call.units ≤ most) u.calls) parts.call_limit backed.call_limit;
+      call_limit = subst (λ (most : ℕ). EachCall (λ call. call.units ≤ most) u.calls)
+          parts.call_limit backed.call_limit;
       call_pools = backed.pools;
       lent = backed.lent;
       pool_limits = c.len-calls.ensures.pools;

@@ -18,7 +18,8 @@ invariant_of-result g c =
     } in
     let as_many : length u.pools ≡ length c.args.config.networks =
     omega (arith, length-map c.args.pools (λ a. a.figures), c.requires.each) in
-    subst (λ (u : Usage). AreParts c.args.config c.new-endpoints.result u) (sym c.new-bandwidth.ensures.usage)
+    subst (λ (u : Usage). AreParts c.args.config c.new-endpoints.result u)
+    (sym c.new-bandwidth.ensures.usage)
     (subst (λ (roll : Roll). AreParts c.args.config roll u) (sym c.new-endpoints.ensures) (record {
       endpoints = c.endpoints.ensures.same;
       calls = refl;

@@ -35,6 +35,9 @@ returns-clause-zone g c =
       calls = i.bandwidth.usage.calls;
       pools = i.bandwidth.usage.pools;
     })
-    ∙ (ap (λ (m : RunningZone). with_live m.zone (update m.zone.live c.args.id.now after_calm)) c.self.view_is
-    ∙ (ap (λ (z : Zone). with_live z (update z.live c.args.id.now after_calm)) c.leave_all.ensures.zone
-    ∙ ap (λ live. with_live (without_legs_of z id) (update live c.args.id.now after_calm)) (endpoints_stay z id)))
+    ∙ (ap (λ (m : RunningZone). with_live m.zone
+    (update m.zone.live c.args.id.now after_calm)) c.self.view_is
+    ∙ (ap (λ (z : Zone). with_live z (update z.live c.args.id.now after_calm))
+    c.leave_all.ensures.zone
+    ∙ ap (λ live. with_live (without_legs_of z id) (update live c.args.id.now after_calm))
+    (endpoints_stay z id)))
