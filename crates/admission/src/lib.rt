@@ -16,6 +16,3 @@ pub use fault::CallFault;
 pub use leg::Leg;
 pub use legs::Legs;
 pub use table::{Calls, Left};
-
-#[cfg(test)]
-mod tests;

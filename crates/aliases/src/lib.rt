@@ -6,6 +6,3 @@ mod table;
 
 pub use fault::SetFault;
 pub use table::AliasTable;
-
-#[cfg(test)]
-mod tests;

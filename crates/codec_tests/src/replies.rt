@@ -171,7 +171,7 @@ fn replies_about_a_registration(rt: HostRuntime) -> Result<(), Fail> {
 }
 
 #[test]
-fn replies_about_a_call(rt: HostRuntime) -> Result<(), Fail> {
+fn replies_about_an_admission(rt: HostRuntime) -> Result<(), Fail> {
     let alloc = rt.alloc();
     let dest = endpoint_address(6);
     let confirm = Reply::Acf {
@@ -197,6 +197,12 @@ fn replies_about_a_call(rt: HostRuntime) -> Result<(), Fail> {
         reason: AdmissionRejectReason::RequestDenied,
     };
     assert!(rt; is_written(alloc, reject, &ARJ)?);
+    Ok(())
+}
+
+#[test]
+fn replies_about_the_bandwidth_and_the_end_of_a_call(rt: HostRuntime) -> Result<(), Fail> {
+    let alloc = rt.alloc();
     let more = Reply::Bcf {
         seq: seq(7),
         units: 2000,

@@ -9,6 +9,3 @@ mod times;
 pub use due_item::DueItem;
 pub use due_search::due;
 pub use times::Times;
-
-#[cfg(test)]
-mod tests;

@@ -14,6 +14,3 @@ pub use fault::ReserveFault;
 pub use key::KeptKey;
 pub use list::KeptList;
 pub use table::Kept;
-
-#[cfg(test)]
-mod tests;

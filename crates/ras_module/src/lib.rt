@@ -30,6 +30,3 @@ pub use reason::{
 };
 pub use reply::Reply;
 pub use request::Request;
-
-#[cfg(test)]
-mod tests;

@@ -12,6 +12,3 @@ pub use fault::AddFault;
 pub use list::RegistrationList;
 pub use registration::Registration;
 pub use table::Registrations;
-
-#[cfg(test)]
-mod tests;

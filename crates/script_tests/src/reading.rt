@@ -12,9 +12,19 @@ fn fault_of(alloc: Global, text: &[u8]) -> Option<ScriptFault> {
     read_script(alloc, &mut input).err()
 }
 
+/// The first of these lines that isn't refused as the first line of a script.
+fn first_taken<'a>(alloc: Global, lines: &[&'a [u8]]) -> Option<&'a [u8]> {
+    for line in lines {
+        if fault_of(alloc, line) != Some(ScriptFault::BadLine(1)) {
+            return Some(*line);
+        }
+    }
+    None
+}
+
 #[test]
-fn the_first_bad_line_is_named(rt: HostRuntime) {
-    let bad_lines: [&[u8]; 50] = [
+fn a_bad_line_of_the_zone_is_named(rt: HostRuntime) {
+    let bad_lines: [&[u8]; 14] = [
         b"zone",
         b"zone gk",
         b"zone gk 10.0.0.1:1719 x",
@@ -29,6 +39,13 @@ fn the_first_bad_line_is_named(rt: HostRuntime) {
         b"zone gk 10.0.0.1:1719\r",
         b"zone\tgk 10.0.0.1:1719",
         b"Zone gk 10.0.0.1:1719",
+    ];
+    assert_eq!(rt; first_taken(rt.alloc(), &bad_lines), None);
+}
+
+#[test]
+fn a_bad_setting_is_named(rt: HostRuntime) {
+    let bad_lines: [&[u8]; 8] = [
         b"set limit 0",
         b"set limit 1000000000001",
         b"set limit -1",
@@ -37,6 +54,13 @@ fn the_first_bad_line_is_named(rt: HostRuntime) {
         b"set pools 1",
         b"set asks",
         b"set asks 1 1",
+    ];
+    assert_eq!(rt; first_taken(rt.alloc(), &bad_lines), None);
+}
+
+#[test]
+fn a_bad_datagram_is_named(rt: HostRuntime) {
+    let bad_lines: [&[u8]; 7] = [
         b"at 9007199254740992 from 10.0.0.5:1719",
         b"at 0 to 10.0.0.5:1719",
         b"at 0 from 10.0.0.5",
@@ -44,6 +68,13 @@ fn the_first_bad_line_is_named(rt: HostRuntime) {
         b"at 0 from 10.0.0.5:1719 0g",
         b"at 0 from 10.0.0.5:1719 00 00",
         b"at 0 from",
+    ];
+    assert_eq!(rt; first_taken(rt.alloc(), &bad_lines), None);
+}
+
+#[test]
+fn a_bad_turn_is_named(rt: HostRuntime) {
+    let bad_lines: [&[u8]; 7] = [
         b"turn",
         b"turn 0 0",
         b"turn 9007199254740992",
@@ -51,6 +82,13 @@ fn the_first_bad_line_is_named(rt: HostRuntime) {
         b"turn 0x1",
         b"turn 0 from 10.0.0.5:1719",
         b"turn0",
+    ];
+    assert_eq!(rt; first_taken(rt.alloc(), &bad_lines), None);
+}
+
+#[test]
+fn a_bad_line_of_a_pool_is_named(rt: HostRuntime) {
+    let bad_lines: [&[u8]; 14] = [
         b"pool",
         b"pool fixed",
         b"pool fixed 1000000000001",
@@ -66,58 +104,65 @@ fn the_first_bad_line_is_named(rt: HostRuntime) {
         b"pool paced 2500 4294967296",
         b"pool slow 2500",
     ];
-    for line in bad_lines {
+    assert_eq!(rt; first_taken(rt.alloc(), &bad_lines), None);
+}
+
+#[test]
+fn a_script_that_is_understood_has_a_zone(rt: HostRuntime) {
+    let scripts: [&[u8]; 5] = [
+        b"",
+        b"\n  \n",
+        b"at 0 from 10.0.0.5:1719",
+        b"turn 0",
+        b"pool fixed 1 for 10.1.0.0/16\n",
+    ];
+    for script in scripts {
         assert_eq!(rt;
-            fault_of(rt.alloc(), line),
-            Some(ScriptFault::BadLine(1)),
-            "{line:?}"
+            fault_of(rt.alloc(), script),
+            Some(ScriptFault::NoZone),
+            "{script:?}"
         );
     }
 }
 
 #[test]
-fn faults_come_in_their_order(rt: HostRuntime) {
-    let scripts: [(&[u8], ScriptFault); 15] = [
-        (b"", ScriptFault::NoZone),
-        (b"\n  \n", ScriptFault::NoZone),
-        (b"at 0 from 10.0.0.5:1719", ScriptFault::NoZone),
-        (b"turn 0", ScriptFault::NoZone),
-        (
-            b"at 0 from 10.0.0.5:1719\n\nx\ny\n",
-            ScriptFault::BadLine(3),
-        ),
-        (b"zone gk 10.0.0.1:1719\nx", ScriptFault::BadLine(2)),
-        (b"\n \nzone gk\n", ScriptFault::BadLine(3)),
+fn a_line_that_is_not_understood_comes_before_other_faults(rt: HostRuntime) {
+    let scripts: [(&[u8], usize); 9] = [
+        (b"at 0 from 10.0.0.5:1719\n\nx\ny\n", 3),
+        (b"zone gk 10.0.0.1:1719\nx", 2),
+        (b"\n \nzone gk\n", 3),
         (
             b"zone gk 10.0.0.1:1719\nat 0 from 10.0.0.5:1719\nset asks 1\n",
-            ScriptFault::BadLine(3),
+            3,
         ),
-        (
-            b"zone gk 10.0.0.1:1719\nturn 0\nset asks 1\n",
-            ScriptFault::BadLine(3),
-        ),
-        (b"turn 0\nzone gk 10.0.0.1:1719\n", ScriptFault::BadLine(2)),
-        (
-            b"at 0 from 10.0.0.5:1719\n\nzone gk 10.0.0.1:1719\n",
-            ScriptFault::BadLine(3),
-        ),
+        (b"zone gk 10.0.0.1:1719\nturn 0\nset asks 1\n", 3),
+        (b"turn 0\nzone gk 10.0.0.1:1719\n", 2),
+        (b"at 0 from 10.0.0.5:1719\n\nzone gk 10.0.0.1:1719\n", 3),
         (
             b"zone gk 10.0.0.1:1719\nat 0 from 10.0.0.5:1719\npool fixed 1\n",
-            ScriptFault::BadLine(3),
+            3,
         ),
-        (b"pool fixed 1 for 10.1.0.0/16\n", ScriptFault::NoZone),
         (
             b"pool fixed 1 for 10.1.0.0/16\nzone gk 10.0.0.1:1719\nx\n",
-            ScriptFault::BadLine(3),
-        ),
-        (
-            b"zone gk 10.0.0.1:1719\npool fixed 1\npool fixed 1 for 10.1.0.0/16\n",
-            ScriptFault::NoDefaultPool,
+            3,
         ),
     ];
-    for (script, fault) in scripts {
-        assert_eq!(rt; fault_of(rt.alloc(), script), Some(fault), "{script:?}");
+    for (script, line) in scripts {
+        assert_eq!(rt;
+            fault_of(rt.alloc(), script),
+            Some(ScriptFault::BadLine(line)),
+            "{script:?}"
+        );
     }
+}
+
+#[test]
+fn the_last_pool_has_no_network(rt: HostRuntime) {
+    let script: &[u8] = b"zone gk 10.0.0.1:1719\npool fixed 1\npool fixed 1 for 10.1.0.0/16\n";
+    assert_eq!(rt;
+        fault_of(rt.alloc(), script),
+        Some(ScriptFault::NoDefaultPool)
+    );
 }
 
 #[test]

@@ -5,6 +5,8 @@
 #[cfg(test)]
 mod calls;
 #[cfg(test)]
+mod counting;
+#[cfg(test)]
 mod endpoints;
 #[cfg(test)]
 mod making;

@@ -1,6 +1,6 @@
 //! The zone of the worked examples, and what comes to it.
 
-use pools::{FixedPool, PoolSet};
+use pools::{FixedPool, Pool, PoolSet};
 use ras_core::{Config, ConfigParts, Datagram, Event, Moment, Networks, Note, Outcome, Zone};
 use ras_module::{Address, Name, Octets, Source};
 use std::alloc::Global;
@@ -33,13 +33,21 @@ pub fn config(parts: ConfigParts) -> Result<Config, Fail> {
 
 /// A zone of 3,000 units, of which a call may have 2,000, over a pool of 2,500.
 pub fn zone(alloc: Global) -> Result<Zone<FixedPool>, Fail> {
-    let mut parts = parts(alloc)?;
-    parts.limit = 3_000;
-    parts.call_limit = 2_000;
     let mut pools = Vec::new(alloc);
     pools.push(FixedPool::new(2_500))?;
+    zone_over(alloc, parts(alloc)?, pools)
+}
+
+/// A zone of 3,000 units, of which a call may have 2,000, over these pools.
+pub fn zone_over<P: Pool>(
+    alloc: Global,
+    mut parts: ConfigParts,
+    pools: Vec<P>,
+) -> Result<Zone<P>, Fail> {
+    parts.limit = 3_000;
+    parts.call_limit = 2_000;
     let Ok(set) = PoolSet::new(pools) else {
-        return Err(Fail::from("one idle pool"));
+        return Err(Fail::from("1 to 16 idle pools"));
     };
     match Zone::new(alloc, config(parts)?, set) {
         Ok(zone) => Ok(zone),

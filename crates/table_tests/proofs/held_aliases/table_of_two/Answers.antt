@@ -2,7 +2,7 @@ use Rattle.std.proofs.Common.{◌∙◌, ap}
 use Rattle.std.specs.FinMap as map
 use Rattle.ras_module.specs.Aliases.{alias_cmp}
 use Rattle.aliases.proofs.Entering.{not_held}
-use Rattle.aliases.proofs.tests.table_of_two.Goals as goal
+use Rattle.table_tests.proofs.held_aliases.table_of_two.Goals as goal
 
 pub set_all-requires-clause-free : goal.set_all-requires-clause-free
 set_all-requires-clause-free c alias has other =

@@ -1,8 +1,8 @@
-use crate::*;
-use ras_module::{
-    Address, AliasList, BmpString, CallKey, Delay, EndpointId, Name, Octets, Reply, ReplyAliases,
-    Request, RequestSeqNum, TimeToLive,
-};
+//! Replies that are kept, and requests that wait.
+
+use crate::making::{endpoint, no_alias, seq};
+use kept_replies::{Kept, KeptEntry, KeptKey, KeptList, KeptState, ReserveFault};
+use ras_module::{Address, CallKey, Delay, Name, Octets, Reply, Request, TimeToLive};
 use std::alloc::{AllocError, Global};
 use std::test::Fail;
 
@@ -20,10 +20,6 @@ fn key(alloc: Global, octet: u8) -> Result<KeptKey, AllocError> {
     })
 }
 
-fn seq(number: u16) -> RequestSeqNum {
-    RequestSeqNum::new(number).unwrap_or(RequestSeqNum::new(1).unwrap())
-}
-
 fn confirm(number: u16) -> Reply {
     Reply::Dcf { seq: seq(number) }
 }
@@ -35,18 +31,11 @@ fn progress(number: u16) -> Reply {
     }
 }
 
-fn endpoint(last: u8) -> EndpointId {
-    EndpointId::new(BmpString::new(&[48, 48, 48, u16::from(last)]).unwrap())
-}
-
 fn registered(alloc: Global, last: u8) -> Result<Reply, Fail> {
-    let aliases = ReplyAliases::new(AliasList::new(alloc))
-        .ok()
-        .ok_or("no alias is few")?;
     Ok(Reply::Rcf {
         seq: seq(1),
         call_signal: SOURCE,
-        aliases,
+        aliases: no_alias(alloc).ok_or("no alias is few")?,
         gatekeeper: Name::new(&[103, 107]).unwrap(),
         endpoint: endpoint(last),
         granted: TimeToLive::new(60).unwrap(),

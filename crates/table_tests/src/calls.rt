@@ -1,5 +1,8 @@
-use crate::*;
-use ras_module::{Address, BmpString, CallKey, EndpointId};
+//! Calls, their legs, and the bandwidth that they use.
+
+use crate::making::{address, endpoint};
+use admission::{Call, CallFault, CallList, Calls, Left, Leg, Legs};
+use ras_module::CallKey;
 use std::alloc::AllocError;
 use std::test::Fail;
 
@@ -10,17 +13,10 @@ const SECOND: u8 = b'2';
 
 const THIRD: u8 = b'3';
 
-fn endpoint(last: u8) -> EndpointId {
-    EndpointId::new(BmpString::new(&[48, 48, 48, u16::from(last)]).unwrap())
-}
-
 fn leg(last: u8) -> Leg {
     Leg {
         endpoint: endpoint(last),
-        told: Address {
-            ip: [10, 0, 0, last],
-            port: 1720,
-        },
+        told: address(last),
     }
 }
 

@@ -1,6 +1,6 @@
 //! The numbers and the list of pools to be made.
 
-use crate::{FixedPool, Lend, NonZeroUnits, PacedPool, Pool, PoolSpec, PoolSpecs, StepPool};
+use pools::{FixedPool, Lend, NonZeroUnits, PacedPool, Pool, PoolSpec, PoolSpecs, StepPool};
 use std::alloc::Global;
 use std::test::Fail;
 

@@ -1,35 +1,22 @@
-use crate::*;
-use ras_module::{Address, Alias, BmpString, DialledDigits, EndpointId};
+//! The aliases that endpoints hold.
+
+use crate::making::{address, digits, endpoint};
+use aliases::{AliasTable, SetFault};
+use ras_module::{Alias, BmpString};
 use std::alloc::{AllocError, Global};
 use std::test::Fail;
-
-fn digits(text: &[u16]) -> Option<Alias> {
-    Some(Alias::Digits(DialledDigits::new(BmpString::new(text)?)?))
-}
 
 fn named(text: &[u16]) -> Option<Alias> {
     Some(Alias::H323Id(BmpString::new(text)?))
 }
 
-/// An identifier of four digits, of which the last is given.
-fn id(last: u8) -> EndpointId {
-    EndpointId::new(BmpString::new(&[48, 48, 48, u16::from(last)]).unwrap())
-}
-
-fn address(last: u8) -> Address {
-    Address {
-        ip: [10, 0, 0, last],
-        port: 1720,
-    }
-}
-
 fn is_set(table: &mut AliasTable, alias: &Alias, holder: u8, last: u8) -> bool {
-    table.set(*alias, id(holder), address(last)).is_ok()
+    table.set(*alias, endpoint(holder), address(last)).is_ok()
 }
 
 /// Whether an alias comes back, since another endpoint holds it.
 fn is_duplicate(table: &mut AliasTable, alias: &Alias, holder: u8, last: u8) -> bool {
-    match table.set(*alias, id(holder), address(last)) {
+    match table.set(*alias, endpoint(holder), address(last)) {
         Ok(()) => false,
         Err((back, fault)) => back == *alias && fault == SetFault::Duplicate,
     }
@@ -37,7 +24,7 @@ fn is_duplicate(table: &mut AliasTable, alias: &Alias, holder: u8, last: u8) -> 
 
 fn is_held(table: &AliasTable, alias: &Alias, holder: u8) -> bool {
     match table.holder(alias) {
-        Some(found) => *found == id(holder),
+        Some(found) => *found == endpoint(holder),
         None => false,
     }
 }
@@ -125,7 +112,7 @@ fn conflicts_stand_as_in_the_list(rt: HostRuntime) -> Result<(), Fail> {
 fn table_of_two(alloc: Global, one: &Alias, two: &Alias) -> Result<AliasTable, AllocError> {
     let mut table = AliasTable::new(alloc);
     table.reserve(2)?;
-    table.set_all(&[*one, *two], id(b'1'), address(1));
+    table.set_all(&[*one, *two], endpoint(b'1'), address(1));
     Ok(table)
 }
 
@@ -134,7 +121,7 @@ fn goes_with_its_aliases(table: &mut AliasTable, others: &[Alias; 2]) -> bool {
     if !is_set(table, &others[0], b'2', 2) || !is_set(table, &others[1], b'1', 1) {
         return false;
     }
-    table.drop_holder(&id(b'1'));
+    table.drop_holder(&endpoint(b'1'));
     is_held(table, &others[0], b'2') && table.holder(&others[1]).is_none()
 }
 

@@ -1,19 +1,10 @@
-use crate::*;
-use ras_module::{Address, Alias, AliasList, BmpString, DialledDigits, EndpointId, ReplyAliases};
+//! The registrations of endpoints.
+
+use crate::making::{address, digits, endpoint, no_alias};
+use ras_module::{AliasList, BmpString, EndpointId, ReplyAliases};
+use registrations::{AddFault, Registration, RegistrationList, Registrations};
 use std::alloc::{AllocError, Global};
 use std::test::Fail;
-
-/// An identifier of four digits, of which the last is given.
-fn id(last: u8) -> EndpointId {
-    EndpointId::new(BmpString::new(&[48, 48, 48, u16::from(last)]).unwrap())
-}
-
-fn address(last: u8) -> Address {
-    Address {
-        ip: [10, 0, 0, last],
-        port: 1720,
-    }
-}
 
 /// A registration at an address that ends so, with no alias.
 fn registration(
@@ -22,12 +13,11 @@ fn registration(
     last: u8,
     deadline: u64,
 ) -> Option<Registration> {
-    let aliases = ReplyAliases::new(AliasList::new(alloc)).ok()?;
     Some(Registration {
         identifier,
         call_signal: address(last),
         ras: address(last),
-        aliases,
+        aliases: no_alias(alloc)?,
         deadline,
         heard: 0,
         tries: 0,
@@ -55,14 +45,14 @@ fn gets(
     taken: &[EndpointId],
     identifier: EndpointId,
 ) -> bool {
-    match registration(alloc, id(b'9'), last, 10) {
+    match registration(alloc, endpoint(b'9'), last, 10) {
         Some(new) => matches!(added(table, new, taken), Some(Ok(given)) if given == identifier),
         None => false,
     }
 }
 
 fn is_refused_as_full(table: &mut Registrations, alloc: Global, last: u8) -> bool {
-    match registration(alloc, id(b'9'), last, 10) {
+    match registration(alloc, endpoint(b'9'), last, 10) {
         Some(new) => matches!(added(table, new, &[]), Some(Err(AddFault::Full))),
         None => false,
     }
@@ -71,16 +61,16 @@ fn is_refused_as_full(table: &mut Registrations, alloc: Global, last: u8) -> boo
 /// Whether three endpoints get the identifiers 1 to 3.
 fn counts_from_one(table: &mut Registrations, alloc: Global) -> bool {
     table.reserve(4).is_ok()
-        && gets(table, alloc, 1, &[], id(b'1'))
-        && gets(table, alloc, 2, &[], id(b'2'))
-        && gets(table, alloc, 3, &[], id(b'3'))
+        && gets(table, alloc, 1, &[], endpoint(b'1'))
+        && gets(table, alloc, 2, &[], endpoint(b'2'))
+        && gets(table, alloc, 3, &[], endpoint(b'3'))
         && table.len() == 3
-        && matches!(table.by_address(address(2)), Some(r) if r.identifier == id(b'2'))
+        && matches!(table.by_address(address(2)), Some(r) if r.identifier == endpoint(b'2'))
 }
 
 /// Whether the second endpoint goes, once.
 fn is_removed(table: &mut Registrations) -> bool {
-    let second = id(b'2');
+    let second = endpoint(b'2');
     let is_gone = match table.remove(&second) {
         Some(gone) => gone.call_signal == address(2),
         None => false,
@@ -90,17 +80,17 @@ fn is_removed(table: &mut Registrations) -> bool {
 
 /// Whether the second identifier is unused, unless it is taken.
 fn is_unused_again(table: &Registrations) -> bool {
-    table.unused(&[]) == id(b'2')
-        && table.unused(&[id(b'4'), id(b'2')]) == id(b'5')
-        && !table.is_unused(&id(b'1'), &[])
-        && table.is_unused(&id(b'2'), &[])
-        && !table.is_unused(&id(b'2'), &[id(b'2')])
+    table.unused(&[]) == endpoint(b'2')
+        && table.unused(&[endpoint(b'4'), endpoint(b'2')]) == endpoint(b'5')
+        && !table.is_unused(&endpoint(b'1'), &[])
+        && table.is_unused(&endpoint(b'2'), &[])
+        && !table.is_unused(&endpoint(b'2'), &[endpoint(b'2')])
 }
 
 /// Whether the table of four is filled, the second identifier last, since it is taken before.
 fn is_filled(table: &mut Registrations, alloc: Global) -> bool {
-    gets(table, alloc, 4, &[id(b'2')], id(b'4'))
-        && gets(table, alloc, 5, &[], id(b'2'))
+    gets(table, alloc, 4, &[endpoint(b'2')], endpoint(b'4'))
+        && gets(table, alloc, 5, &[], endpoint(b'2'))
         && is_refused_as_full(table, alloc, 6)
 }
 
@@ -182,7 +172,7 @@ fn listed_by_rising_identifier(rt: HostRuntime) -> Result<(), Fail> {
 /// Whether two endpoints are registered, with deadlines 100 and 200.
 fn are_registered(table: &mut Registrations, alloc: Global) -> bool {
     for (last, deadline) in [(1u8, 100), (2, 200)] {
-        let Some(row) = registration(alloc, id(b'9'), last, deadline) else {
+        let Some(row) = registration(alloc, endpoint(b'9'), last, deadline) else {
             return false;
         };
         if !matches!(added(table, row, &[]), Some(Ok(_))) {
@@ -232,8 +222,7 @@ fn is_copied(table: &Registrations, one: &EndpointId) -> Result<bool, AllocError
 }
 
 fn one_alias(alloc: Global) -> Option<ReplyAliases> {
-    let text = BmpString::new(&[49, 50]).unwrap();
-    let alias = Alias::Digits(DialledDigits::new(text)?);
+    let alias = digits(&[49, 50])?;
     let mut list = AliasList::new(alloc);
     list.push(alias).ok()?;
     ReplyAliases::new(list).ok()
@@ -262,7 +251,7 @@ fn is_rewritten(table: &mut Registrations, alloc: Global, one: &EndpointId) -> b
 #[test]
 fn one_registration_changes(rt: HostRuntime) -> Result<(), Fail> {
     let alloc = rt.alloc();
-    let (one, other) = (id(b'1'), id(b'2'));
+    let (one, other) = (endpoint(b'1'), endpoint(b'2'));
     let mut table = Registrations::new(alloc, 2);
     let are_registered = are_registered(&mut table, alloc);
     let is_renewed = is_renewed(&mut table, &one, &other);
@@ -271,7 +260,7 @@ fn one_registration_changes(rt: HostRuntime) -> Result<(), Fail> {
     let is_copied = is_copied(&table, &one);
     let is_same = matches!(table.get(&other), Some(r) if r.ras == address(2) && r.deadline == 200);
     // the numbers go on as they would have without these changes
-    let goes_on = table.unused(&[]) == id(b'3');
+    let goes_on = table.unused(&[]) == endpoint(b'3');
     drop(table);
     assert!(rt; are_registered);
     assert!(rt; is_renewed);

@@ -1,4 +1,9 @@
-use crate::*;
+//! The values of messages: copies, orders, and what is refused.
+
+use ras_module::{
+    Address, Alias, AliasList, BandRejectReason, CallKey, Delay, DialledDigits, EndpointId, Name,
+    Octets, RegistrationRejectReason, Reply, ReplyAliases, Request, RequestSeqNum, TimeToLive,
+};
 use std::alloc::{AllocError, Global};
 use std::test::Fail;
 
@@ -46,12 +51,9 @@ fn aliases(alloc: Global, alias: &Alias, count: usize) -> Result<AliasList, Allo
     Ok(list)
 }
 
-fn requests(alloc: Global) -> Result<[Request; 7], Fail> {
-    let endpoint = endpoint();
-    let alias = digits("101")?;
-    let two = aliases(alloc, &alias, 2)?;
-    let one = aliases(alloc, &alias, 1)?;
-    Ok([
+/// Discovery, and a registration that comes and goes, with these aliases.
+fn requests_of_the_zone(aliases: AliasList) -> (Request, Request, Request) {
+    (
         Request::Grq {
             seq: seq(),
             gatekeeper: Some(gatekeeper()),
@@ -60,21 +62,28 @@ fn requests(alloc: Global) -> Result<[Request; 7], Fail> {
             seq: seq(),
             call_signal: Some(ADDRESS),
             ras: None,
-            aliases: two,
+            aliases,
             gatekeeper: None,
             time_to_live: TimeToLive::new(60),
             keep_alive: true,
-            endpoint: Some(endpoint),
+            endpoint: Some(endpoint()),
         },
         Request::Urq {
             seq: seq(),
             call_signal: None,
-            endpoint: Some(endpoint),
+            endpoint: Some(endpoint()),
         },
+    )
+}
+
+/// A call to this destination, from its admission to its end, and a sign of life.
+fn requests_of_a_call(dest: AliasList) -> (Request, Request, Request, Request) {
+    let endpoint = endpoint();
+    (
         Request::Arq {
             seq: seq(),
             endpoint,
-            dest: one,
+            dest,
             dest_address: Some(ADDRESS),
             asked: 1280,
             call: CALL,
@@ -95,7 +104,16 @@ fn requests(alloc: Global) -> Result<[Request; 7], Fail> {
             seq: seq(),
             endpoint,
         },
-    ])
+    )
+}
+
+fn requests(alloc: Global) -> Result<[Request; 7], Fail> {
+    let alias = digits("101")?;
+    let two = aliases(alloc, &alias, 2)?;
+    let one = aliases(alloc, &alias, 1)?;
+    let (grq, rrq, urq) = requests_of_the_zone(two);
+    let (arq, brq, drq, irr) = requests_of_a_call(one);
+    Ok([grq, rrq, urq, arq, brq, drq, irr])
 }
 
 /// Whether the copy of each request equals the request, and no other.

@@ -1,0 +1,16 @@
+//! Tests of the zone's tables, and of what is due by them, over their public calls. They stand above the tables, so
+//! that none of these needs to be proved once more for them.
+#![tactic(auto)]
+
+#[cfg(test)]
+mod calls;
+#[cfg(test)]
+mod due_items;
+#[cfg(test)]
+mod endpoints;
+#[cfg(test)]
+mod held_aliases;
+#[cfg(test)]
+mod kept;
+#[cfg(test)]
+mod making;
