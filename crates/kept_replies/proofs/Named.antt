@@ -1,5 +1,6 @@
 -- The identifiers that kept RegistrationConfirms tell.
-use Rattle.std.proofs.Common.{◌≡◌, ℕ, zero, suc, List, [], ◌∷◌, refl, sym, ◌∙◌, ap, subst, Some, None, Option, Bool, true, false, ◌||◌, arith}
+use Rattle.std.proofs.Common.{◌≡◌, ℕ, zero, suc, List, [], ◌∷◌, refl, sym, ◌∙◌, ap, subst, Some}
+use Rattle.std.proofs.Common.{None, Option, Bool, true, false, ◌||◌, arith}
 use Rattle.std.specs.Prelude.{slice_get, Contains, ◌↔◌, IsTrue, Result, Ok, Err, IfOk}
 use Rattle.std.specs.List.{list_any, cons_option}
 use Rattle.indexmap.specs.IndexMap.{IndexMap}

@@ -1,5 +1,6 @@
 -- Numbers in decimal digits.
-use Rattle.std.proofs.Common.{◌≡◌, ℕ, suc, ◌+◌, ◌-◌, ◌*◌, ◌^◌, ◌/◌, ◌%◌, ◌<◌, ◌≤◌, List, ◌∷◌, length, drop, get_or, refl, sym, ◌∙◌, ap, arith, add-one, zero-mul}
+use Rattle.std.proofs.Common.{◌≡◌, ℕ, suc, ◌+◌, ◌-◌, ◌*◌, ◌^◌, ◌/◌, ◌%◌, ◌<◌, ◌≤◌, List, ◌∷◌}
+use Rattle.std.proofs.Common.{length, drop, get_or, refl, sym, ◌∙◌, ap, arith, add-one, zero-mul}
 use Rattle.std.proofs.Math.ListN.{set}
 use Rattle.std.specs.Prelude.{SomeIff, Option, Some, None, IsSome}
 use Rattle.std.proofs.Math.Seq.{drop-cons}

@@ -8,5 +8,6 @@ use Rattle.aliases.proofs.table.place_of.Goals as goal
 
 pub returns : goal.returns
 returns c =
-    subst (λ (o : Option ℕ). MatchOption o (map.get (held_in c.args.rows.now) c.args.alias.now ≡ None) (IsPlaceOf alias_of c.args.alias.now c.args.rows.now))
+    subst (λ (o : Option ℕ). MatchOption o (map.get (held_in c.args.rows.now) c.args.alias.now
+    ≡ None) (IsPlaceOf alias_of c.args.alias.now c.args.rows.now))
     (sym c.index_of.ensures) (row_place c.args.rows.now c.args.alias.now)

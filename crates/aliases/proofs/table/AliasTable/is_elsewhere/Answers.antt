@@ -20,5 +20,6 @@ returns-in-Some c =
     (option_copied c.row_of.result) (ap (λ t. t.held) c.self.view_is)
     (rw c.deref.ensures.value at c.row_of.ensures) in
     c.ne.ensures
-    ∙ (ap (λ w. is_elsewhere c.args.address (option_map holding_of (option_copied w))) (sym c.in-Some.is)
+    ∙ (ap (λ w. is_elsewhere c.args.address (option_map holding_of (option_copied w)))
+    (sym c.in-Some.is)
     ∙ ap (is_elsewhere c.args.address) (sym is))
