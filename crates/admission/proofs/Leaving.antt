@@ -5,7 +5,7 @@ use Rattle.std.specs.FinMap as fin
 use Rattle.ras_module.specs.declared.call_key.CallKey.{CallKey}
 use Rattle.admission.specs.declared.call.Call.{Call}
 use Rattle.admission.specs.Legs.{has_other}
-use Rattle.admission.specs.Stored.{with_legs_but}
+use Rattle.admission.specs.inside.Stored.{with_legs_but}
 use Rattle.admission.specs.Calls.{OpenCalls, with_legs, rest_of_call, put_or_remove, after_leave}
 use Rattle.admission.specs.Calls.{freed_by, freed_by_leave}
 use Rattle.admission.proofs.LegLemmas.{other_left, none_left}

@@ -15,7 +15,7 @@ use Rattle.admission.specs.declared.call.Call.{Call}
 use Rattle.admission.specs.declared.leg.Leg.{Leg}
 use Rattle.admission.specs.Calls.{IsCall, new_call, with_leg, with_units}
 use Rattle.admission.specs.Legs.{AreLegs, endpoint_of, leg_of, without_leg, has_other}
-use Rattle.admission.specs.Stored.{with_legs_but}
+use Rattle.admission.specs.inside.Stored.{with_legs_but}
 
 pub AreLegs-one : (leg : Leg) → AreLegs (leg ∷ [])
 AreLegs-one leg = record {

@@ -20,7 +20,7 @@ use Rattle.admission.specs.Calls.{OpenCalls, EachCall, EachLeg, units_of, in_use
 use Rattle.admission.specs.Calls.{in_use_of, legs_in, has_leg, leg_count, legs_of, IsInNoCall}
 use Rattle.admission.specs.Calls.{new_call, with_leg, with_units, after_leave}
 use Rattle.admission.specs.Legs.{leg_of, without_leg, has_other}
-use Rattle.admission.specs.Stored.{with_legs_but}
+use Rattle.admission.specs.inside.Stored.{with_legs_but}
 use Rattle.admission.proofs.Leaving.{after_leave-other, after_leave-last}
 use Rattle.admission.proofs.LegLemmas.{none_left}
 use Rattle.admission.proofs.StoredCalls.{EachCall-insert, EachCall-remove, none_from}

@@ -24,7 +24,7 @@ use Rattle.admission.specs.Calls.{OpenCalls, CallTable, EachCall, units_from, ha
 use Rattle.admission.specs.Calls.{leg_at, IsInNoCall, IsCall, IsConsistent, Becomes, Adds}
 use Rattle.admission.specs.Calls.{open_calls_of}
 use Rattle.admission.specs.Legs.{leg_of}
-use Rattle.admission.specs.Stored.{AreStored, Rewrites, key_of}
+use Rattle.admission.specs.inside.Stored.{AreStored, Rewrites, key_of}
 use Rattle.keyed.proofs.Entries.{value_of, entries_again, AreApart-entries, get_entries}
 use Rattle.keyed.proofs.Entries.{len_entries, total_entries, entries_insert, entries_remove}
 

@@ -20,7 +20,7 @@ use Rattle.ras_module.specs.Same.{alias_decides, texts_decide}
 use Rattle.ras_module.proofs.AliasOrder.{alias_cmp_total, alias_cmp-IsAntisymmetric}
 use Rattle.aliases.specs.declared.table.Row.{Row}
 use Rattle.aliases.specs.Held.{Held, Holding, IsHeldByAnother, without_holder}
-use Rattle.aliases.specs.Stored.{alias_of, holding_of, held_in}
+use Rattle.aliases.specs.inside.Stored.{alias_of, holding_of, held_in}
 
 -- the first row of an alias says what the map has
 pub get_row : (rows : List Row) (alias : Alias)

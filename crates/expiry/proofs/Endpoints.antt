@@ -14,7 +14,7 @@ use Rattle.admission.specs.Calls.{OpenCalls, legs_of}
 use Rattle.registrations.specs.Registry.{Live, Registry, IsConsistent, IsNumbered, identifier_of}
 use Rattle.registrations.specs.declared.registration.Registration.{Registration}
 use Rattle.expiry.specs.Due.{IsInCall, IsLiveAnd, is_to_be_asked, is_silent}
-use Rattle.expiry.specs.Searched.{item_of, IsEndpointItem, IsNoEndpointDue}
+use Rattle.expiry.specs.inside.Searched.{item_of, IsEndpointItem, IsNoEndpointDue}
 use Rattle.expiry.specs.declared.times.Times.{Times}
 use Rattle.expiry.specs.declared.due_item.DueItem.{DueItem}
 use Rattle.expiry.specs.declared.due_item.DueItem.TheVariants.{RegistrationOver, Interrogate}

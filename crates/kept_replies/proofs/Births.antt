@@ -22,7 +22,7 @@ use Rattle.kept_replies.specs.Keys.{same_key}
 use Rattle.kept_replies.specs.Kept.{KeptReplies, KeptTable, AreBornApart, IsBusy, IsConsistent}
 use Rattle.kept_replies.specs.Kept.{IsFreeBirth, is_over, Passes, NonePasses, births, births_of}
 use Rattle.kept_replies.specs.Kept.{birth_of, itself}
-use Rattle.kept_replies.specs.Stored.{AreStored, key_of}
+use Rattle.kept_replies.specs.inside.Stored.{AreStored, key_of}
 use Rattle.kept_replies.specs.declared.entry.KeptEntry.{KeptEntry}
 use Rattle.kept_replies.specs.declared.key.KeptKey.{KeptKey}
 use Rattle.kept_replies.proofs.KeyOrder.{key_cmp_total, key_cmp-IsAntisymmetric, key_decides}

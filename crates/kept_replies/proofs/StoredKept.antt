@@ -15,7 +15,7 @@ use Rattle.kept_replies.specs.Keys.{same_key}
 use Rattle.kept_replies.specs.Kept.{KeptReplies, KeptTable, AreEntries, AreBornApart, IsEntry}
 use Rattle.kept_replies.specs.Kept.{IsFreeBirth, IsConsistent, Becomes, Adds, kept_of, without}
 use Rattle.kept_replies.specs.Kept.{left_in, postponed, postponed_in, IsState}
-use Rattle.kept_replies.specs.Stored.{AreStored, Puts, Rewrites, Removes, key_of}
+use Rattle.kept_replies.specs.inside.Stored.{AreStored, Puts, Rewrites, Removes, key_of}
 use Rattle.kept_replies.specs.declared.entry.KeptEntry.{KeptEntry}
 use Rattle.kept_replies.specs.declared.entry.KeptState.{KeptState}
 use Rattle.kept_replies.specs.declared.entry.KeptState.TheVariants.{Done, Pending}

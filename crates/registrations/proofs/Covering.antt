@@ -10,7 +10,7 @@ use Rattle.std.proofs.lemmas.List.{length-map, length-append}
 use Rattle.keyed.proofs.Decide.{any_decides}
 use Rattle.ras_module.specs.Same.{texts_decide}
 use Rattle.registrations.specs.declared.registration.Registration.{Registration}
-use Rattle.registrations.specs.Numbers.{number_of}
+use Rattle.registrations.specs.inside.Numbers.{number_of}
 use Rattle.registrations.specs.Registry.{identifier_of}
 
 abbrev pub has_number : List ℕ → ℕ → Bool

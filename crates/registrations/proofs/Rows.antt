@@ -29,7 +29,7 @@ use Rattle.ras_module.specs.Same.{texts_decide, address_decides}
 use Rattle.registrations.specs.declared.registration.Registration.{Registration}
 use Rattle.registrations.specs.Registry.{Live, live_of, at_address, identifier_of, call_signal_of}
 use Rattle.registrations.specs.Registry.{IsConsistent}
-use Rattle.registrations.specs.Stored.{IsTable}
+use Rattle.registrations.specs.inside.Stored.{IsTable}
 
 same_option : {A : Type 0} (w : Option A) → option_map (λ x. x) w ≡ w
 same_option None = refl

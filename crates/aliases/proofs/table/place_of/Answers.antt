@@ -2,7 +2,7 @@ use Rattle.std.proofs.Common.{ℕ, sym, subst, ◌≡◌}
 use Rattle.std.specs.Prelude.{Option, None, MatchOption}
 use Rattle.std.specs.FinMap as map
 use Rattle.keyed.specs.Places.{IsPlaceOf}
-use Rattle.aliases.specs.Stored.{alias_of, held_in}
+use Rattle.aliases.specs.inside.Stored.{alias_of, held_in}
 use Rattle.aliases.proofs.Rows.{row_place}
 use Rattle.aliases.proofs.table.place_of.Goals as goal
 

@@ -2,7 +2,7 @@ use Rattle.std.proofs.Common.{ap, sym, ◌∙◌, subst, length}
 use Rattle.std.specs.FinMap as map
 use Rattle.admission.specs.Calls.{Becomes, legs_in}
 use Rattle.admission.specs.Legs.{has_other}
-use Rattle.admission.specs.Stored.{with_legs_but}
+use Rattle.admission.specs.inside.Stored.{with_legs_but}
 use Rattle.admission.proofs.Leaving.{after_leave-other, after_leave-last, freed-other, freed-last}
 use Rattle.admission.proofs.LegLemmas.{IsCall-leave}
 use Rattle.admission.proofs.StoredCalls.{get_call, stored_call, shorter_by_one, AreStored-rewrite}

@@ -5,7 +5,7 @@ use Rattle.std.proofs.lemmas.Fn.{filter_same}
 use Rattle.keyed.specs.Places.{AreApart, row_in}
 use Rattle.aliases.specs.declared.table.Row.{Row}
 use Rattle.aliases.specs.Held.{without_holder}
-use Rattle.aliases.specs.Stored.{alias_of, held_in}
+use Rattle.aliases.specs.inside.Stored.{alias_of, held_in}
 use Rattle.aliases.proofs.Rows.{AreApart-filter, held_retained}
 use Rattle.aliases.proofs.table.AliasTable.drop_holder.Goals as goal
 

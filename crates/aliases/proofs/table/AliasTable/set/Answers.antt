@@ -3,7 +3,7 @@ use Rattle.std.specs.Prelude.{is_ok}
 use Rattle.std.specs.Option.{option_map}
 use Rattle.aliases.specs.declared.table.Row.{Row}
 use Rattle.aliases.specs.Held.{Holding, with_alias}
-use Rattle.aliases.specs.Stored.{holding_of, held_in}
+use Rattle.aliases.specs.inside.Stored.{holding_of, held_in}
 use Rattle.aliases.proofs.Rows.{IsRowOf-place, IsHeldByAnother-found, not_by_another, other_holder}
 use Rattle.aliases.proofs.Rows.{same_holder, AreApart-write, held_write, AreApart-pushed, held_push}
 use Rattle.aliases.proofs.Rows.{place_below}
