@@ -1,3 +1,3 @@
 pub mod Legs
 pub mod Calls
-pub mod Stored
+pub mod inside

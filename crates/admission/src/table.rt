@@ -8,7 +8,7 @@ ghost use Rattle.ras_module.specs.CallKeys.{same_call_key};
 ghost use Rattle.indexmap.specs.IndexMap.{get};
 ghost use Rattle.admission.specs.Calls.{in_use, in_use_of, legs_in, leg_at, legs_of, new_call, with_leg, with_units, after_leave, freed_by_leave, IsInNoCall, IsConsistent, Becomes, Adds};
 ghost use Rattle.admission.specs.Legs.{leg_of, without_leg, has_other};
-ghost use Rattle.admission.specs.Stored.{Rewrites, with_legs_but};
+ghost use Rattle.admission.specs.inside.Stored.{Rewrites, with_legs_but};
 
 use crate::call::Call;
 use crate::call_list::{CallList, rising};
@@ -40,7 +40,7 @@ impl Model for Calls {
     ghost use Rattle.std.specs.FinMap as map;
     ghost use Rattle.indexmap.specs.IndexMap.{spare};
     ghost use Rattle.admission.specs.Calls.{CallTable, open_calls_of};
-    ghost use Rattle.admission.specs.Stored.{AreStored};
+    ghost use Rattle.admission.specs.inside.Stored.{AreStored};
 
     ghost Value = { CallTable };
 

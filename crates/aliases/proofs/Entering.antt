@@ -1,12 +1,14 @@
 -- What the changes of the table do to the look-ups of aliases.
-use Rattle.std.proofs.Common.{◌≡◌, ◌≢◌, ℕ, Bool, cond, List, [], ◌∷◌, ◌++◌, not, nat_eq, refl, sym, ◌∙◌, ap, subst, Some, None, Ok, Err, zero, arith}
+use Rattle.std.proofs.Common.{◌≡◌, ◌≢◌, ℕ, Bool, cond, List, [], ◌∷◌, ◌++◌, not, nat_eq, refl, sym}
+use Rattle.std.proofs.Common.{◌∙◌, ap, subst, Some, None, Ok, Err, zero, arith}
 use Rattle.std.specs.Prelude.{Option, Contains, Result, IsOk, IfErr}
 use Rattle.std.specs.Option.{IsSomeAnd}
 use Rattle.std.specs.Cmp.Lexicographic.{pointwise}
 use Rattle.std.specs.FinMap as fin
 use Rattle.std.proofs.lemmas.Map.Entries.{option_filter}
 use Rattle.keyed.specs.Maps.{Changed}
-use Rattle.keyed.proofs.Decide.{by_test, test_false, some_none, same_some, Contains-parts, Contains-later}
+use Rattle.keyed.proofs.Decide.{by_test, test_false, some_none, same_some, Contains-parts}
+use Rattle.keyed.proofs.Decide.{Contains-later}
 use Rattle.keyed.proofs.Maps.{by_key, Changed-insert, get_retained}
 use Rattle.ras_module.specs.declared.address.Address.{Address}
 use Rattle.ras_module.specs.declared.alias.Alias.{Alias}
@@ -15,26 +17,33 @@ use Rattle.ras_module.proofs.AliasOrder.{alias_cmp_total, alias_cmp-IsAntisymmet
 use Rattle.aliases.specs.declared.fault.SetFault.{SetFault}
 use Rattle.aliases.specs.declared.fault.SetFault.TheVariants.{Duplicate, Memory}
 use Rattle.aliases.proofs.Rows.{not_by_another}
-use Rattle.aliases.specs.Held.{Held, Holding, IsHeldByAnother, holding_by, with_alias, with_aliases, without_holder}
+use Rattle.aliases.specs.Held.{Held, Holding, IsHeldByAnother, holding_by, with_alias, with_aliases}
+use Rattle.aliases.specs.Held.{without_holder}
 
 pub Changed-with_alias : (held : Held) (alias : Alias) (id : List ℕ) (address : Address)
-    → Changed (fin.get held) (fin.get (with_alias held alias id address)) alias (Some (holding_by id address))
-Changed-with_alias held alias id address = Changed-insert alias_cmp_total alias_cmp-IsAntisymmetric held alias (holding_by id address)
+    → Changed (fin.get held) (fin.get (with_alias held alias id address)) alias
+    (Some (holding_by id address))
+Changed-with_alias held alias id address =
+    Changed-insert alias_cmp_total alias_cmp-IsAntisymmetric held alias (holding_by id address)
 
 -- one alias more at the end of the list
-pub with_aliases-push : (held : Held) (aliases : List Alias) (alias : Alias) (id : List ℕ) (address : Address)
-    → with_aliases held (aliases ++ alias ∷ []) id address ≡ with_alias (with_aliases held aliases id address) alias id address
+pub with_aliases-push : (held : Held) (aliases : List Alias) (alias : Alias)
+    (id : List ℕ) (address : Address)
+    → with_aliases held (aliases ++ alias ∷ []) id address
+    ≡ with_alias (with_aliases held aliases id address) alias id address
 with_aliases-push held [] alias id address = refl
 with_aliases-push held (a ∷ aliases) alias id address = with_aliases-push
     (with_alias held a id address) aliases alias id address
 
 -- the aliases of the list are held so
-pub get-with_aliases : (held : Held) (aliases : List Alias) (id : List ℕ) (address : Address) (alias : Alias)
+pub get-with_aliases : (held : Held) (aliases : List Alias) (id : List ℕ)
+    (address : Address) (alias : Alias)
     → Contains aliases alias
     → fin.get (with_aliases held aliases id address) alias ≡ Some (holding_by id address)
 get-with_aliases held [] id address alias h = absurd (omega (arith, h.1))
 get-with_aliases held (a ∷ aliases) id address alias h = Contains-parts a aliases alias _ h
-    (λ is. stays (with_alias held a id address) aliases (ap (fin.get (with_alias held a id address)) (sym is) ∙ (Changed-with_alias held a id address).here))
+    (λ is. stays (with_alias held a id address) aliases (ap (fin.get (with_alias held a id address))
+    (sym is) ∙ (Changed-with_alias held a id address).here))
     (λ later. get-with_aliases (with_alias held a id address) aliases id address alias later) where
       stays : (held : Held) (aliases : List Alias)
           → fin.get held alias ≡ Some (holding_by id address)
@@ -42,11 +51,13 @@ get-with_aliases held (a ∷ aliases) id address alias h = Contains-parts a alia
       stays held [] is = is
       stays held (b ∷ aliases) is = stays (with_alias held b id address) aliases
           (by_key alias_cmp_total alias_cmp-IsAntisymmetric alias b _
-          (λ e. ap (fin.get (with_alias held b id address)) e ∙ (Changed-with_alias held b id address).here)
+          (λ e. ap (fin.get (with_alias held b id address)) e
+          ∙ (Changed-with_alias held b id address).here)
           (λ differ. (Changed-with_alias held b id address).others alias differ ∙ is))
 
 -- and others as before
-pub get-with_other_aliases : (held : Held) (aliases : List Alias) (id : List ℕ) (address : Address) (alias : Alias)
+pub get-with_other_aliases : (held : Held) (aliases : List Alias) (id : List ℕ)
+    (address : Address) (alias : Alias)
     → (Contains aliases alias → ⊥)
     → fin.get (with_aliases held aliases id address) alias ≡ fin.get held alias
 get-with_other_aliases held [] id address alias h = refl
@@ -103,11 +114,15 @@ was_held held id alias h is = cases (fin.get held alias) refl where
 -- an alias that no other endpoint holds is entered
 free_with_alias : (held : Held) (a b : Alias) (id : List ℕ) (address : Address)
     → (IsHeldByAnother held a id → ⊥) → IsHeldByAnother (with_alias held b id address) a id → ⊥
-free_with_alias held a b id address free other = by_key alias_cmp_total alias_cmp-IsAntisymmetric a b ⊥
-    (λ e. not_by_another (with_alias held b id address) a id (holding_by id address) (ap (fin.get (with_alias held b id address)) e ∙ (Changed-with_alias held b id address).here) refl other)
-    (λ differ. free (subst (λ w. IsSomeAnd w (λ h. h.holder ≢ id)) ((Changed-with_alias held b id address).others a differ) other))
+free_with_alias held a b id address free other =
+    by_key alias_cmp_total alias_cmp-IsAntisymmetric a b ⊥
+    (λ e. not_by_another (with_alias held b id address) a id (holding_by id address) (ap (fin.get
+    (with_alias held b id address)) e ∙ (Changed-with_alias held b id address).here) refl other)
+    (λ differ. free (subst (λ w. IsSomeAnd w (λ h. h.holder ≢ id))
+    ((Changed-with_alias held b id address).others a differ) other))
 
-pub free_with_aliases : (held : Held) (aliases : List Alias) (a : Alias) (id : List ℕ) (address : Address)
+pub free_with_aliases : (held : Held) (aliases : List Alias) (a : Alias)
+    (id : List ℕ) (address : Address)
     → (IsHeldByAnother held a id → ⊥)
     → IsHeldByAnother (with_aliases held aliases id address) a id → ⊥
 free_with_aliases held [] a id address free other = free other
@@ -115,13 +130,16 @@ free_with_aliases held (b ∷ aliases) a id address free other =
     free_with_aliases (with_alias held b id address) aliases a id address
     (free_with_alias held a b id address free) other
 
-pub set_succeeds : (r : Result (Unit {0}) (Alias × SetFault)) (held : Held) (alias : Alias) (id : List ℕ)
+pub set_succeeds : (r : Result (Unit {0}) (Alias × SetFault)) (held : Held)
+    (alias : Alias) (id : List ℕ)
     → (r ≡ Err (alias, Duplicate) → IsHeldByAnother held alias id)
     → r ≢ Err (alias, Memory) → IfErr r (λ e. e.0 ≡ alias) → (IsHeldByAnother held alias id → ⊥)
     → IsOk r
 set_succeeds (Ok x) held alias id duplicate memory back free = refl
-set_succeeds (Err (a, Duplicate)) held alias id duplicate memory back free = absurd (free (duplicate (λ i. Err (back i, Duplicate))))
-set_succeeds (Err (a, Memory)) held alias id duplicate memory back free = absurd (memory (λ i. Err (back i, Memory)))
+set_succeeds (Err (a, Duplicate)) held alias id duplicate memory back free =
+    absurd (free (duplicate (λ i. Err (back i, Duplicate))))
+set_succeeds (Err (a, Memory)) held alias id duplicate memory back free =
+    absurd (memory (λ i. Err (back i, Memory)))
 
 -- what nobody holds, no other endpoint holds
 pub not_held : (held : Held) (alias : Alias) (id : List ℕ) → fin.get held alias ≡ None

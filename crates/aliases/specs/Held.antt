@@ -1,5 +1,6 @@
 -- The aliases that the endpoints of a zone hold, as a finite map.
-use Rattle.std.specs.Prelude.{◌≡◌, ◌≢◌, ◌≤◌, ℕ, Bool, false, not, nat_eq, List, [], ◌∷◌, Option, Some, None, filter}
+use Rattle.std.specs.Prelude.{◌≡◌, ◌≢◌, ◌≤◌, ℕ, Bool, false, not, nat_eq, List, [], ◌∷◌, Option}
+use Rattle.std.specs.Prelude.{Some, None, filter}
 use Rattle.std.specs.Option.{option_map, IsSomeAnd}
 use Rattle.std.specs.Cmp.Lexicographic.{pointwise}
 use Rattle.std.specs.FinMap.{FinMap, get, insert}
@@ -34,8 +35,8 @@ abbrev pub is_elsewhere : Address → Option Holding → Bool
 is_elsewhere address None = false
 is_elsewhere address (Some h) = not (same_address h.address address)
 
--- those of the aliases that an endpoint with another call signal address holds, as they stand in the
--- list
+-- those of the aliases that an endpoint with another call signal address holds, as they stand in
+-- the list
 abbrev pub conflicts : Held → Address → List Alias → List Alias
 conflicts held address aliases = filter (λ alias. is_elsewhere address (get held alias)) aliases
 

@@ -8,7 +8,7 @@ ghost use Rattle.std.specs.FinMap as map;
 ghost use Rattle.keyed.specs.Places.{IsPlaceOf};
 ghost use Rattle.ras_module.specs.Aliases.{same_alias};
 ghost use Rattle.aliases.specs.Held.{holder_of, conflicts, is_elsewhere, without_holder, with_alias, with_aliases, IsHeldByAnother, Becomes};
-ghost use Rattle.aliases.specs.Stored.{alias_of, held_in};
+ghost use Rattle.aliases.specs.inside.Stored.{alias_of, held_in};
 
 use crate::fault::SetFault;
 use ras_module::{Address, Alias, AliasList, EndpointId};
@@ -40,7 +40,7 @@ impl Model for AliasTable {
 
     ghost coded = { Prim.hlevel (codes, map.code) };
 
-    ghost use Rattle.aliases.specs.Stored.{alias_of, held_in};
+    ghost use Rattle.aliases.specs.inside.Stored.{alias_of, held_in};
 
     ghost view = { λ t. record {
       held = held_in t.rows.items;

@@ -1,5 +1,6 @@
 -- What is due of the endpoints, and what a search through them says of it.
-use Rattle.std.proofs.Common.{◌≡◌, ℕ, ◌<◌, List, length, refl, sym, ◌∙◌, ap, subst, cond, Some, None, Option, Bool, true, false, nat_eq, arith}
+use Rattle.std.proofs.Common.{◌≡◌, ℕ, ◌<◌, List, length, refl, sym, ◌∙◌, ap, subst, cond, Some}
+use Rattle.std.proofs.Common.{None, Option, Bool, true, false, nat_eq, arith}
 use Rattle.std.specs.Prelude.{slice_get, IsTrue}
 use Rattle.std.specs.Option.{IsSomeAnd}
 use Rattle.std.specs.FinMap as fin
@@ -13,10 +14,11 @@ use Rattle.admission.specs.Calls.{OpenCalls, legs_of}
 use Rattle.registrations.specs.Registry.{Live, Registry, IsConsistent, IsNumbered, identifier_of}
 use Rattle.registrations.specs.declared.registration.Registration.{Registration}
 use Rattle.expiry.specs.Due.{IsInCall, IsLiveAnd, is_to_be_asked, is_silent}
-use Rattle.expiry.specs.Searched.{item_of, IsEndpointItem, IsNoEndpointDue}
+use Rattle.expiry.specs.inside.Searched.{item_of, IsEndpointItem, IsNoEndpointDue}
 use Rattle.expiry.specs.declared.times.Times.{Times}
 use Rattle.expiry.specs.declared.due_item.DueItem.{DueItem}
-use Rattle.expiry.specs.declared.due_item.DueItem.TheVariants.{RegistrationOver, Interrogate, Silent, Retry, KeptOver, PoolTurn}
+use Rattle.expiry.specs.declared.due_item.DueItem.TheVariants.{RegistrationOver, Interrogate}
+use Rattle.expiry.specs.declared.due_item.DueItem.TheVariants.{Silent, Retry, KeptOver, PoolTurn}
 
 -- an endpoint that is registered and passes a test
 pub live_and : (test : Registration → Bool) (live : Live) (id : List ℕ) (r : Registration)

@@ -1,8 +1,8 @@
 -- What is due at a moment. A registration that is not renewed ends with its time to live (H.225.0,
 -- timeToLive). An endpoint that takes part in a call and is silent is asked for a sign of life by
--- an InfoRequest, some times on end (H.323, 8.4.2, status); where no answer comes, it loses its legs
--- and stays registered. A request that was told to wait is served again, and a reply is kept for some time only
--- (H.225.0, RAS timers and request in progress).
+-- an InfoRequest, some times on end (H.323, 8.4.2, status); where no answer comes, it loses its
+-- legs and stays registered. A request that was told to wait is served again, and a reply is kept
+-- for some time only (H.225.0, RAS timers and request in progress).
 use Rattle.std.specs.Prelude.{◌≤◌, ◌+◌, ◌&&◌, ◌||◌, ℕ, Bool, List, nat_eq, nat_le, nat_lt, IsTrue}
 use Rattle.std.specs.Option.{IsSomeAnd}
 use Rattle.std.specs.FinMap.{get}
@@ -12,7 +12,8 @@ use Rattle.registrations.specs.Registry.{Live}
 use Rattle.registrations.specs.declared.registration.Registration.{Registration}
 use Rattle.expiry.specs.declared.times.Times.{Times}
 use Rattle.expiry.specs.declared.due_item.DueItem.{DueItem}
-use Rattle.expiry.specs.declared.due_item.DueItem.TheVariants.{RegistrationOver, Interrogate, Silent, Retry, KeptOver, PoolTurn}
+use Rattle.expiry.specs.declared.due_item.DueItem.TheVariants.{RegistrationOver, Interrogate}
+use Rattle.expiry.specs.declared.due_item.DueItem.TheVariants.{Silent, Retry, KeptOver, PoolTurn}
 
 -- the time to live is over
 abbrev pub is_deadline_past : ℕ → Registration → Bool

@@ -2,7 +2,7 @@
 
 ghost use Rattle.std.specs.Prelude.{◌≡◌, ◌+◌, ◌↔◌, nat_le, IsTrue, MatchOption};
 ghost use Rattle.expiry.specs.Due.{IsDue, IsNothingDue, IsInCall, is_to_be_asked, is_silent};
-ghost use Rattle.expiry.specs.Searched.{item_of, item_in_call, IsNoEndpointDue, IsEndpointItem};
+ghost use Rattle.expiry.specs.inside.Searched.{item_of, item_in_call, IsNoEndpointDue, IsEndpointItem};
 
 use crate::due_item::DueItem;
 use crate::times::Times;

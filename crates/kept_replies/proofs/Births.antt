@@ -1,5 +1,6 @@
 -- What is kept, by birth.
-use Rattle.std.proofs.Common.{◌≡◌, ℕ, List, refl, sym, ◌∙◌, ap, subst, cond, Some, None, Option, Bool, true, false, ◌+◌, [], ◌∷◌}
+use Rattle.std.proofs.Common.{◌≡◌, ℕ, List, refl, sym, ◌∙◌, ap, subst, cond, Some, None, Option}
+use Rattle.std.proofs.Common.{Bool, true, false, ◌+◌, [], ◌∷◌}
 use Rattle.std.specs.Prelude.{slice_get, MatchOption, nat_eq, is_some, not, IsTrue, ◌↔◌, position}
 use Rattle.std.specs.List.{find, position_from}
 use Rattle.std.specs.Map.{values_of}
@@ -18,8 +19,10 @@ use Rattle.keyed.proofs.Places.{IsMapOf}
 use Rattle.keyed.proofs.Rows.{FindsIn, finds_in, IsMapOf-rows}
 use Rattle.keyed.proofs.Searches.{key_place, placed_row}
 use Rattle.kept_replies.specs.Keys.{same_key}
-use Rattle.kept_replies.specs.Kept.{KeptReplies, KeptTable, AreBornApart, IsBusy, IsConsistent, IsFreeBirth, is_over, Passes, NonePasses, births, births_of, birth_of, itself}
-use Rattle.kept_replies.specs.Stored.{AreStored, key_of}
+use Rattle.kept_replies.specs.Kept.{KeptReplies, KeptTable, AreBornApart, IsBusy, IsConsistent}
+use Rattle.kept_replies.specs.Kept.{IsFreeBirth, is_over, Passes, NonePasses, births, births_of}
+use Rattle.kept_replies.specs.Kept.{birth_of, itself}
+use Rattle.kept_replies.specs.inside.Stored.{AreStored, key_of}
 use Rattle.kept_replies.specs.declared.entry.KeptEntry.{KeptEntry}
 use Rattle.kept_replies.specs.declared.key.KeptKey.{KeptKey}
 use Rattle.kept_replies.proofs.KeyOrder.{key_cmp_total, key_cmp-IsAntisymmetric, key_decides}

@@ -1,5 +1,6 @@
 -- The identifiers that kept RegistrationConfirms tell.
-use Rattle.std.proofs.Common.{◌≡◌, ℕ, zero, suc, List, [], ◌∷◌, refl, sym, ◌∙◌, ap, subst, Some, None, Option, Bool, true, false, ◌||◌, arith}
+use Rattle.std.proofs.Common.{◌≡◌, ℕ, zero, suc, List, [], ◌∷◌, refl, sym, ◌∙◌, ap, subst, Some}
+use Rattle.std.proofs.Common.{None, Option, Bool, true, false, ◌||◌, arith}
 use Rattle.std.specs.Prelude.{slice_get, Contains, ◌↔◌, IsTrue, Result, Ok, Err, IfOk}
 use Rattle.std.specs.List.{list_any, cons_option}
 use Rattle.indexmap.specs.IndexMap.{IndexMap}
@@ -9,7 +10,7 @@ use Rattle.keyed.proofs.Listed as listed
 use Rattle.keyed.proofs.Places.{IsMapOf}
 use Rattle.ras_module.specs.Same.{texts_decide}
 use Rattle.kept_replies.specs.Kept.{KeptTable, IsNamed, named_by}
-use Rattle.kept_replies.specs.Stored.{AreStored, identifiers_of, is_identifier, is_named_by, key_of}
+use Rattle.kept_replies.specs.inside.Stored.{AreStored, identifiers_of, is_identifier, is_named_by, key_of}
 use Rattle.kept_replies.specs.declared.entry.KeptEntry.{KeptEntry}
 use Rattle.kept_replies.specs.declared.key.KeptKey.{KeptKey}
 use Rattle.kept_replies.proofs.KeyOrder.{key_cmp_total, key_cmp-IsAntisymmetric}

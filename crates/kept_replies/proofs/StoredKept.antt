@@ -1,5 +1,6 @@
 -- What a change of one entry does to what is kept, and to how it is stored.
-use Rattle.std.proofs.Common.{◌≡◌, ℕ, ◌+◌, ◌≤◌, ◌<◌, List, length, refl, sym, ◌∙◌, ap, subst, Some, None, Option, arith}
+use Rattle.std.proofs.Common.{◌≡◌, ℕ, ◌+◌, ◌≤◌, ◌<◌, List, length, refl, sym, ◌∙◌, ap, subst, Some}
+use Rattle.std.proofs.Common.{None, Option, arith}
 use Rattle.std.specs.Prelude.{is_some, if◌then◌else◌, IsSome}
 use Rattle.std.specs.Option.{IsSomeAnd}
 use Rattle.std.specs.FinMap as fin
@@ -11,8 +12,10 @@ use Rattle.keyed.proofs.Decide.{some_none, same_some}
 use Rattle.keyed.proofs.Entries as entries
 use Rattle.keyed.proofs.Maps as maps
 use Rattle.kept_replies.specs.Keys.{same_key}
-use Rattle.kept_replies.specs.Kept.{KeptReplies, KeptTable, AreEntries, AreBornApart, IsEntry, IsFreeBirth, IsConsistent, Becomes, Adds, kept_of, without, left_in, postponed, postponed_in, IsState}
-use Rattle.kept_replies.specs.Stored.{AreStored, Puts, Rewrites, Removes, key_of}
+use Rattle.kept_replies.specs.Kept.{KeptReplies, KeptTable, AreEntries, AreBornApart, IsEntry}
+use Rattle.kept_replies.specs.Kept.{IsFreeBirth, IsConsistent, Becomes, Adds, kept_of, without}
+use Rattle.kept_replies.specs.Kept.{left_in, postponed, postponed_in, IsState}
+use Rattle.kept_replies.specs.inside.Stored.{AreStored, Puts, Rewrites, Removes, key_of}
 use Rattle.kept_replies.specs.declared.entry.KeptEntry.{KeptEntry}
 use Rattle.kept_replies.specs.declared.entry.KeptState.{KeptState}
 use Rattle.kept_replies.specs.declared.entry.KeptState.TheVariants.{Done, Pending}

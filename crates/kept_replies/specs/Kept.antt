@@ -1,7 +1,8 @@
 -- What the gatekeeper keeps of its replies, as a finite map from datagrams. An endpoint that hears
 -- no reply sends its request again, the same datagram, and is then told the same (H.225.0, RAS
 -- timers and request in progress).
-use Rattle.std.specs.Prelude.{◌≡◌, ◌≤◌, ◌+◌, ◌-◌, ℕ, Bool, false, List, Option, Some, None, nat_le, IsTrue}
+use Rattle.std.specs.Prelude.{◌≡◌, ◌≤◌, ◌+◌, ◌-◌, ℕ, Bool, false, List, Option, Some, None, nat_le}
+use Rattle.std.specs.Prelude.{IsTrue}
 use Rattle.std.specs.Option.{IsSomeAnd}
 use Rattle.std.specs.Ordering.{nat_cmp}
 use Rattle.std.specs.FinMap.{FinMap, get, remove, len, entries, from_entries}

@@ -1,3 +1,3 @@
 pub mod Keys
 pub mod Kept
-pub mod Stored
+pub mod inside

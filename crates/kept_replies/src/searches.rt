@@ -5,7 +5,7 @@ ghost use Rattle.std.specs.List.{find, list_any};
 ghost use Rattle.std.specs.Option.{option_map};
 ghost use Rattle.indexmap.specs.IndexMap.{values};
 ghost use Rattle.kept_replies.specs.Kept.{birth_of, is_over, is_retry};
-ghost use Rattle.kept_replies.specs.Stored.{identifiers_of, is_named_by};
+ghost use Rattle.kept_replies.specs.inside.Stored.{identifiers_of, is_named_by};
 
 use crate::entry::KeptEntry;
 use crate::key::KeptKey;

@@ -7,7 +7,7 @@ ghost use Rattle.std.specs.FinMap as map;
 ghost use Rattle.keyed.specs.Maps.{update};
 ghost use Rattle.kept_replies.specs.Keys.{same_key};
 ghost use Rattle.kept_replies.specs.Kept.{births, done, pending, is_over, is_retry, left_in, Passes, NonePasses, IsBusy, IsNamed, IsListOf, IsFreeBirth, IsEntry, IsConsistent, finished, postponed, without_birth, Becomes, Adds};
-ghost use Rattle.kept_replies.specs.Stored.{Puts, Rewrites, Removes};
+ghost use Rattle.kept_replies.specs.inside.Stored.{Puts, Rewrites, Removes};
 ghost use Rattle.indexmap.specs.IndexMap.{get, spare};
 
 use crate::entry::{KeptEntry, KeptState};
@@ -33,7 +33,7 @@ impl Model for Kept {
     ghost use Rattle.std.specs.FinMap as map;
     ghost use Rattle.indexmap.specs.IndexMap.{spare};
     ghost use Rattle.kept_replies.specs.Kept.{KeptTable, kept_of};
-    ghost use Rattle.kept_replies.specs.Stored.{AreStored};
+    ghost use Rattle.kept_replies.specs.inside.Stored.{AreStored};
 
     ghost Value = { KeptTable };
 

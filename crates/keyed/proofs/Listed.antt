@@ -1,6 +1,7 @@
 -- The list of a finite map has each of its rows once, so a map that another part of the rows makes
 -- is the same from the list and from the rows where they are kept.
-use Rattle.std.proofs.Common.{◌≡◌, ℕ, zero, suc, List, [], ◌∷◌, refl, sym, ◌∙◌, ap, subst, Some, None, Option}
+use Rattle.std.proofs.Common.{◌≡◌, ℕ, zero, suc, List, [], ◌∷◌, refl, sym, ◌∙◌, ap, subst, Some}
+use Rattle.std.proofs.Common.{None, Option}
 use Rattle.std.specs.Prelude.{slice_get, T}
 use Rattle.std.specs.Cmp.{IsTotalOrder}
 use Rattle.std.specs.declared.cmp.Ordering.{Ordering}
@@ -35,7 +36,8 @@ module _ {K V : Type 0} {R : K → K → Ordering} (o : IsTotalOrder R) (same : 
         differ rest j s there e =
             let has = (IsMapOf-pairs es rest).has j s there in
             let is = sym (fin.get-from_entries o es s.0) ∙ has in
-            some_none (sym is ∙ (ap (λ k. fin.find R k es) (sym e) ∙ find_below R x.0 es (first _ _ h)))
+            some_none (sym is
+            ∙ (ap (λ k. fin.find R k es) (sym e) ∙ find_below R x.0 es (first _ _ h)))
 
         places : AreApart key_of (row_in es) → (i j : ℕ) (r s : K × V)
             → slice_get (x ∷ es) i ≡ Some r → slice_get (x ∷ es) j ≡ Some s → r.0 ≡ s.0 → i ≡ j

@@ -1,5 +1,7 @@
 -- The rows of a table by rising key are what its finite map lists.
-use Rattle.std.proofs.Common.{◌≡◌, ◌≢◌, ℕ, zero, suc, ◌<◌, ◌≤◌, Bool, true, false, ◌&&◌, List, [], ◌∷◌, length, get_or, refl, sym, ◌∙◌, ap, subst, cond, nat_eq, Some, arith}
+use Rattle.std.proofs.Common.{◌≡◌, ◌≢◌, ℕ, zero, suc, ◌<◌, ◌≤◌, Bool, true, false, ◌&&◌, List, []}
+use Rattle.std.proofs.Common.{◌∷◌, length, get_or, refl, sym, ◌∙◌, ap, subst, cond, nat_eq, Some}
+use Rattle.std.proofs.Common.{arith}
 use Rattle.std.specs.Prelude.{slice_get, T}
 use Rattle.std.proofs.Math.ListN.{set}
 use Rattle.std.specs.List.{swap}
@@ -42,10 +44,13 @@ exchanged_else a b k p q = grind (arith, nat_tests)
 
 exchanged_again : (a b k : ℕ) → exchanged a b (exchanged a b k) ≡ k
 exchanged_again a b k = by_place k a (exchanged a b (exchanged a b k) ≡ k)
-    (λ e. ap (λ n. exchanged a b (exchanged a b n)) e ∙ (ap (exchanged a b) (exchanged_here a b) ∙ (exchanged_there a b ∙ sym e)))
+    (λ e. ap (λ n. exchanged a b (exchanged a b n)) e
+    ∙ (ap (exchanged a b) (exchanged_here a b) ∙ (exchanged_there a b ∙ sym e)))
     (λ differ. by_place k b (exchanged a b (exchanged a b k) ≡ k)
-    (λ e. ap (λ n. exchanged a b (exchanged a b n)) e ∙ (ap (exchanged a b) (exchanged_there a b) ∙ (exchanged_here a b ∙ sym e)))
-    (λ other. ap (exchanged a b) (exchanged_else a b k differ other) ∙ exchanged_else a b k differ other))
+    (λ e. ap (λ n. exchanged a b (exchanged a b n)) e
+    ∙ (ap (exchanged a b) (exchanged_there a b) ∙ (exchanged_here a b ∙ sym e)))
+    (λ other. ap (exchanged a b) (exchanged_else a b k differ other)
+    ∙ exchanged_else a b k differ other))
 
 row_in-swap : {X : Type 0} (rows : List X) (a b : ℕ) → a < length rows → b < length rows → (k : ℕ)
     → row_in (swap rows a b) k ≡ row_in rows (exchanged a b k)
@@ -60,9 +65,11 @@ row_in-swap (x ∷ xs) a b within inside k =
     let at_b = slice_get-get_or rows b x inside in
     sym (ap (λ l. row_in l k) (swap_is rows a b x within inside))
     ∙ by_place k b (row_in (set once b (get_or rows a x)) k ≡ row_in rows (exchanged a b k))
-    (λ e. ap (row_in (set once b (get_or rows a x))) e ∙ (d.here ∙ (sym at_a ∙ ap (row_in rows) (sym (ap (exchanged a b) e ∙ exchanged_there a b)))))
+    (λ e. ap (row_in (set once b (get_or rows a x))) e ∙ (d.here
+    ∙ (sym at_a ∙ ap (row_in rows) (sym (ap (exchanged a b) e ∙ exchanged_there a b)))))
     (λ other. d.others k other ∙ by_place k a (row_in once k ≡ row_in rows (exchanged a b k))
-    (λ e. ap (row_in once) e ∙ (c.here ∙ (sym at_b ∙ ap (row_in rows) (sym (ap (exchanged a b) e ∙ exchanged_here a b)))))
+    (λ e. ap (row_in once) e ∙ (c.here
+    ∙ (sym at_b ∙ ap (row_in rows) (sym (ap (exchanged a b) e ∙ exchanged_here a b)))))
     (λ differ. c.others k differ ∙ ap (row_in rows) (sym (exchanged_else a b k differ other))))
 
 both : (a b : Bool) → T a → T b → T (a && b)
@@ -83,7 +90,8 @@ module _ {K V X : Type 0} {R : K → K → Ordering} (o : IsTotalOrder R) (same 
       record {
         distinct = record {
           apart = λ i j r s p q e.
-              (let moved = h.distinct.apart (exchanged a b i) (exchanged a b j) r s (sym (was i) ∙ p) (sym (was j) ∙ q) e in
+              (let moved = h.distinct.apart (exchanged a b i) (exchanged a b j) r s
+              (sym (was i) ∙ p) (sym (was j) ∙ q) e in
               sym (exchanged_again a b i) ∙ (ap (exchanged a b) moved ∙ exchanged_again a b j));
         };
         of = record {
@@ -123,7 +131,8 @@ module _ {K V X : Type 0} {R : K → K → Ordering} (o : IsTotalOrder R) (same 
       → IsRisingBy R key rows
   IsRisingBy-sorted rows h up = record {
     rises = λ i j r s less p q.
-        (let rise = searchable_from_sorted o key rows (key s) up i j s (omega arith) (slice_get_within rows j s q) in
+        (let rise = searchable_from_sorted o key rows (key s) up i j s (omega arith)
+        (slice_get_within rows j s q) in
         let here = get_or_from_slice_get rows i r s p in
         let there = get_or_from_slice_get rows j s s q in
         let low : ordering_index (R (key (get_or rows j s)) (key s)) ≤ 1 = subst
@@ -131,11 +140,14 @@ module _ {K V X : Type 0} {R : K → K → Ordering} (o : IsTotalOrder R) (same 
         (equal_itself (R (key s) (key s)) (itself o same (key s))) in
         let most : ordering_index (R (key r) (key s)) ≤ 1 = subst
         (λ (x : X). ordering_index (R (key x) (key s)) ≤ 1) here (omega (arith, rise, low)) in
-        at_most_equal (R (key r) (key s)) most (λ e. (let one : i ≡ j = h.apart i j r s p q (same (key r) (key s) e) in omega arith)));
+        at_most_equal (R (key r) (key s)) most
+        (λ e. (let one : i ≡ j = h.apart i j r s p q (same (key r) (key s) e) in
+        omega arith)));
   }
 
   rising_tail : (r : X) (rows : List X) → IsRisingBy R key (r ∷ rows) → IsRisingBy R key rows
-  rising_tail r rows h = record { rises = λ i j x y less p q. h.rises (suc i) (suc j) x y (omega arith) p q }
+  rising_tail r rows h =
+      record { rises = λ i j x y less p q. h.rises (suc i) (suc j) x y (omega arith) p q }
 
   is_less : (r : Ordering) → r ≡ Less → T (is_lt r)
   is_less Less e = tt
@@ -162,7 +174,8 @@ module _ {K V X : Type 0} {R : K → K → Ordering} (o : IsTotalOrder R) (same 
       (IsMapOf-rows o same key value rows h.distinct) h.of in
       same_entries R o same (entries_of key value rows) (fin.entries m) (sorted rows rising)
       (fin.entries_sorted m)
-      (λ q. sym (fin.get-from_entries o (entries_of key value rows) q) ∙ (ap (λ n. fin.get n q) is ∙ fin.get-entries m q))
+      (λ q. sym (fin.get-from_entries o (entries_of key value rows) q)
+      ∙ (ap (λ n. fin.get n q) is ∙ fin.get-entries m q))
 
   -- a table's rows, sorted by their keys, are the entries of its map in their order
   pub sorted_rows : (rows moved : List X) → AreApart key (row_in rows) → IsPermutation rows moved

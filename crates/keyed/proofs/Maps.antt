@@ -1,5 +1,6 @@
 -- Finite maps by their look-ups: one that is changed at one key is an insertion or a removal.
-use Rattle.std.proofs.Common.{◌≡◌, ◌≢◌, ◌+◌, Bool, true, false, List, [], ◌∷◌, refl, sym, ◌∙◌, ap, subst, cond, Some, None}
+use Rattle.std.proofs.Common.{◌≡◌, ◌≢◌, ◌+◌, Bool, true, false, List, [], ◌∷◌, refl, sym, ◌∙◌, ap}
+use Rattle.std.proofs.Common.{subst, cond, Some, None}
 use Rattle.std.specs.Prelude.{Option, is_some, T, ◌&&◌, filter}
 use Rattle.std.specs.Option.{option_map}
 use Rattle.std.proofs.lemmas.Map.Entries.{option_filter}
@@ -94,12 +95,14 @@ module _ {K : Type 0} {R : K → K → Ordering} (o : IsTotalOrder R) (same : Is
     pub insert_is : (m n : FinMap R V) (k : K) (v : V)
         → Changed (fin.get m) (fin.get n) k (Some v) → n ≡ fin.insert m k v
     insert_is m n k v c = fin.same_map o same n (fin.insert m k v)
-        (both_changed (fin.get m) (fin.get n) (fin.get (fin.insert m k v)) k (Some v) c (Changed-insert m k v))
+        (both_changed (fin.get m) (fin.get n) (fin.get (fin.insert m k v)) k
+        (Some v) c (Changed-insert m k v))
 
     pub remove_is : (m n : FinMap R V) (k : K) → Changed (fin.get m) (fin.get n) k None
         → n ≡ fin.remove m k
     remove_is m n k c = fin.same_map o same n (fin.remove m k)
-        (both_changed (fin.get m) (fin.get n) (fin.get (fin.remove m k)) k None c (Changed-remove m k))
+        (both_changed (fin.get m) (fin.get n)
+        (fin.get (fin.remove m k)) k None c (Changed-remove m k))
 
     Changed-same : (f : K → Option V) (k : K) → Changed f f k (f k)
     Changed-same f k = record { here = refl; others = λ q differ. refl }
@@ -108,11 +111,13 @@ module _ {K : Type 0} {R : K → K → Ordering} (o : IsTotalOrder R) (same : Is
     pub insert_again : (m : FinMap R V) (k : K) (v : V) → fin.get m k ≡ Some v
         → m ≡ fin.insert m k v
     insert_again m k v there = insert_is m m k v
-        (subst (λ (w : Option V). Changed (fin.get m) (fin.get m) k w) there (Changed-same (fin.get m) k))
+        (subst (λ (w : Option V). Changed (fin.get m) (fin.get m) k w) there
+        (Changed-same (fin.get m) k))
 
     pub remove_absent : (m : FinMap R V) (k : K) → fin.get m k ≡ None → m ≡ fin.remove m k
     remove_absent m k absent = remove_is m m k
-        (subst (λ (w : Option V). Changed (fin.get m) (fin.get m) k w) absent (Changed-same (fin.get m) k))
+        (subst (λ (w : Option V). Changed (fin.get m) (fin.get m) k w) absent
+        (Changed-same (fin.get m) k))
 
     -- to change is to take out and put in
     pub insert_over : (m : FinMap R V) (k : K) (v : V)
@@ -163,7 +168,8 @@ module _ {K : Type 0} {R : K → K → Ordering} (o : IsTotalOrder R) (same : Is
         (eq_by_cmp R q e.0) refl where
           cases : fin.find R q (filter (λ e. test e.1) es) ≡ option_filter test (fin.find R q es)
               → (b : Bool) → test e.1 ≡ b → (t : Bool) → eq_by_cmp R q e.0 ≡ t
-              → fin.find R q (cond b (e ∷ filter (λ x. test x.1) es) (filter (λ x. test x.1) es)) ≡ option_filter test (cond t (Some e.1) (fin.find R q es))
+              → fin.find R q (cond b (e ∷ filter (λ x. test x.1) es) (filter (λ x. test x.1) es))
+              ≡ option_filter test (cond t (Some e.1) (fin.find R q es))
           cases rest true passes true here =
               ap (λ t. cond t (Some e.1) (fin.find R q (filter (λ x. test x.1) es))) here
               ∙ sym (ap (λ b. cond b (Some e.1) None) passes)
@@ -179,5 +185,6 @@ module _ {K : Type 0} {R : K → K → Ordering} (o : IsTotalOrder R) (same : Is
         → fin.get (retain_values m test) q ≡ option_filter test (fin.get m q)
     get_retained test m q =
         fin.get-from_entries o (filter (λ e. test e.1) (fin.entries m)) q
-        ∙ (find_retained test q (fin.entries m) (IsOnce-sorted R (fin.entries m) (fin.entries_sorted m))
+        ∙ (find_retained test q (fin.entries m)
+        (IsOnce-sorted R (fin.entries m) (fin.entries_sorted m))
         ∙ sym (ap (option_filter test) (fin.get-entries m q)))

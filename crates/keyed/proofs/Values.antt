@@ -1,5 +1,7 @@
--- What holds of each row that a finite map has, holds of all its entries; searches, counts and bounds over its rows.
-use Rattle.std.proofs.Common.{◌||◌, ◌≡◌, ℕ, ◌*◌, ◌≤◌, Bool, true, false, List, [], ◌∷◌, length, map, refl, sym, ◌∙◌, ap, subst, cond, Some, None, arith}
+-- What holds of each row that a finite map has, holds of all its entries; searches, counts and
+-- bounds over its rows.
+use Rattle.std.proofs.Common.{◌||◌, ◌≡◌, ℕ, ◌*◌, ◌≤◌, Bool, true, false, List, [], ◌∷◌, length, map}
+use Rattle.std.proofs.Common.{refl, sym, ◌∙◌, ap, subst, cond, Some, None, arith}
 use Rattle.std.specs.Prelude.{T}
 use Rattle.std.specs.List.{list_any, sum_by, find as find_first}
 use Rattle.std.proofs.lemmas.List.Sums.{sum_by-cons}
@@ -22,8 +24,10 @@ module _ {K X : Type 0} {R : K → K → Ordering} (o : IsTotalOrder R) (same : 
       → fin.find R k es ≡ Some r → fin.find R k (e ∷ es) ≡ Some r
   found_later e es k r h there = by_test (eq_by_cmp R k e.0) (key_decides o same k e.0)
       (fin.find R k (e ∷ es) ≡ Some r)
-      (λ p. some_none (sym there ∙ (ap (λ q. fin.find R q es) p ∙ find_below R e.0 es (first _ _ h))))
-      (λ differ. ap (λ b. cond b (Some e.1) (fin.find R k es)) (not_true (eq_by_cmp R k e.0) (λ t. differ ((key_decides o same k e.0).0 t))) ∙ there) where
+      (λ p. some_none (sym there
+      ∙ (ap (λ q. fin.find R q es) p ∙ find_below R e.0 es (first _ _ h))))
+      (λ differ. ap (λ b. cond b (Some e.1) (fin.find R k es)) (not_true (eq_by_cmp R k e.0)
+      (λ t. differ ((key_decides o same k e.0).0 t))) ∙ there) where
         not_true : (b : Bool) → (b ≡ true → ⊥) → b ≡ false
         not_true true f = absurd (f refl)
         not_true false f = refl
@@ -61,7 +65,8 @@ module _ {K X : Type 0} {R : K → K → Ordering} (o : IsTotalOrder R) (same : 
       one : (b : Bool) → cond b (Some e.1) (fin.find R k es) ≡ Some r
           → (fin.find R k es ≡ Some r → f r ≤ sum_by f (map (λ e. e.1) es))
           → f r ≤ sum_by f (map (λ e. e.1) (e ∷ es))
-      one true h rest = omega (arith, ap f (same_some e.1 r h), sum_by-cons f e.1 (map (λ e. e.1) es))
+      one true h rest =
+          omega (arith, ap f (same_some e.1 r h), sum_by-cons f e.1 (map (λ e. e.1) es))
       one false h rest = omega (arith, rest h, sum_by-cons f e.1 (map (λ e. e.1) es))
 
   -- a search among the rows finds the one row that passes
@@ -75,7 +80,8 @@ module _ {K X : Type 0} {R : K → K → Ordering} (o : IsTotalOrder R) (same : 
         search_in [] h each = some_none (sym h)
         search_in (e ∷ es) h each = one (p e.1) refl (eq_by_cmp R k e.0) h
             (λ later. search_in es later each.1) where
-              one : (b : Bool) → p e.1 ≡ b → (t : Bool) → cond t (Some e.1) (fin.find R k es) ≡ Some r
+              one : (b : Bool) → p e.1 ≡ b → (t : Bool)
+                  → cond t (Some e.1) (fin.find R k es) ≡ Some r
                   → (fin.find R k es ≡ Some r → find_first p (map (λ e. e.1) es) ≡ Some r)
                   → cond b (Some e.1) (find_first p (map (λ e. e.1) es)) ≡ Some r
               one true is t h rest = ap Some (each.0 is)
@@ -103,10 +109,14 @@ module _ {K X : Type 0} {R : K → K → Ordering} (o : IsTotalOrder R) (same : 
             → (k : K) × (fin.get m k ≡ Some r) × (p r ≡ true)
         search_in [] each e = some_none (sym e)
         search_in (x ∷ es) each e = one (p x.1) refl e (search_in es each.1) where
-          one : (b : Bool) → p x.1 ≡ b → cond b (Some x.1) (find_first p (map (λ e. e.1) es)) ≡ Some r
-              → (find_first p (map (λ e. e.1) es) ≡ Some r → (k : K) × (fin.get m k ≡ Some r) × (p r ≡ true))
+          one : (b : Bool) → p x.1 ≡ b
+              → cond b (Some x.1) (find_first p (map (λ e. e.1) es)) ≡ Some r
+              → (find_first p (map (λ e. e.1) es) ≡ Some r
+              → (k : K) × (fin.get m k ≡ Some r) × (p r ≡ true))
               → (k : K) × (fin.get m k ≡ Some r) × (p r ≡ true)
-          one true is e rest = (let same = same_some x.1 r e in (x.0, each.0 ∙ ap Some same, sym (ap p same) ∙ is))
+          one true is e rest =
+              (let same = same_some x.1 r e in
+              (x.0, each.0 ∙ ap Some same, sym (ap p same) ∙ is))
           one false is e rest = rest e
 
   -- where it found none, none passes

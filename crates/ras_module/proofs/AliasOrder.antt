@@ -11,7 +11,8 @@ use Rattle.ras_module.specs.declared.alias.Alias.TheVariants.{Digits, H323Id}
 use Rattle.ras_module.specs.Aliases.{alias_cmp, kind_of, characters_of}
 
 pub alias_cmp_total : IsTotalOrder alias_cmp
-alias_cmp_total = then_total (on_total kind_of nat_cmp_total) (on_total characters_of nat_list_cmp_total)
+alias_cmp_total =
+    then_total (on_total kind_of nat_cmp_total) (on_total characters_of nat_list_cmp_total)
 
 one_alias : (a b : Alias) → kind_of a ≡ kind_of b → characters_of a ≡ characters_of b → a ≡ b
 one_alias (Digits a) (Digits b) k t = ap Digits t

@@ -1,5 +1,6 @@
 -- How the registrations and the table of the aliases keep in agreement.
-use Rattle.std.proofs.Common.{◌≡◌, ◌≢◌, ◌&&◌, ℕ, Bool, true, false, not, cond, List, [], ◌∷◌, refl, sym, ◌∙◌, ap, subst, arith, Some, None}
+use Rattle.std.proofs.Common.{◌≡◌, ◌≢◌, ◌&&◌, ℕ, Bool, true, false, not, cond, List, [], ◌∷◌, refl}
+use Rattle.std.proofs.Common.{sym, ◌∙◌, ap, subst, arith, Some, None}
 use Rattle.std.specs.Prelude.{Option, Contains}
 use Rattle.std.specs.Option.{option_map}
 use Rattle.std.specs.Ordering.{nat_cmp}
@@ -9,18 +10,22 @@ use Rattle.std.proofs.lemmas.Cmp.{nat_list_cmp_total}
 use Rattle.std.proofs.lemmas.Map.Lookups.{exact_bytes}
 use Rattle.keyed.specs.Maps.{update, Changed}
 use Rattle.keyed.proofs.Decide.{by_member, Contains-parts, any_decides, some_none, same_some}
-use Rattle.keyed.proofs.Maps.{by_key, Changed-insert, Changed-remove, Changed-update, insert_over, update_there}
+use Rattle.keyed.proofs.Maps.{by_key, Changed-insert, Changed-remove, Changed-update, insert_over}
+use Rattle.keyed.proofs.Maps.{update_there}
 use Rattle.keyed.proofs.Values.{any_row, no_row_passes}
 use Rattle.ras_module.specs.declared.address.Address.{Address}
 use Rattle.ras_module.specs.declared.alias.Alias.{Alias}
 use Rattle.ras_module.specs.Addresses.{same_address}
 use Rattle.ras_module.specs.Aliases.{same_alias, alias_cmp, has_alias}
 use Rattle.ras_module.specs.Same.{address_decides, alias_decides}
-use Rattle.aliases.specs.Held.{Held, Holding, holding_by, is_elsewhere, conflicts, with_aliases, without_holder}
-use Rattle.aliases.proofs.Entering.{get-with_aliases, get-with_other_aliases, get-without_holder, get-without_own, get-without_another, was_held}
+use Rattle.aliases.specs.Held.{Held, Holding, holding_by, is_elsewhere, conflicts, with_aliases}
+use Rattle.aliases.specs.Held.{without_holder}
+use Rattle.aliases.proofs.Entering.{get-with_aliases, get-with_other_aliases, get-without_holder}
+use Rattle.aliases.proofs.Entering.{get-without_own, get-without_another, was_held}
 use Rattle.registrations.specs.declared.registration.Registration.{Registration}
 use Rattle.registrations.specs.Registry.{Live, at_address, IsConsistent}
-use Rattle.registrations.specs.Agreement.{Agree, IsHolder, is_registered_elsewhere, registered_elsewhere}
+use Rattle.registrations.specs.Agreement.{Agree, IsHolder, is_registered_elsewhere}
+use Rattle.registrations.specs.Agreement.{registered_elsewhere}
 use Rattle.registrations.proofs.Consistent.{none_at, IsAt-found, was_there, same_part}
 
 -- nothing is registered, and no alias held
@@ -36,7 +41,8 @@ pub one_holder : (live : Live) (held : Held) → Agree live held
     → fin.get live j ≡ Some s
     → Contains r.aliases alias → Contains s.aliases alias → i ≡ j
 one_holder live held agree i j r s alias p q a b =
-    ap (λ (h : Holding). h.holder) (same_some (holding_by i r.call_signal) (holding_by j s.call_signal) (sym (agree.holds i r alias p a) ∙ agree.holds j s alias q b))
+    ap (λ (h : Holding). h.holder) (same_some (holding_by i r.call_signal)
+    (holding_by j s.call_signal) (sym (agree.holds i r alias p a) ∙ agree.holds j s alias q b))
 
 -- a registration goes, with its aliases
 pub Agree-remove : (live : Live) (held : Held) (id : List ℕ) → Agree live held
@@ -47,38 +53,51 @@ Agree-remove live held id agree =
       holds = λ i r alias e has. by_key nat_list_cmp_total exact_bytes i id
           (fin.get (without_holder held id) alias ≡ Some (holding_by i r.call_signal))
           (λ p. some_none (sym e ∙ (ap (fin.get (fin.remove live id)) p ∙ c.here)))
-          (λ differ. get-without_another held id alias (holding_by i r.call_signal) (agree.holds i r alias (sym (c.others i differ) ∙ e) has) differ);
+          (λ differ. get-without_another held id alias (holding_by i r.call_signal)
+          (agree.holds i r alias (sym (c.others i differ) ∙ e) has) differ);
       held_by = λ alias h e.
           (let was = was_held held id alias h e in
-          let by = agree.held_by alias h was.0 in
-          (by.0, record { live_is = c.others h.holder was.1 ∙ by.1.live_is; has = by.1.has; address_is = by.1.address_is }));
+          let by = agree.held_by alias h was.0 in (
+            by.0,
+            record {
+              live_is = c.others h.holder was.1
+                  ∙ by.1.live_is;
+              has = by.1.has;
+              address_is = by.1.address_is;
+            },
+          ));
     }
 
 -- a registration comes, and its aliases, which nobody holds
 pub Agree-insert : (live : Live) (held : Held) (r : Registration) → Agree live held
     → fin.get live r.identifier ≡ None
     → ((alias : Alias) → Contains r.aliases alias → fin.get held alias ≡ None)
-    → Agree (fin.insert live r.identifier r) (with_aliases held r.aliases r.identifier r.call_signal)
+    → Agree (fin.insert live r.identifier r)
+    (with_aliases held r.aliases r.identifier r.call_signal)
 Agree-insert live held r agree absent free = record { holds = holds; held_by = held_by } where
   c : Changed (fin.get live) (fin.get (fin.insert live r.identifier r)) r.identifier (Some r)
   c = Changed-insert nat_list_cmp_total exact_bytes live r.identifier r
 
   holds : (id : List ℕ) (s : Registration) (alias : Alias)
       → fin.get (fin.insert live r.identifier r) id ≡ Some s → Contains s.aliases alias
-      → fin.get (with_aliases held r.aliases r.identifier r.call_signal) alias ≡ Some (holding_by id s.call_signal)
+      → fin.get (with_aliases held r.aliases r.identifier r.call_signal) alias
+      ≡ Some (holding_by id s.call_signal)
   holds id s alias e has = by_key nat_list_cmp_total exact_bytes id r.identifier _
-      (λ p. let same : r ≡ s = same_some r s (sym c.here ∙ (ap (fin.get (fin.insert live r.identifier r)) (sym p) ∙ e)) in
+      (λ p. let same : r ≡ s = same_some r s
+      (sym c.here ∙ (ap (fin.get (fin.insert live r.identifier r)) (sym p) ∙ e)) in
       get-with_aliases held r.aliases r.identifier r.call_signal alias
       (subst (λ (x : Registration). Contains x.aliases alias) (sym same) has)
       ∙ (λ i. Some (holding_by (sym p i) (same i).call_signal)))
       (λ differ. let was = agree.holds id s alias (sym (c.others id differ) ∙ e) has in
-      get-with_other_aliases held r.aliases r.identifier r.call_signal alias (λ own. some_none (sym was ∙ free alias own)) ∙ was)
+      get-with_other_aliases held r.aliases r.identifier r.call_signal alias
+      (λ own. some_none (sym was ∙ free alias own)) ∙ was)
 
   held_by : (alias : Alias) (h : Holding)
       → fin.get (with_aliases held r.aliases r.identifier r.call_signal) alias ≡ Some h
       → (s : Registration) × IsHolder (fin.insert live r.identifier r) alias h s
   held_by alias h e = by_member same_alias alias_decides r.aliases alias _
-      (λ own. let same : holding_by r.identifier r.call_signal ≡ h = same_some _ h (sym (get-with_aliases held r.aliases r.identifier r.call_signal alias own) ∙ e) in (
+      (λ own. let same : holding_by r.identifier r.call_signal ≡ h = same_some _ h
+      (sym (get-with_aliases held r.aliases r.identifier r.call_signal alias own) ∙ e) in (
         r,
         record {
           live_is = ap (fin.get (fin.insert live r.identifier r))
@@ -87,18 +106,28 @@ Agree-insert live held r agree absent free = record { holds = holds; held_by = h
           address_is = sym (ap (λ (x : Holding). x.address) same);
         },
       ))
-      (λ other. let was = sym (get-with_other_aliases held r.aliases r.identifier r.call_signal alias other) ∙ e in
+      (λ other. let was =
+      sym (get-with_other_aliases held r.aliases r.identifier r.call_signal alias other) ∙ e in
       let by = agree.held_by alias h was in
       let apart : h.holder ≢ r.identifier = λ p. some_none
-      (sym by.1.live_is ∙ (ap (fin.get live) p ∙ absent)) in
-      (by.0, record { live_is = c.others h.holder apart ∙ by.1.live_is; has = by.1.has; address_is = by.1.address_is }))
+      (sym by.1.live_is ∙ (ap (fin.get live) p ∙ absent)) in (
+        by.0,
+        record {
+          live_is = c.others h.holder apart
+              ∙ by.1.live_is;
+          has = by.1.has;
+          address_is = by.1.address_is;
+        },
+      ))
 
 -- a registration is rewritten: its aliases go, and the new ones come, which no other endpoint holds
-pub Agree-rewrite : (live : Live) (held : Held) (id : List ℕ) (old new : Registration) (f : Registration → Registration)
+pub Agree-rewrite : (live : Live) (held : Held) (id : List ℕ) (old new : Registration)
+    (f : Registration → Registration)
     → Agree live held → fin.get live id ≡ Some old
     → f old ≡ new → new.identifier ≡ id
     → ((alias : Alias) → Contains new.aliases alias → fin.get (without_holder held id) alias ≡ None)
-    → Agree (update live id f) (with_aliases (without_holder held id) new.aliases id new.call_signal)
+    → Agree (update live id f)
+    (with_aliases (without_holder held id) new.aliases id new.call_signal)
 Agree-rewrite live held id old new f agree there is named free =
     let gone = Agree-remove live held id agree in
     let absent : fin.get (fin.remove live id) new.identifier ≡ None = ap
@@ -108,9 +137,12 @@ Agree-rewrite live held id old new f agree there is named free =
     let map_is : fin.insert (fin.remove live id) new.identifier new ≡ update live id f =
     ap (λ k. fin.insert (fin.remove live id) k new) named
     ∙ (insert_over nat_list_cmp_total exact_bytes live id new
-    ∙ (ap (fin.insert live id) (sym is) ∙ sym (update_there nat_list_cmp_total exact_bytes live id old f there))) in
-    subst (λ (m : Live). Agree m (with_aliases (without_holder held id) new.aliases id new.call_signal)) map_is
-    (subst (λ (k : List ℕ). Agree (fin.insert (fin.remove live id) new.identifier new) (with_aliases (without_holder held id) new.aliases k new.call_signal)) named come)
+    ∙ (ap (fin.insert live id) (sym is)
+    ∙ sym (update_there nat_list_cmp_total exact_bytes live id old f there))) in
+    subst (λ (m : Live). Agree m
+    (with_aliases (without_holder held id) new.aliases id new.call_signal)) map_is
+    (subst (λ (k : List ℕ). Agree (fin.insert (fin.remove live id) new.identifier new)
+    (with_aliases (without_holder held id) new.aliases k new.call_signal)) named come)
 
 -- a registration is changed, and keeps its aliases and its call signal address
 pub Agree-update : (live : Live) (held : Held) (id : List ℕ) (f : Registration → Registration)
@@ -122,7 +154,8 @@ Agree-update live held id f agree same_signal same_aliases = record {
       (let was = was_there live id f i s e in
       let aliases = same_part live id f (λ r. r.aliases) same_aliases i s was.0 was.1 in
       let signal = same_part live id f (λ r. r.call_signal) same_signal i s was.0 was.1 in
-      agree.holds i was.0 alias was.1.there (subst (λ (xs : List Alias). Contains xs alias) aliases has) ∙ ap (λ a. Some (holding_by i a)) (sym signal));
+      agree.holds i was.0 alias was.1.there (subst (λ (xs : List Alias). Contains xs alias) aliases
+      has) ∙ ap (λ a. Some (holding_by i a)) (sym signal));
   held_by = λ alias h e.
       (let by = agree.held_by alias h e in
       by_key nat_list_cmp_total exact_bytes h.holder id
@@ -130,7 +163,9 @@ Agree-update live held id f agree same_signal same_aliases = record {
       (λ p. (
         f by.0,
         record {
-          live_is = ap (fin.get (update live id f)) p ∙ ((Changed-update nat_list_cmp_total exact_bytes live id f).here ∙ ap (option_map f) (ap (fin.get live) (sym p) ∙ by.1.live_is));
+          live_is = ap (fin.get (update live id f)) p
+              ∙ ((Changed-update nat_list_cmp_total exact_bytes live id f).here
+              ∙ ap (option_map f) (ap (fin.get live) (sym p) ∙ by.1.live_is));
           has = subst (λ (xs : List Alias). Contains xs alias) (sym (same_aliases by.0)) by.1.has;
           address_is = by.1.address_is ∙ sym (same_signal by.0);
         },
@@ -138,7 +173,8 @@ Agree-update live held id f agree same_signal same_aliases = record {
       (λ differ. (
         by.0,
         record {
-          live_is = (Changed-update nat_list_cmp_total exact_bytes live id f).others h.holder differ ∙ by.1.live_is;
+          live_is = (Changed-update nat_list_cmp_total exact_bytes live id f).others h.holder differ
+              ∙ by.1.live_is;
           has = by.1.has;
           address_is = by.1.address_is;
         },
@@ -153,9 +189,11 @@ module _ (live : Live) (held : Held) (agree : Agree live held) (address : Addres
   elsewhere_is alias = cases (fin.get held alias) refl where
     cases : (w : Option Holding) → fin.get held alias ≡ w
         → is_elsewhere address w ≡ is_registered_elsewhere live address alias
-    cases None none = sym (no_row_passes nat_list_cmp_total exact_bytes (λ r. has_alias r.aliases alias && not (same_address r.call_signal address)) live
+    cases None none = sym (no_row_passes nat_list_cmp_total exact_bytes
+        (λ r. has_alias r.aliases alias && not (same_address r.call_signal address)) live
         (λ id r there. fails (has_alias r.aliases alias) (not (same_address r.call_signal address))
-        (λ has. some_none (sym (agree.holds id r alias there ((any_decides same_alias alias_decides r.aliases alias).0 has)) ∙ none)))) where
+        (λ has. some_none (sym (agree.holds id r alias there
+        ((any_decides same_alias alias_decides r.aliases alias).0 has)) ∙ none)))) where
           fails : (a b : Bool) → (a ≡ true → ⊥) → (a && b) ≡ false
           fails true b h = absurd (h refl)
           fails false b h = refl
@@ -164,17 +202,22 @@ module _ (live : Live) (held : Held) (agree : Agree live held) (address : Addres
           at : (r : Registration) × IsHolder live alias h r → (b : Bool)
               → same_address h.address address ≡ b
               → not b ≡ is_registered_elsewhere live address alias
-          at by true is = sym (no_row_passes nat_list_cmp_total exact_bytes (λ r. has_alias r.aliases alias && not (same_address r.call_signal address)) live
-              (λ id r live_is. both_fail (has_alias r.aliases alias) (same_address r.call_signal address)
-              (λ has. (let mine = agree.holds id r alias live_is ((any_decides same_alias alias_decides r.aliases alias).0 has) in
+          at by true is = sym (no_row_passes nat_list_cmp_total exact_bytes
+              (λ r. has_alias r.aliases alias && not (same_address r.call_signal address)) live
+              (λ id r live_is. both_fail (has_alias r.aliases alias)
+              (same_address r.call_signal address)
+              (λ has. (let mine = agree.holds id r alias live_is
+              ((any_decides same_alias alias_decides r.aliases alias).0 has) in
               let signal = ap (λ (x : Holding). x.address)
               (same_some h (holding_by id r.call_signal) (sym there ∙ mine)) in
               ap (λ a. same_address a address) (sym signal) ∙ is)))) where
                 both_fail : (a b : Bool) → (a ≡ true → b ≡ true) → (a && not b) ≡ false
                 both_fail true b h = ap not (h refl)
                 both_fail false b h = refl
-          at by false is = sym (any_row nat_list_cmp_total exact_bytes (λ r. has_alias r.aliases alias && not (same_address r.call_signal address)) live h.holder by.0 by.1.live_is
-              (both_true ((any_decides same_alias alias_decides (by.0).aliases alias).1 by.1.has) (ap not (ap (λ a. same_address a address) (sym by.1.address_is) ∙ is)))) where
+          at by false is = sym (any_row nat_list_cmp_total exact_bytes (λ r. has_alias r.aliases
+              alias && not (same_address r.call_signal address)) live h.holder by.0 by.1.live_is
+              (both_true ((any_decides same_alias alias_decides (by.0).aliases alias).1 by.1.has)
+              (ap not (ap (λ a. same_address a address) (sym by.1.address_is) ∙ is)))) where
                 both_true : {a b : Bool} → a ≡ true → b ≡ true → (a && b) ≡ true
                 both_true {b = b} p q = ap (λ x. x && b) p ∙ q
 
@@ -212,17 +255,20 @@ module _ (held : Held) (address : Address) where
         opened true e = refl
         opened false e = absurd (cc e)
 
--- where none of the aliases of a request is held elsewhere, nobody holds one, if nobody has its address
+-- where none of the aliases of a request is held elsewhere, nobody holds one, if nobody has its
+-- address
 pub free_for_new : (live : Live) (held : Held) (address : Address) (aliases : List Alias)
     → Agree live held → at_address live address ≡ None → conflicts held address aliases ≡ []
     → (alias : Alias) → Contains aliases alias → fin.get held alias ≡ None
 free_for_new live held address aliases agree nobody none alias has =
     here_or_nowhere held address alias (fin.get held alias) _
     (not_elsewhere held address aliases none alias has) (λ e. e)
-    (λ h there is. (let by = agree.held_by alias h there in absurd (none_at live address nobody h.holder by.0 by.1.live_is (sym by.1.address_is ∙ is))))
+    (λ h there is. (let by = agree.held_by alias h there in
+    absurd (none_at live address nobody h.holder by.0 by.1.live_is (sym by.1.address_is ∙ is))))
 
 -- and else nobody but who has the address
-pub free_for_old : (live : Live) (held : Held) (address : Address) (aliases : List Alias) (old : Registration)
+pub free_for_old : (live : Live) (held : Held) (address : Address)
+    (aliases : List Alias) (old : Registration)
     → Agree live held → IsConsistent live
     → at_address live address ≡ Some old → conflicts held address aliases ≡ [] → (alias : Alias)
     → Contains aliases alias
@@ -234,4 +280,5 @@ free_for_old live held address aliases old agree sound found none alias has =
     (λ e. get-without_holder held old.identifier alias e)
     (λ h there is. (let by = agree.held_by alias h there in
     get-without_own held old.identifier alias h there
-    (sound.apart h.holder old.identifier by.0 old by.1.live_is at.live_is (sym by.1.address_is ∙ (is ∙ sym at.address_is)))))
+    (sound.apart h.holder old.identifier by.0 old by.1.live_is at.live_is
+    (sym by.1.address_is ∙ (is ∙ sym at.address_is)))))

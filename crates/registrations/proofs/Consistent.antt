@@ -1,5 +1,6 @@
 -- What the changes of the table do to the look-ups by identifier and by call signal address.
-use Rattle.std.proofs.Common.{◌≡◌, ◌≢◌, ℕ, cond, List, refl, sym, ◌∙◌, ap, inl, inr, ◌⊎◌, Some, None}
+use Rattle.std.proofs.Common.{◌≡◌, ◌≢◌, ℕ, cond, List, refl, sym, ◌∙◌, ap, inl, inr, ◌⊎◌, Some}
+use Rattle.std.proofs.Common.{None}
 use Rattle.std.specs.Prelude.{Option}
 use Rattle.std.specs.Option.{option_map}
 use Rattle.std.specs.Ordering.{nat_cmp}
@@ -26,7 +27,8 @@ module _ (live : Live) (sound : IsConsistent live) where
       (λ s. same_address s.call_signal r.call_signal) live id r there
       ((address_decides r.call_signal r.call_signal).1 refl)
       (λ q s other passes.
-      (let same = sound.apart q id s r other there ((address_decides s.call_signal r.call_signal).0 passes) in
+      (let same = sound.apart q id s r other there
+      ((address_decides s.call_signal r.call_signal).0 passes) in
       same_some s r (sym other ∙ (ap (fin.get live) same ∙ there))))
 
   -- nobody is found where no registration has the address
@@ -35,7 +37,8 @@ module _ (live : Live) (sound : IsConsistent live) where
       → at_address live address ≡ None
   at_address-none address none =
       find_none nat_list_cmp_total exact_bytes (λ s. same_address s.call_signal address) live
-      (λ id r there. test_false (same_address r.call_signal address) (address_decides r.call_signal address) (none id r there))
+      (λ id r there. test_false (same_address r.call_signal address)
+      (address_decides r.call_signal address) (none id r there))
 
 -- who is found by an address is live, and has it
 pub record IsAt (live : Live) (address : Address) (r : Registration) : Type 0 where
@@ -56,7 +59,8 @@ pub none_at : (live : Live) (address : Address) → at_address live address ≡ 
     → (id : List ℕ) (r : Registration) → fin.get live id ≡ Some r → r.call_signal ≢ address
 none_at live address none id r there is =
     some_none (sym (ap (λ b. cond b (Some r) None) ((address_decides r.call_signal address).1 is))
-    ∙ ap (λ b. cond b (Some r) None) (find_fails nat_list_cmp_total exact_bytes (λ s. same_address s.call_signal address) live none id r there))
+    ∙ ap (λ b. cond b (Some r) None) (find_fails nat_list_cmp_total exact_bytes
+    (λ s. same_address s.call_signal address) live none id r there))
 
 -- nothing is registered
 pub IsConsistent-empty : IsConsistent fin.empty
@@ -80,9 +84,11 @@ IsConsistent-insert live r sound absent free =
           (λ differ. sound.own id s (sym (c.others id differ) ∙ e));
       apart = λ i j s t p q e. by_key nat_list_cmp_total exact_bytes i r.identifier (i ≡ j)
           (λ a. by_key nat_list_cmp_total exact_bytes j r.identifier (i ≡ j) (λ b. a ∙ sym b)
-          (λ b. absurd (none_at live r.call_signal free j t (sym (c.others j b) ∙ q) (sym e ∙ sym (ap (λ (x : Registration). x.call_signal) (here i s a p))))))
+          (λ b. absurd (none_at live r.call_signal free j t (sym (c.others j b) ∙ q) (sym e
+          ∙ sym (ap (λ (x : Registration). x.call_signal) (here i s a p))))))
           (λ a. by_key nat_list_cmp_total exact_bytes j r.identifier (i ≡ j)
-          (λ b. absurd (none_at live r.call_signal free i s (sym (c.others i a) ∙ p) (e ∙ sym (ap (λ (x : Registration). x.call_signal) (here j t b q)))))
+          (λ b. absurd (none_at live r.call_signal free i s (sym (c.others i a) ∙ p) (e
+          ∙ sym (ap (λ (x : Registration). x.call_signal) (here j t b q)))))
           (λ b. sound.apart i j s t (sym (c.others i a) ∙ p) (sym (c.others j b) ∙ q) e));
     }
 
@@ -117,17 +123,20 @@ mapped : {A : Type 0} (w : Option A) (f : A → A) (s : A) → option_map f w �
 mapped None f s e = some_none (sym e)
 mapped (Some r) f s e = (r, refl, sym (same_some (f r) s e))
 
-pub was_there : (live : Live) (id : List ℕ) (f : Registration → Registration) (i : List ℕ) (s : Registration)
+pub was_there : (live : Live) (id : List ℕ)
+    (f : Registration → Registration) (i : List ℕ) (s : Registration)
     → fin.get (update live id f) i ≡ Some s
     → (r : Registration) × WasThere live id f i s r
 was_there live id f i s e =
     let c = Changed-update nat_list_cmp_total exact_bytes live id f in
     by_key nat_list_cmp_total exact_bytes i id ((r : Registration) × WasThere live id f i s r)
-    (λ p. let was = mapped (fin.get live id) f s (sym c.here ∙ (ap (fin.get (update live id f)) (sym p) ∙ e)) in
+    (λ p. let was =
+    mapped (fin.get live id) f s (sym c.here ∙ (ap (fin.get (update live id f)) (sym p) ∙ e)) in
     (was.0, record { there = ap (fin.get live) p ∙ was.1; is = inr (p, was.2) }))
     (λ differ. (s, record { there = sym (c.others i differ) ∙ e; is = inl refl }))
 
-pub same_part : {A : Type 0} (live : Live) (id : List ℕ) (f : Registration → Registration) (part : Registration → A)
+pub same_part : {A : Type 0} (live : Live) (id : List ℕ)
+    (f : Registration → Registration) (part : Registration → A)
     → ((r : Registration) → part (f r) ≡ part r)
     → (i : List ℕ) (s r : Registration) → WasThere live id f i s r → part s ≡ part r
 same_part live id f part keeps i s r was = elim was.is [
@@ -139,11 +148,13 @@ pub IsConsistent-update : (live : Live) (id : List ℕ) (f : Registration → Re
     → IsConsistent live → KeepsNames f → IsConsistent (update live id f)
 IsConsistent-update live id f sound keeps = record {
   own = λ i s e. (let was = was_there live id f i s e in
-      same_part live id f (λ r. r.identifier) keeps.identifier i s was.0 was.1 ∙ sound.own i was.0 was.1.there);
+      same_part live id f (λ r. r.identifier) keeps.identifier i s was.0 was.1
+      ∙ sound.own i was.0 was.1.there);
   apart = λ i j s t p q e. (let a = was_there live id f i s p in
       let b = was_there live id f j t q in
       sound.apart i j a.0 b.0 a.1.there b.1.there
-      (sym (same_part live id f (λ r. r.call_signal) keeps.call_signal i s a.0 a.1) ∙ (e ∙ same_part live id f (λ r. r.call_signal) keeps.call_signal j t b.0 b.1)));
+      (sym (same_part live id f (λ r. r.call_signal) keeps.call_signal i s a.0 a.1)
+      ∙ (e ∙ same_part live id f (λ r. r.call_signal) keeps.call_signal j t b.0 b.1)));
 }
 
 -- who is found by an address after each change
@@ -171,11 +182,16 @@ module _ (live : Live) (sound : IsConsistent live) where
         let other : s.identifier ≢ r.identifier = λ e. some_none
         (sym at.live_is ∙ (ap (fin.get live) e ∙ absent)) in
         ap (at_address (fin.insert live r.identifier r)) (sym at.address_is)
-        ∙ at_address-live (fin.insert live r.identifier r) next s.identifier s ((Changed-insert nat_list_cmp_total exact_bytes live r.identifier r).others s.identifier other ∙ at.live_is)
+        ∙ at_address-live (fin.insert live r.identifier r) next s.identifier s
+        ((Changed-insert nat_list_cmp_total exact_bytes live r.identifier r).others
+        s.identifier other ∙ at.live_is)
     cases None none = at_address-none (fin.insert live r.identifier r) next address (λ i s there.
         by_key nat_list_cmp_total exact_bytes i r.identifier (s.call_signal ≢ address)
-        (λ p is. differ (ap (λ (x : Registration). x.call_signal) (same_some r s (sym (Changed-insert nat_list_cmp_total exact_bytes live r.identifier r).here ∙ (ap (fin.get (fin.insert live r.identifier r)) (sym p) ∙ there))) ∙ is))
-        (λ other. none_at live address none i s (sym ((Changed-insert nat_list_cmp_total exact_bytes live r.identifier r).others i other) ∙ there)))
+        (λ p is. differ (ap (λ (x : Registration). x.call_signal) (same_some r s
+        (sym (Changed-insert nat_list_cmp_total exact_bytes live r.identifier r).here
+        ∙ (ap (fin.get (fin.insert live r.identifier r)) (sym p) ∙ there))) ∙ is))
+        (λ other. none_at live address none i s (sym ((Changed-insert nat_list_cmp_total exact_bytes
+        live r.identifier r).others i other) ∙ there)))
 
   pub at_address-remove : (id : List ℕ) (address : Address) (r : Registration)
       → at_address live address ≡ Some r → r.identifier ≡ id
@@ -187,7 +203,8 @@ module _ (live : Live) (sound : IsConsistent live) where
       (λ i s there is.
       by_key nat_list_cmp_total exact_bytes i id ⊥
       (λ p. some_none (sym there ∙ (ap (fin.get (fin.remove live id)) p ∙ c.here)))
-      (λ differ. differ (sound.apart i r.identifier s r (sym (c.others i differ) ∙ there) at.live_is (is ∙ sym at.address_is) ∙ same)))
+      (λ differ. differ (sound.apart i r.identifier s r (sym (c.others i differ) ∙ there) at.live_is
+      (is ∙ sym at.address_is) ∙ same)))
 
   pub at_address-remove_others : (id : List ℕ) (address : Address)
       → ((r : Registration) → at_address live address ≡ Some r → r.identifier ≢ id)
@@ -201,11 +218,15 @@ module _ (live : Live) (sound : IsConsistent live) where
     cases (Some r) found =
         let at = IsAt-found live sound address r found in
         ap (at_address (fin.remove live id)) (sym at.address_is)
-        ∙ at_address-live (fin.remove live id) next r.identifier r ((Changed-remove nat_list_cmp_total exact_bytes live id).others r.identifier (other r found) ∙ at.live_is)
+        ∙ at_address-live (fin.remove live id) next r.identifier r
+        ((Changed-remove nat_list_cmp_total exact_bytes live id).others r.identifier
+        (other r found) ∙ at.live_is)
     cases None none = at_address-none (fin.remove live id) next address (λ i s there.
         by_key nat_list_cmp_total exact_bytes i id (s.call_signal ≢ address)
-        (λ p. some_none (sym there ∙ (ap (fin.get (fin.remove live id)) p ∙ (Changed-remove nat_list_cmp_total exact_bytes live id).here)))
-        (λ differ. none_at live address none i s (sym ((Changed-remove nat_list_cmp_total exact_bytes live id).others i differ) ∙ there)))
+        (λ p. some_none (sym there ∙ (ap (fin.get (fin.remove live id)) p
+        ∙ (Changed-remove nat_list_cmp_total exact_bytes live id).here)))
+        (λ differ. none_at live address none i s (sym
+        ((Changed-remove nat_list_cmp_total exact_bytes live id).others i differ) ∙ there)))
 
   module _ (id : List ℕ) (f : Registration → Registration) (keeps : KeepsNames f) where
     pub at_address-update : (address : Address) (r : Registration)
@@ -232,7 +253,10 @@ module _ (live : Live) (sound : IsConsistent live) where
       cases (Some r) found =
           let at = IsAt-found live sound address r found in
           ap (at_address (update live id f)) (sym at.address_is)
-          ∙ at_address-live (update live id f) next r.identifier r ((Changed-update nat_list_cmp_total exact_bytes live id f).others r.identifier (other r found) ∙ at.live_is)
+          ∙ at_address-live (update live id f) next r.identifier r
+          ((Changed-update nat_list_cmp_total exact_bytes live id f).others r.identifier
+          (other r found) ∙ at.live_is)
       cases None none = at_address-none (update live id f) next address (λ i s there is.
           (let was = was_there live id f i s there in
-          none_at live address none i was.0 was.1.there (sym (same_part live id f (λ r. r.call_signal) keeps.call_signal i s was.0 was.1) ∙ is)))
+          none_at live address none i was.0 was.1.there (sym
+          (same_part live id f (λ r. r.call_signal) keeps.call_signal i s was.0 was.1) ∙ is)))

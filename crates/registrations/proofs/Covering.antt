@@ -1,5 +1,7 @@
 -- Of more numbers than there are texts, one is not among them.
-use Rattle.std.proofs.Common.{◌≡◌, ◌≢◌, ℕ, zero, suc, ◌+◌, ◌<◌, ◌≤◌, ◌==◌, Bool, true, false, not, ◌||◌, List, [], ◌∷◌, ◌++◌, length, map, nat_eq, refl, ◌∙◌, ap, subst, arith}
+use Rattle.std.proofs.Common.{◌≡◌, ◌≢◌, ℕ, zero, suc, ◌+◌, ◌<◌, ◌≤◌, ◌==◌, Bool, true, false, not}
+use Rattle.std.proofs.Common.{◌||◌, List, [], ◌∷◌, ◌++◌, length, map, nat_eq, refl, ◌∙◌, ap, subst}
+use Rattle.std.proofs.Common.{arith}
 use Rattle.std.specs.Prelude.{filter, Contains}
 use Rattle.std.specs.List.{list_any}
 use Rattle.std.specs.Cmp.Lexicographic.{pointwise}
@@ -8,7 +10,7 @@ use Rattle.std.proofs.lemmas.List.{length-map, length-append}
 use Rattle.keyed.proofs.Decide.{any_decides}
 use Rattle.ras_module.specs.Same.{texts_decide}
 use Rattle.registrations.specs.declared.registration.Registration.{Registration}
-use Rattle.registrations.specs.Numbers.{number_of}
+use Rattle.registrations.specs.inside.Numbers.{number_of}
 use Rattle.registrations.specs.Registry.{identifier_of}
 
 abbrev pub has_number : List ℕ → ℕ → Bool
@@ -39,7 +41,12 @@ covers start zero ns each = omega arith
 covers start (suc n) ns each =
     let here : has_number ns (start + n) ≡ true = each n (omega arith) in
     let fewer = length-without_one (start + n) ns here in
-    omega (arith, fewer, covers start n (without (start + n) ns) (λ k below. has-without (start + n) (start + k) ns (λ e. omega arith) (each k (omega arith))))
+    omega (
+      arith,
+      fewer,
+      covers start n (without (start + n) ns) (λ k below. has-without (start + n) (start + k) ns
+          (λ e. omega arith) (each k (omega arith))),
+    )
 
 either : (a b c d : Bool) → (a ≡ true → c ≡ true) → (b ≡ true → d ≡ true) → (a || b) ≡ true
     → (c || d) ≡ true
@@ -55,7 +62,8 @@ has_its_number : (ids : List (List ℕ)) (id : List ℕ) → has_id ids id ≡ t
 has_its_number [] id has = has
 has_its_number (i ∷ ids) id has =
     either (pointwise nat_eq i id) (has_id ids id) (number_of i == number_of id) _
-    (λ same. (Decides-eqb (number_of i) (number_of id)).1 (ap number_of ((texts_decide i id).0 same)))
+    (λ same. (Decides-eqb (number_of i) (number_of id)).1
+    (ap number_of ((texts_decide i id).0 same)))
     (has_its_number ids id) has
 
 -- all identifiers that are not to be handed out
@@ -67,7 +75,8 @@ or_assoc true b c = refl
 or_assoc false b c = refl
 
 used_any : (rows : List Registration) (taken : List (List ℕ)) (id : List ℕ)
-    → has_id (used rows taken) id ≡ (list_any (λ r. pointwise nat_eq r.identifier id) rows || has_id taken id)
+    → has_id (used rows taken) id
+    ≡ (list_any (λ r. pointwise nat_eq r.identifier id) rows || has_id taken id)
 used_any [] taken id = refl
 used_any (r ∷ rows) taken id =
     ap (λ b. pointwise nat_eq r.identifier id || b) (used_any rows taken id)
@@ -85,12 +94,19 @@ number_used rows taken id n is has =
 
 -- of one number more than there are texts, not all can be used
 pub not_all : (rows : List Registration) (taken : List (List ℕ)) (start : ℕ)
-    → ((k : ℕ) → k < length rows + length taken + 1 → has_number (map number_of (used rows taken)) (start + k) ≡ true)
+    → ((k : ℕ) → k < length rows + length taken + 1
+    → has_number (map number_of (used rows taken)) (start + k) ≡ true)
     → ⊥
 not_all rows taken start each =
     let most = covers start (length rows + length taken + 1)
     (map number_of (used rows taken)) each in
-    omega (arith, most, length-map (used rows taken) number_of, length-append (map identifier_of rows) taken, length-map rows identifier_of)
+    omega (
+      arith,
+      most,
+      length-map (used rows taken) number_of,
+      length-append (map identifier_of rows) taken,
+      length-map rows identifier_of,
+    )
 
 -- what the test doesn't find is not in the list
 pub not_among : (ids : List (List ℕ)) (id : List ℕ) → has_id ids id ≡ false → Contains ids id → ⊥

@@ -1,11 +1,12 @@
 -- Numbers in decimal digits.
-use Rattle.std.proofs.Common.{◌≡◌, ℕ, suc, ◌+◌, ◌-◌, ◌*◌, ◌^◌, ◌/◌, ◌%◌, ◌<◌, ◌≤◌, List, ◌∷◌, length, drop, get_or, refl, sym, ◌∙◌, ap, arith, add-one, zero-mul}
+use Rattle.std.proofs.Common.{◌≡◌, ℕ, suc, ◌+◌, ◌-◌, ◌*◌, ◌^◌, ◌/◌, ◌%◌, ◌<◌, ◌≤◌, List, ◌∷◌}
+use Rattle.std.proofs.Common.{length, drop, get_or, refl, sym, ◌∙◌, ap, arith, add-one, zero-mul}
 use Rattle.std.proofs.Math.ListN.{set}
 use Rattle.std.specs.Prelude.{SomeIff, Option, Some, None, IsSome}
 use Rattle.std.proofs.Math.Seq.{drop-cons}
 use Rattle.std.proofs.Math.Nat.{pow-succ'}
 use Rattle.std.proofs.lemmas.List.{drop-set, length-drop}
-use Rattle.registrations.specs.Numbers.{number_of}
+use Rattle.registrations.specs.inside.Numbers.{number_of}
 use Rattle.ras_module.specs.Texts.{IsText}
 
 one_digit : (r k : ℕ) → (r % 10) * 10 ^ k + (r / 10) * 10 ^ (k + 1) ≡ r * 10 ^ k

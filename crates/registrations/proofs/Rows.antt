@@ -1,6 +1,9 @@
 -- Registrations in rows, and the finite map that they make.
-use Rattle.std.proofs.Common.{Bor, ◌≡◌, ◌≢◌, ◌<◌, ◌≤◌, ◌+◌, ℕ, Bool, true, false, List, [], ◌∷◌, ◌++◌, length, get_or, nat_eq, refl, sym, ◌∙◌, ap, subst, cond, zero, suc, ◌||◌, Some, None, arith}
-use Rattle.std.specs.Prelude.{Option, slice_get, remove, MatchOption, position, IsSome, IfSome, nat_le}
+use Rattle.std.proofs.Common.{Bor, ◌≡◌, ◌≢◌, ◌<◌, ◌≤◌, ◌+◌, ℕ, Bool, true, false, List, [], ◌∷◌}
+use Rattle.std.proofs.Common.{◌++◌, length, get_or, nat_eq, refl, sym, ◌∙◌, ap, subst, cond, zero}
+use Rattle.std.proofs.Common.{suc, ◌||◌, Some, None, arith}
+use Rattle.std.specs.Prelude.{Option, slice_get, remove, MatchOption, position, IsSome, IfSome}
+use Rattle.std.specs.Prelude.{nat_le}
 use Rattle.std.proofs.Math.ListN.{set}
 use Rattle.std.specs.Option.{option_map, option_copied}
 use Rattle.std.specs.List.{find as find_first, list_any}
@@ -16,14 +19,17 @@ use Rattle.keyed.specs.Places.{row_in, IsPlaceOf}
 use Rattle.keyed.proofs.Decide.{some_none, same_some}
 use Rattle.keyed.proofs.Maps.{update_there}
 use Rattle.keyed.proofs.Places.{AreApart-put, AreApart-set}
-use Rattle.keyed.proofs.Rows.{Changed-push, Changed-set, IsMapOf-rows, AreApart-remove, map_push, map_set, map_remove, len_rows, none_there, find_rows, FindsIn, finds_in}
+use Rattle.keyed.proofs.Rows.{Changed-push, Changed-set, IsMapOf-rows, AreApart-remove, map_push}
+use Rattle.keyed.proofs.Rows.{map_set, map_remove, len_rows, none_there, find_rows, FindsIn}
+use Rattle.keyed.proofs.Rows.{finds_in}
 use Rattle.keyed.proofs.Searches.{find_key, key_place, placed_row}
 use Rattle.ras_module.specs.declared.address.Address.{Address}
 use Rattle.ras_module.specs.Addresses.{same_address}
 use Rattle.ras_module.specs.Same.{texts_decide, address_decides}
 use Rattle.registrations.specs.declared.registration.Registration.{Registration}
-use Rattle.registrations.specs.Registry.{Live, live_of, at_address, identifier_of, call_signal_of, IsConsistent}
-use Rattle.registrations.specs.Stored.{IsTable}
+use Rattle.registrations.specs.Registry.{Live, live_of, at_address, identifier_of, call_signal_of}
+use Rattle.registrations.specs.Registry.{IsConsistent}
+use Rattle.registrations.specs.inside.Stored.{IsTable}
 
 same_option : {A : Type 0} (w : Option A) → option_map (λ x. x) w ≡ w
 same_option None = refl
@@ -38,7 +44,8 @@ get_row rows id =
     (pointwise nat_eq) texts_decide id rows
 
 pub row_place : (rows : List Registration) (id : List ℕ)
-    → MatchOption (position (λ r. pointwise nat_eq r.identifier id) rows) (fin.get (live_of rows) id ≡ None) (IsPlaceOf identifier_of id rows)
+    → MatchOption (position (λ r. pointwise nat_eq r.identifier id) rows)
+    (fin.get (live_of rows) id ≡ None) (IsPlaceOf identifier_of id rows)
 row_place rows id = key_place nat_list_cmp_total exact_bytes identifier_of (λ r. r)
     (pointwise nat_eq) texts_decide id rows
 
@@ -46,8 +53,10 @@ row_place rows id = key_place nat_list_cmp_total exact_bytes identifier_of (λ r
 pub address_row : (rows : List Registration) (most lowest : ℕ) (address : Address)
     → IsTable rows most lowest
     → find_first (λ r. same_address r.call_signal address) rows ≡ at_address (live_of rows) address
-address_row rows most lowest address table = sym (find_rows nat_list_cmp_total exact_bytes identifier_of (λ r. same_address r.call_signal address) rows table.ids
-    (λ i j r s p q here there. table.addresses.apart i j r s p q ((address_decides r.call_signal address).0 here ∙ sym ((address_decides s.call_signal address).0 there))))
+address_row rows most lowest address table = sym (find_rows nat_list_cmp_total exact_bytes
+    identifier_of (λ r. same_address r.call_signal address) rows table.ids
+    (λ i j r s p q here there. table.addresses.apart i j r s p q ((address_decides r.call_signal
+    address).0 here ∙ sym ((address_decides s.call_signal address).0 there))))
 
 pub len_live : (rows : List Registration) (most lowest : ℕ) → IsTable rows most lowest
     → fin.len (live_of rows) ≡ length rows
@@ -58,13 +67,15 @@ len_live rows most lowest table = len_rows nat_list_cmp_total exact_bytes identi
 pub row_live : (rows : List Registration) (most lowest i : ℕ) (r : Registration)
     → IsTable rows most lowest → slice_get rows i ≡ Some r
     → fin.get (live_of rows) r.identifier ≡ Some r
-row_live rows most lowest i r table there = (IsMapOf-rows nat_list_cmp_total exact_bytes identifier_of (λ r. r) rows table.ids).has i r there
+row_live rows most lowest i r table there = (IsMapOf-rows nat_list_cmp_total exact_bytes
+    identifier_of (λ r. r) rows table.ids).has i r there
 
 pub live_row : (rows : List Registration) (most lowest : ℕ) (id : List ℕ) (r : Registration)
     → IsTable rows most lowest → fin.get (live_of rows) id ≡ Some r
     → (i : ℕ) × (slice_get rows i ≡ Some r) × (r.identifier ≡ id)
 live_row rows most lowest id r table found =
-    let s = (IsMapOf-rows nat_list_cmp_total exact_bytes identifier_of (λ r. r) rows table.ids).stands id r found in
+    let s = (IsMapOf-rows nat_list_cmp_total exact_bytes identifier_of
+    (λ r. r) rows table.ids).stands id r found in
     (s.0, s.2.there ∙ ap Some s.2.value_is, sym (ap identifier_of s.2.value_is) ∙ s.2.key_is)
 
 pub IsConsistent-rows : (rows : List Registration) (most lowest : ℕ) → IsTable rows most lowest
@@ -86,7 +97,8 @@ pub record IsRowOf (rows : List Registration) (live : Live) (id : List ℕ) (i :
   pub id_is : r.identifier ≡ id
   pub found : fin.get live id ≡ Some r
 
-pub IsRowOf-place : (rows : List Registration) (most lowest : ℕ) (live : Live) (id : List ℕ) (i : ℕ) (r : Registration)
+pub IsRowOf-place : (rows : List Registration) (most lowest : ℕ) (live : Live) (id : List ℕ)
+    (i : ℕ) (r : Registration)
     → IsTable rows most lowest → live_of rows ≡ live
     → IsPlaceOf identifier_of id rows i → r ≡ get_or rows i r → IsRowOf rows live id i r
 IsRowOf-place rows most lowest live id i r table is place read =
@@ -118,14 +130,16 @@ IsTable-write rows most lowest i old new table there id call_signal =
       low = table.low;
     }
 
-pub live_write : (rows : List Registration) (most lowest : ℕ) (live : Live) (id : List ℕ) (i : ℕ) (old : Registration) (f : Registration → Registration)
+pub live_write : (rows : List Registration) (most lowest : ℕ) (live : Live) (id : List ℕ) (i : ℕ)
+    (old : Registration) (f : Registration → Registration)
     → IsTable rows most lowest → live_of rows ≡ live → IsRowOf rows live id i old
     → (f old).identifier ≡ old.identifier
     → live_of (set rows i (f old)) ≡ update live id f
 live_write rows most lowest live id i old f table is row keeps =
     map_set nat_list_cmp_total exact_bytes identifier_of (λ r. r) rows i old (f old) table.ids
     (slice_get_within rows i old row.there) row.there keeps
-    ∙ ((λ k. fin.insert (is k) ((keeps ∙ row.id_is) k) (f old)) ∙ sym (update_there nat_list_cmp_total exact_bytes live id old f row.found))
+    ∙ ((λ k. fin.insert (is k) ((keeps ∙ row.id_is) k) (f old))
+    ∙ sym (update_there nat_list_cmp_total exact_bytes live id old f row.found))
 
 -- no row has an address that a search doesn't find
 no_address : (rows : List Registration) (address : Address)
@@ -134,7 +148,8 @@ no_address : (rows : List Registration) (address : Address)
 no_address [] address none j s there is = some_none (sym there)
 no_address (x ∷ rows) address none j s there is = cases (no_address rows address)
     (same_address x.call_signal address) refl none j s there is where
-      cases : (find_first (λ r. same_address r.call_signal address) rows ≡ None → (j : ℕ) (s : Registration) → slice_get rows j ≡ Some s → s.call_signal ≢ address)
+      cases : (find_first (λ r. same_address r.call_signal address) rows ≡ None
+          → (j : ℕ) (s : Registration) → slice_get rows j ≡ Some s → s.call_signal ≢ address)
           → (b : Bool) → same_address x.call_signal address ≡ b
           → cond b (Some x) (find_first (λ r. same_address r.call_signal address) rows) ≡ None
           → (j : ℕ) (s : Registration) → slice_get (x ∷ rows) j ≡ Some s → s.call_signal ≢ address
@@ -142,7 +157,11 @@ no_address (x ∷ rows) address none j s there is = cases (no_address rows addre
       cases rest false is e = each (rest e) where
         each : ((j : ℕ) (s : Registration) → slice_get rows j ≡ Some s → s.call_signal ≢ address)
             → (j : ℕ) (s : Registration) → slice_get (x ∷ rows) j ≡ Some s → s.call_signal ≢ address
-        each rest zero s there same = cc (is, (address_decides x.call_signal address).1 (ap call_signal_of (same_some x s there) ∙ same))
+        each rest zero s there same = cc (
+          is,
+          (address_decides x.call_signal address).1
+              (ap call_signal_of (same_some x s there) ∙ same),
+        )
         each rest (suc j) s there same = rest j s there same
 
 -- a row is pushed
@@ -155,10 +174,12 @@ IsTable-push rows most lowest low r table absent free room lowers =
     record {
       ids = AreApart-put identifier_of (row_in rows) (row_in (rows ++ r ∷ []))
           (length rows) r table.ids
-          (none_there nat_list_cmp_total exact_bytes identifier_of (λ r. r) rows table.ids r.identifier absent) c;
+          (none_there nat_list_cmp_total exact_bytes identifier_of
+          (λ r. r) rows table.ids r.identifier absent) c;
       addresses = AreApart-put call_signal_of (row_in rows) (row_in (rows ++ r ∷ []))
           (length rows) r table.addresses
-          (no_address rows r.call_signal (address_row rows most lowest r.call_signal table ∙ free)) c;
+          (no_address rows r.call_signal
+          (address_row rows most lowest r.call_signal table ∙ free)) c;
       few = omega (arith, length-append rows (r ∷ []), table.few, room);
       most_few = table.most_few;
       low = lowers;
@@ -188,7 +209,8 @@ length-remove [] (suc i) = omega arith
 length-remove (r ∷ rows) zero = omega arith
 length-remove (r ∷ rows) (suc i) = omega (arith, length-remove rows i)
 
-pub live_remove : (rows : List Registration) (most lowest : ℕ) (live : Live) (id : List ℕ) (i : ℕ) (old : Registration)
+pub live_remove : (rows : List Registration) (most lowest : ℕ) (live : Live) (id : List ℕ)
+    (i : ℕ) (old : Registration)
     → IsTable rows most lowest → live_of rows ≡ live
     → IsRowOf rows live id i old → live_of (remove rows i) ≡ fin.remove live id
 live_remove rows most lowest live id i old table is row =
@@ -206,7 +228,8 @@ none_named rows id none = sym (get_row rows id) ∙ no_row rows none where
   no_row [] h = refl
   no_row (r ∷ rows) h = cases (pointwise nat_eq r.identifier id) (no_row rows) h where
     cases : (b : Bool)
-        → (list_any (λ r. pointwise nat_eq r.identifier id) rows ≡ false → find_first (λ r. pointwise nat_eq r.identifier id) rows ≡ None)
+        → (list_any (λ r. pointwise nat_eq r.identifier id) rows ≡ false
+        → find_first (λ r. pointwise nat_eq r.identifier id) rows ≡ None)
         → (b || list_any (λ r. pointwise nat_eq r.identifier id) rows) ≡ false
         → cond b (Some r) (find_first (λ r. pointwise nat_eq r.identifier id) rows) ≡ None
     cases true rest h = absurd (cc h)

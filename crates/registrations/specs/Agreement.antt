@@ -16,8 +16,8 @@ pub record IsHolder (live : Live) (alias : Alias) (h : Holding) (r : Registratio
   pub has : Contains r.aliases alias
   pub address_is : h.address ≡ r.call_signal
 
--- each alias of a registration is held by it, at its call signal address, and each alias that is held
--- is one of its holder's
+-- each alias of a registration is held by it, at its call signal address, and each alias that is
+-- held is one of its holder's
 pub record Agree (live : Live) (held : Held) : Type 0 where
   pub holds : (id : List ℕ) (r : Registration) (alias : Alias)
       → get live id ≡ Some r → Contains r.aliases alias

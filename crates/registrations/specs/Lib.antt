@@ -1,4 +1,3 @@
 pub mod Registry
-pub mod Stored
-pub mod Numbers
 pub mod Agreement
+pub mod inside

@@ -2,7 +2,7 @@
 
 ghost use Rattle.std.specs.Prelude.{◌≡◌, ◌≤◌, ◌<◌, ◌-◌, ℕ, length, drop, slice_index};
 ghost use Rattle.ras_module.specs.Texts.{IsText};
-ghost use Rattle.registrations.specs.Numbers.{number_of};
+ghost use Rattle.registrations.specs.inside.Numbers.{number_of};
 
 use ras_module::{BmpString, EndpointId};
 

@@ -35,7 +35,7 @@ impl Model for Registrations {
     ghost use Rattle.std.specs.Coded.{codes};
     ghost use Rattle.std.specs.FinMap as map;
     ghost use Rattle.registrations.specs.Registry.{Registry, live_of};
-    ghost use Rattle.registrations.specs.Stored.{IsTable};
+    ghost use Rattle.registrations.specs.inside.Stored.{IsTable};
 
     ghost Value = { Registry };
 

@@ -2,7 +2,7 @@ use Rattle.std.proofs.Common.{◌≡◌, sym, ◌∙◌, subst, None, ap, arith}
 use Rattle.std.specs.Prelude.{slice_get}
 use Rattle.keyed.proofs.Decide.{by_place, some_none, same_some}
 use Rattle.registrations.specs.declared.registration.Registration.{Registration}
-use Rattle.expiry.specs.Searched.{item_of}
+use Rattle.expiry.specs.inside.Searched.{item_of}
 use Rattle.expiry.proofs.Endpoints.{none_due}
 use Rattle.expiry.proofs.due_search.endpoint_due.Goals as goal
 use Rattle.expiry.proofs.due_search.endpoint_due.Goals.{in-Some+in_default-item_of, in_default}

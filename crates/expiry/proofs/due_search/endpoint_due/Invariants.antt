@@ -1,7 +1,7 @@
 use Rattle.std.proofs.Common.{◌≡◌, ℕ, ◌<◌, Some, None}
 use Rattle.std.specs.Prelude.{slice_get}
 use Rattle.registrations.specs.declared.registration.Registration.{Registration}
-use Rattle.expiry.specs.Searched.{item_of}
+use Rattle.expiry.specs.inside.Searched.{item_of}
 use Rattle.expiry.proofs.due_search.endpoint_due.Given as goal
 
 abbrev pub invariant-loop-i : goal.invariant-loop-i

@@ -1,5 +1,5 @@
 use Rattle.std.proofs.Common.{◌≡◌, ◌++◌}
-use Rattle.kept_replies.specs.Stored.{identifiers_of}
+use Rattle.kept_replies.specs.inside.Stored.{identifiers_of}
 use Rattle.kept_replies.proofs.searches.identifiers_in.Given as goal
 
 abbrev pub invariant-loop-key : goal.invariant-loop-key

@@ -4,7 +4,9 @@ use Rattle.registrations.proofs.Rows.{none_named}
 use Rattle.registrations.proofs.fresh.unused_from.Goals as goal
 
 pub loop-n-preserved : goal.loop-n-preserved
-loop-n-preserved c = below_more _ _ c.loop-n.invariant (number_used c.args.items.now c.args.taken.now c.numbered-id.result (c.args.start + c.loop-n.n) c.numbered-id.ensures.number (sym c.is_used.ensures ∙ c.if-not-is_used.false))
+loop-n-preserved c = below_more _ _ c.loop-n.invariant (number_used c.args.items.now
+    c.args.taken.now c.numbered-id.result (c.args.start + c.loop-n.n) c.numbered-id.ensures.number
+    (sym c.is_used.ensures ∙ c.if-not-is_used.false))
 
 pub returns-then-not-is_used : goal.returns-then-not-is_used
 returns-then-not-is_used c =

@@ -12,7 +12,9 @@ use Rattle.registrations.proofs.list.rising.Goals as goal
 pub returns : goal.returns
 returns c =
     let up : IsSortedByKey identifier_of (slice_cmp nat_cmp) c.sort_unstable_by_key.new.self.items =
-    c.sort_unstable_by_key.ensures.sorted identifier_of (always_returns_same _ (λ a r. r ≡ identifier_of a.0.now) _ (λ a r f' called. search rules)) in
-    let moved : IsPermutation c.args.items.now c.sort_unstable_by_key.new.self.items = rw c.in_ok-copies.ensures at c.sort_unstable_by_key.ensures.permutation in
+    c.sort_unstable_by_key.ensures.sorted identifier_of (always_returns_same _
+    (λ a r. r ≡ identifier_of a.0.now) _ (λ a r f' called. search rules)) in
+    let moved : IsPermutation c.args.items.now c.sort_unstable_by_key.new.self.items =
+    rw c.in_ok-copies.ensures at c.sort_unstable_by_key.ensures.permutation in
     sorted_rows nat_list_cmp_total exact_bytes identifier_of (λ r. r) c.args.items.now
     c.sort_unstable_by_key.new.self.items c.requires moved up

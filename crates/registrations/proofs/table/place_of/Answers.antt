@@ -8,5 +8,6 @@ use Rattle.registrations.proofs.table.place_of.Goals as goal
 
 pub returns : goal.returns
 returns c =
-    subst (λ (o : Option ℕ). MatchOption o (map.get (live_of c.args.items.now) c.args.id.now ≡ None) (IsPlaceOf identifier_of c.args.id.now c.args.items.now))
+    subst (λ (o : Option ℕ). MatchOption o (map.get (live_of c.args.items.now) c.args.id.now ≡ None)
+    (IsPlaceOf identifier_of c.args.id.now c.args.items.now))
     (sym c.index_of.ensures) (row_place c.args.items.now c.args.id.now)

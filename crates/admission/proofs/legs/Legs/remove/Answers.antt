@@ -6,11 +6,16 @@ use Rattle.admission.specs.Legs.{AreLegs, without_leg, has_other}
 use Rattle.admission.proofs.LegLemmas.{AreLegs-remove}
 use Rattle.admission.proofs.legs.Legs.remove.Goals as goal
 
-left : (c : goal.After-retain) → c.retain.new.self.items ≡ without_leg c.self.inside.items.items c.args.endpoint.now
-left c = filter-from_retain _ (λ (leg : Leg). not (pointwise nat_eq leg.endpoint c.args.endpoint.now)) _ (λ x b f' y called. search rules) _ _ c.retain.ensures.filtered
+left : (c : goal.After-retain)
+    → c.retain.new.self.items ≡ without_leg c.self.inside.items.items c.args.endpoint.now
+left c =
+    filter-from_retain _ (λ (leg : Leg). not (pointwise nat_eq leg.endpoint c.args.endpoint.now)) _
+    (λ x b f' y called. search rules) _ _ c.retain.ensures.filtered
 
 pub invariant_of-self : goal.invariant_of-self
-invariant_of-self c = subst AreLegs (sym (left c)) (AreLegs-remove c.self.inside.items.items c.args.endpoint.now c.self.invariant (ap (λ legs. has_other legs c.args.endpoint.now) c.self.view_is ∙ search (rules, c.requires)))
+invariant_of-self c = subst AreLegs (sym (left c))
+    (AreLegs-remove c.self.inside.items.items c.args.endpoint.now c.self.invariant
+    (ap (λ legs. has_other legs c.args.endpoint.now) c.self.view_is ∙ search (rules, c.requires)))
 
 pub returns : goal.returns
 returns c = left c ∙ ap (λ legs. without_leg legs c.args.endpoint.now) c.self.view_is

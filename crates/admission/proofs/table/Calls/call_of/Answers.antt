@@ -7,5 +7,7 @@ use Rattle.admission.proofs.table.Calls.call_of.Goals as goal
 
 pub returns : goal.returns
 returns c =
-    subst (λ (w : Option CallKey). MatchOption w (IsInNoCall c.args.self.now.calls c.args.endpoint.now) (λ key. IsSome (leg_at c.args.self.now.calls key c.args.endpoint.now)))
-    (sym c.call_in.ensures) (call_found c.self.inside.calls c.self.inside.most c.args.self.now c.self.invariant c.self.view_is c.args.endpoint.now)
+    subst (λ (w : Option CallKey). MatchOption w (IsInNoCall c.args.self.now.calls
+    c.args.endpoint.now) (λ key. IsSome (leg_at c.args.self.now.calls key c.args.endpoint.now)))
+    (sym c.call_in.ensures) (call_found c.self.inside.calls c.self.inside.most c.args.self.now
+    c.self.invariant c.self.view_is c.args.endpoint.now)

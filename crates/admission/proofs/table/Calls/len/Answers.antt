@@ -3,7 +3,9 @@ use Rattle.admission.proofs.StoredCalls.{IsConsistent-stored, len_stored}
 use Rattle.admission.proofs.table.Calls.len.Goals as goal
 
 pub returns-clause-len : goal.returns-clause-len
-returns-clause-len c = c.len.ensures.len ∙ sym (len_stored c.self.inside.calls c.self.inside.most c.args.self.now c.self.invariant c.self.view_is)
+returns-clause-len c = c.len.ensures.len ∙ sym (len_stored c.self.inside.calls c.self.inside.most
+    c.args.self.now c.self.invariant c.self.view_is)
 
 pub returns-clause-sound : goal.returns-clause-sound
-returns-clause-sound c = IsConsistent-stored c.self.inside.calls c.self.inside.most c.args.self.now c.self.invariant c.self.view_is
+returns-clause-sound c = IsConsistent-stored c.self.inside.calls c.self.inside.most c.args.self.now
+    c.self.invariant c.self.view_is

@@ -1,7 +1,7 @@
 use Rattle.std.proofs.Common.{ap, sym, ◌∙◌, List, ℕ}
 use Rattle.std.specs.Option.{option_copied, option_map}
 use Rattle.aliases.specs.Held.{Holding}
-use Rattle.aliases.specs.Stored.{holding_of}
+use Rattle.aliases.specs.inside.Stored.{holding_of}
 use Rattle.aliases.proofs.Rows.{looked_up}
 use Rattle.aliases.proofs.table.AliasTable.holder.Goals as goal
 

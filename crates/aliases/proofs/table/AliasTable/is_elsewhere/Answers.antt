@@ -1,7 +1,7 @@
 use Rattle.std.proofs.Common.{ap, sym, ◌∙◌}
 use Rattle.std.specs.Option.{option_copied, option_map}
 use Rattle.aliases.specs.Held.{is_elsewhere}
-use Rattle.aliases.specs.Stored.{holding_of}
+use Rattle.aliases.specs.inside.Stored.{holding_of}
 use Rattle.aliases.proofs.Rows.{looked_up}
 use Rattle.aliases.proofs.table.AliasTable.is_elsewhere.Goals as goal
 
@@ -20,5 +20,6 @@ returns-in-Some c =
     (option_copied c.row_of.result) (ap (λ t. t.held) c.self.view_is)
     (rw c.deref.ensures.value at c.row_of.ensures) in
     c.ne.ensures
-    ∙ (ap (λ w. is_elsewhere c.args.address (option_map holding_of (option_copied w))) (sym c.in-Some.is)
+    ∙ (ap (λ w. is_elsewhere c.args.address (option_map holding_of (option_copied w)))
+    (sym c.in-Some.is)
     ∙ ap (is_elsewhere c.args.address) (sym is))

@@ -3,8 +3,10 @@ use Rattle.std.specs.Prelude.{is_ok}
 use Rattle.std.specs.Option.{option_map}
 use Rattle.aliases.specs.declared.table.Row.{Row}
 use Rattle.aliases.specs.Held.{Holding, with_alias}
-use Rattle.aliases.specs.Stored.{holding_of, held_in}
-use Rattle.aliases.proofs.Rows.{IsRowOf-place, IsHeldByAnother-found, not_by_another, other_holder, same_holder, AreApart-write, held_write, AreApart-pushed, held_push, place_below}
+use Rattle.aliases.specs.inside.Stored.{holding_of, held_in}
+use Rattle.aliases.proofs.Rows.{IsRowOf-place, IsHeldByAnother-found, not_by_another, other_holder}
+use Rattle.aliases.proofs.Rows.{same_holder, AreApart-write, held_write, AreApart-pushed, held_push}
+use Rattle.aliases.proofs.Rows.{place_below}
 use Rattle.aliases.proofs.table.AliasTable.set.Goals as goal
 use Rattle.aliases.proofs.table.AliasTable.set.Goals.{in-Ok, in-Err}
 
@@ -15,8 +17,11 @@ returns-then-ne-clause-duplicate c =
     c.self.invariant (ap (λ t. t.held) c.self.view_is)
     (rw c.deref.ensures.value at c.in-Some.ensures) c.index.ensures in
     let differ = other_holder c.index.result.now.holder c.args.holder
-    (sym c.ne.ensures ∙ c.if-ne.true) in
-    (λ e. IsHeldByAnother-found c.args.self.now.held c.args.alias c.args.holder (holding_of c.index.result.now) row.found differ, λ h. refl)
+    (sym c.ne.ensures ∙ c.if-ne.true) in (
+      λ e. IsHeldByAnother-found c.args.self.now.held c.args.alias c.args.holder
+          (holding_of c.index.result.now) row.found differ,
+      λ h. refl,
+    )
 
 pub returns-then-ne-clause-replaces : goal.returns-then-ne-clause-replaces
 returns-then-ne-clause-replaces c own =
@@ -31,7 +36,12 @@ returns-then-ne-clause-replaces c own =
     absurd (differ (let same : c.index.result.now.holder ≡ c.args.holder = cc one in same))
 
 pub index_mut-requires : goal.index_mut-requires
-index_mut-requires c = omega (arith, place_below c.deref.result.now c.args.alias c.in-Some.place c.in-Some.ensures, c.deref.ensures.len)
+index_mut-requires c =
+    omega (
+      arith,
+      place_below c.deref.result.now c.args.alias c.in-Some.place c.in-Some.ensures,
+      c.deref.ensures.len,
+    )
 
 pub invariant_of-self : goal.invariant_of-self
 invariant_of-self c =
@@ -64,8 +74,11 @@ returns-in-Some-clause-duplicate c =
     c.index.result.now c.self.invariant (ap (λ t. t.held) c.self.view_is)
     (rw c.deref.ensures.value at c.in-Some.ensures) c.index.ensures in
     let same = same_holder c.index.result.now.holder c.args.holder
-    (sym c.ne.ensures ∙ c.if-ne.false) in
-    (λ e. absurd (cc e), λ h. absurd (not_by_another c.args.self.now.held c.args.alias c.args.holder (holding_of c.index.result.now) seen.found same h))
+    (sym c.ne.ensures ∙ c.if-ne.false) in (
+      λ e. absurd (cc e),
+      λ h. absurd (not_by_another c.args.self.now.held c.args.alias c.args.holder
+          (holding_of c.index.result.now) seen.found same h),
+    )
 
 pub invariant_of-self-2 : goal.invariant_of-self-2
 invariant_of-self-2 c =
@@ -77,6 +90,8 @@ pub returns-clause-ok : goal.returns-clause-ok
 returns-clause-ok c =
     let absent = rw c.deref.ensures.value at c.in_default.ensures in
     elim c.match-push.branch [
-      | in-Ok w ↦ rw w.result-is (ap held_in w.in-Ok.ensures.items ∙ (held_push c.self.inside.rows.items _ absent ∙ (λ k. with_alias (c.self.view_is k).held c.args.alias c.args.holder c.args.address)))
+      | in-Ok w ↦ rw w.result-is
+          (ap held_in w.in-Ok.ensures.items ∙ (held_push c.self.inside.rows.items _ absent
+          ∙ (λ k. with_alias (c.self.view_is k).held c.args.alias c.args.holder c.args.address)))
       | in-Err w ↦ rw w.result-is tt
     ]

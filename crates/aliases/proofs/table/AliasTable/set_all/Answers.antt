@@ -9,11 +9,13 @@ pub unwrap-requires : goal.unwrap-requires
 unwrap-requires c =
     let i = c.loop-alias.alias-index in
     let alias = c.alias-item.result in
-    let has : Contains c.args.aliases.now alias = (i, c.loop-alias-test.true, sym c.alias-item.is) in
+    let has : Contains c.args.aliases.now alias =
+    (i, c.loop-alias-test.true, sym c.alias-item.is) in
     set_succeeds c.set.result c.loop-alias.self.held alias c.args.holder c.set.ensures.duplicate.0
     (c.set.ensures.reserved (omega (arith, c.loop-alias.invariant.1, c.requires.room)))
     c.set.ensures.alias
-    (λ other. free_with_aliases c.args.self.now.held (take i c.args.aliases.now) alias c.args.holder c.args.address (c.requires.free alias has)
+    (λ other. free_with_aliases c.args.self.now.held
+    (take i c.args.aliases.now) alias c.args.holder c.args.address (c.requires.free alias has)
     (subst (λ (h : Held). IsHeldByAnother h alias c.args.holder) c.loop-alias.invariant.0 other))
 
 pub loop-alias-preserved : goal.loop-alias-preserved

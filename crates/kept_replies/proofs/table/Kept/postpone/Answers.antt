@@ -3,7 +3,8 @@ use Rattle.std.specs.FinMap as map
 use Rattle.std.specs.HashMap as hash
 use Rattle.kept_replies.specs.Keys.{same_key}
 use Rattle.kept_replies.specs.Kept.{left_in, postponed}
-use Rattle.kept_replies.proofs.StoredKept.{passing_entry, passing_stays, stored_get, AreStored-rewrite, Becomes-rewrite, IsEntry-postponed}
+use Rattle.kept_replies.proofs.StoredKept.{passing_entry, passing_stays, stored_get}
+use Rattle.kept_replies.proofs.StoredKept.{AreStored-rewrite, Becomes-rewrite, IsEntry-postponed}
 use Rattle.kept_replies.proofs.table.Kept.postpone.Goals as goal
 
 pub write_retry-requires : goal.write_retry-requires

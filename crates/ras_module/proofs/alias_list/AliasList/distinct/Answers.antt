@@ -1,8 +1,10 @@
 use Rattle.std.proofs.Common.{◌+◌, ap, sym, ◌∙◌, drop}
 use Rattle.ras_module.specs.Aliases.{without_doubles}
-use Rattle.ras_module.proofs.Doubles.{kept_and_new, none_kept, goes_on_with_double, goes_on_with_new}
+use Rattle.ras_module.proofs.Doubles.{kept_and_new, none_kept, goes_on_with_double}
+use Rattle.ras_module.proofs.Doubles.{goes_on_with_new}
 use Rattle.ras_module.proofs.alias_list.AliasList.distinct.Goals as goal
-use Rattle.ras_module.proofs.alias_list.AliasList.distinct.Goals.{then-not-has+in_ok-push, else-not-has}
+use Rattle.ras_module.proofs.alias_list.AliasList.distinct.Goals.{then-not-has+in_ok-push}
+use Rattle.ras_module.proofs.alias_list.AliasList.distinct.Goals.{else-not-has}
 
 pub loop-alias-init : goal.loop-alias-init
 loop-alias-init c =
@@ -18,8 +20,10 @@ loop-alias-preserved c =
     elim c.if-not-has.branch [
       | then-not-has+in_ok-push w ↦
           ap (λ k. kept_and_new k (drop (i + 1) items)) (w.kept-is ∙ w.in_ok-push.ensures.ok)
-          ∙ goes_on_with_new items i x kept (without_doubles items) c.loop-alias-test.true c.alias-item.is (sym c.has.ensures ∙ w.if-not-has.true) c.loop-alias.invariant
+          ∙ goes_on_with_new items i x kept (without_doubles items) c.loop-alias-test.true
+          c.alias-item.is (sym c.has.ensures ∙ w.if-not-has.true) c.loop-alias.invariant
       | else-not-has w ↦
           ap (λ k. kept_and_new k (drop (i + 1) items)) w.kept-is
-          ∙ goes_on_with_double items i x kept (without_doubles items) c.loop-alias-test.true c.alias-item.is (sym c.has.ensures ∙ w.if-not-has.false) c.loop-alias.invariant
+          ∙ goes_on_with_double items i x kept (without_doubles items) c.loop-alias-test.true
+          c.alias-item.is (sym c.has.ensures ∙ w.if-not-has.false) c.loop-alias.invariant
     ]

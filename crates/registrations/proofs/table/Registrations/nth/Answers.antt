@@ -11,7 +11,12 @@ returns-clause-some c =
     let read = rw c.deref.ensures.value at c.row_at_place.ensures in
     let len = len_live i.items.items i.most i.lowest c.self.invariant in
     let same = ap (λ t. map.len t.live) c.self.view_is in (
-      λ some. omega (arith, some_placed i.items.items c.args.i c.row_at_place.result read some, len, same),
+      λ some. omega (
+        arith,
+        some_placed i.items.items c.args.i c.row_at_place.result read some,
+        len,
+        same,
+      ),
       λ below. placed_some i.items.items c.args.i c.row_at_place.result read
           (omega (arith, below, len, same)),
     )
@@ -22,8 +27,10 @@ returns-clause-live c =
     let read = rw c.deref.ensures.value at c.row_at_place.ensures in
     if_copied c.row_at_place.result
     (λ (r : Registration). map.get c.args.self.now.live r.identifier ≡ Some r)
-    (subst (λ (w : Option Registration). IfSome w (λ r. map.get c.args.self.now.live r.identifier ≡ Some r)) (sym read)
-    (placed_live i.items.items i.most i.lowest c.self.invariant c.args.self.now.live (ap (λ t. t.live) c.self.view_is) c.args.i))
+    (subst (λ (w : Option Registration). IfSome w
+    (λ r. map.get c.args.self.now.live r.identifier ≡ Some r)) (sym read)
+    (placed_live i.items.items i.most i.lowest c.self.invariant c.args.self.now.live
+    (ap (λ t. t.live) c.self.view_is) c.args.i))
 
 pub returns-clause-nth : goal.returns-clause-nth
 returns-clause-nth c =

@@ -12,22 +12,35 @@ pub returns-in_err-place-clause-removed : goal.returns-in_err-place-clause-remov
 returns-in_err-place-clause-removed c =
     let none = sym (ap (λ t. map.get t.live c.args.id.now) c.self.view_is)
     ∙ rw c.deref.ensures.value at c.in_err-place.ensures in
-    record { rows = remove_absent nat_list_cmp_total exact_bytes c.args.self.now.live c.args.id.now none; most = refl; room = omega arith }
+    record {
+      rows = remove_absent nat_list_cmp_total exact_bytes c.args.self.now.live c.args.id.now
+          none;
+      most = refl;
+      room = omega arith;
+    }
 
 pub remove-requires : goal.remove-requires
-remove-requires c = omega (arith, place_below identifier_of c.args.id.now c.deref.result.now c.in_ok-place.place c.in_ok-place.ensures, c.deref.ensures.len)
+remove-requires c =
+    omega (
+      arith,
+      place_below identifier_of c.args.id.now c.deref.result.now
+          c.in_ok-place.place c.in_ok-place.ensures,
+      c.deref.ensures.len,
+    )
 
 pub invariant_of-self : goal.invariant_of-self
 invariant_of-self c =
     let i = c.self.inside in
-    rw c.remove.ensures.items (IsTable-remove i.items.items i.most i.lowest c.min-self-inside.result c.in_ok-place.place c.self.invariant
+    rw c.remove.ensures.items (IsTable-remove i.items.items i.most i.lowest c.min-self-inside.result
+    c.in_ok-place.place c.self.invariant
     (length-remove i.items.items c.in_ok-place.place) (omega (arith, c.min-self-inside.ensures)))
 
 pub returns-clause-found : goal.returns-clause-found
 returns-clause-found c =
     let i = c.self.inside in
     let place = rw c.deref.ensures.value at c.in_ok-place.ensures in
-    sym (IsRowOf-place i.items.items i.most i.lowest c.args.self.now.live c.args.id.now c.in_ok-place.place c.remove.result c.self.invariant
+    sym (IsRowOf-place i.items.items i.most i.lowest c.args.self.now.live c.args.id.now
+    c.in_ok-place.place c.remove.result c.self.invariant
     (ap (λ t. t.live) c.self.view_is) place c.remove.ensures.value).found
 
 pub returns-clause-removed : goal.returns-clause-removed
@@ -42,5 +55,10 @@ returns-clause-removed c =
           c.args.self.now.live c.args.id.now c.in_ok-place.place c.remove.result
           c.self.invariant live row;
       most = ap (λ t. t.most) c.self.view_is;
-      room = omega (arith, ap (λ t. t.room) c.self.view_is, c.remove.ensures.capacity, c.remove.ensures.len);
+      room = omega (
+        arith,
+        ap (λ t. t.room) c.self.view_is,
+        c.remove.ensures.capacity,
+        c.remove.ensures.len,
+      );
     }
