@@ -1,4 +1,5 @@
--- Who is found by a call signal address, and what a change of one registration leaves of the others.
+-- Who is found by a call signal address, and what a change of one registration
+-- leaves of the others.
 use Rattle.std.proofs.Common.{◌≡◌, ◌≢◌, ℕ, cond, List, refl, sym, ◌∙◌, ap, inl, inr, ◌⊎◌, Some}
 use Rattle.std.proofs.Common.{None}
 use Rattle.std.specs.Prelude.{Option}
