@@ -7,6 +7,7 @@ use Rattle.std.specs.Option.{option_map}
 use Rattle.std.specs.Cmp.Lexicographic.{pointwise}
 use Rattle.std.specs.FinMap as fin
 use Rattle.std.proofs.lemmas.List.Elements.{All-nil, All-cons, All-push, All-filter}
+use Rattle.std.proofs.lemmas.Bool.{false_from_ne_true}
 use Rattle.keyed.specs.Maps.{total, update, put_if}
 use Rattle.keyed.proofs.Maps.{update_there}
 use Rattle.keyed.proofs.Sums.{total-insert, total-remove, total-change}
@@ -149,13 +150,9 @@ is_of x leg = pointwise nat_eq leg.endpoint x
 abbrev pub one_if_same : List ℕ → List ℕ → ℕ
 one_if_same a b = count (pointwise nat_eq a b)
 
-not_true : (b : Bool) → (b ≡ true → ⊥) → b ≡ false
-not_true true f = absurd (f refl)
-not_true false f = refl
-
 -- what is the one endpoint and not the other
 other_than : (a b x : List ℕ) → a ≡ x → pointwise nat_eq a b ≡ false → pointwise nat_eq b x ≡ false
-other_than a b x e h = not_true (pointwise nat_eq b x)
+other_than a b x e h = false_from_ne_true (pointwise nat_eq b x)
     (λ t. cc (h, (texts_decide a b).1 (e ∙ sym ((texts_decide b x).0 t))))
 
 still_other : (a b x : List ℕ) → a ≡ b → pointwise nat_eq b x ≡ false → pointwise nat_eq a x ≡ false
@@ -228,31 +225,6 @@ has-leave legs e x has = cases (pointwise nat_eq e x) refl where
 
 -- the legs of an endpoint x
 module _ (calls : OpenCalls) (key : CallKey) (x : List ℕ) where
-  pub legs_of-open : (pool units : ℕ) (leg : Leg) → fin.get calls key ≡ None
-      → legs_of (fin.insert calls key (new_call pool units leg)) x
-      ≡ legs_of calls x + one_if_same leg.endpoint x
-  legs_of-open pool units leg absent =
-      omega (
-        arith,
-        total-open (leg_count x) calls key (new_call pool units leg) absent,
-        ap count (one_found (is_of x leg) leg),
-      )
-
-  pub legs_of-join : (call : Call) (leg : Leg) → fin.get calls key ≡ Some call
-      → leg_of call.legs leg.endpoint ≡ None
-      → legs_of (update calls key (with_leg leg)) x ≡ legs_of calls x + one_if_same leg.endpoint x
-  legs_of-join call leg there none =
-      omega (
-        arith,
-        total-update (leg_count x) calls key call (with_leg leg) there,
-        has-push call.legs leg x none,
-      )
-
-  pub legs_of-set_units : (call : Call) (units : ℕ) → fin.get calls key ≡ Some call
-      → legs_of (update calls key (with_units units)) x ≡ legs_of calls x
-  legs_of-set_units call units there =
-      total-kept (leg_count x) calls key call (with_units units) there refl
-
   pub legs_of-leave : (call : Call) (endpoint : List ℕ) → fin.get calls key ≡ Some call
       → has_leg endpoint call ≡ true
       → legs_of (after_leave calls key endpoint) x + one_if_same endpoint x ≡ legs_of calls x

@@ -1,12 +1,13 @@
 -- Rows of aliases, and the finite map that they make.
 use Rattle.std.proofs.Common.{◌≡◌, ◌≢◌, ◌<◌, ℕ, Bool, List, [], ◌∷◌, ◌++◌, length, get_or, true}
-use Rattle.std.proofs.Common.{false, refl, sym, ◌∙◌, ap, subst, Some, None}
+use Rattle.std.proofs.Common.{false, sym, ◌∙◌, ap, subst, Some, None}
 use Rattle.std.specs.Prelude.{Option, if◌then◌else◌, slice_get, MatchOption, position, filter, not}
 use Rattle.std.specs.Prelude.{nat_eq}
 use Rattle.std.specs.Cmp.Lexicographic.{pointwise}
 use Rattle.std.proofs.Math.ListN.{set}
 use Rattle.std.specs.Option.{option_map, IsSomeAnd}
 use Rattle.std.proofs.lemmas.Option.{get_or_from_slice_get, slice_get_within}
+use Rattle.std.proofs.lemmas.Bool.{not-false}
 use Rattle.std.specs.List.{find as find_first}
 use Rattle.std.specs.FinMap as fin
 use Rattle.keyed.specs.Places.{row_in, AreApart, IsPlaceOf}
@@ -122,15 +123,11 @@ opened : (b : Bool) → not b ≡ true → b ≡ true → ⊥
 opened true h e = cc h
 opened false h e = cc e
 
-closed : (b : Bool) → not b ≡ false → b ≡ true
-closed true h = refl
-closed false h = absurd (cc h)
-
 pub other_holder : (a b : List ℕ) → not (pointwise nat_eq a b) ≡ true → a ≢ b
 other_holder a b h e = opened (pointwise nat_eq a b) h ((texts_decide a b).1 e)
 
 pub same_holder : (a b : List ℕ) → not (pointwise nat_eq a b) ≡ false → a ≡ b
-same_holder a b h = (texts_decide a b).0 (closed (pointwise nat_eq a b) h)
+same_holder a b h = (texts_decide a b).0 (not-false (pointwise nat_eq a b) h)
 
 -- a push that may fail
 pub AreApart-pushed : (rows new : List Row) (r : Row) (b : Bool)

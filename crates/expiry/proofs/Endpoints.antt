@@ -8,7 +8,7 @@ use Rattle.std.proofs.lemmas.Bool.Decides.{Decides-eqb}
 use Rattle.std.proofs.lemmas.Cmp.{nat_list_cmp_total}
 use Rattle.std.proofs.lemmas.Map.Lookups.{exact_bytes}
 use Rattle.std.proofs.lemmas.Option.{slice_get_within}
-use Rattle.keyed.proofs.Decide.{some_none, same_some, by_place}
+use Rattle.keyed.proofs.Decide.{some_none}
 use Rattle.keyed.proofs.Rows.{IsMapOf-rows, len_rows}
 use Rattle.admission.specs.Calls.{OpenCalls, legs_of}
 use Rattle.registrations.specs.Registry.{Live, Registry, IsConsistent, IsNumbered, identifier_of}
@@ -19,12 +19,6 @@ use Rattle.expiry.specs.declared.times.Times.{Times}
 use Rattle.expiry.specs.declared.due_item.DueItem.{DueItem}
 use Rattle.expiry.specs.declared.due_item.DueItem.TheVariants.{RegistrationOver, Interrogate}
 use Rattle.expiry.specs.declared.due_item.DueItem.TheVariants.{Silent, Retry, KeptOver, PoolTurn}
-
--- an endpoint that is registered and passes a test
-pub live_and : (test : Registration → Bool) (live : Live) (id : List ℕ) (r : Registration)
-    → fin.get live id ≡ Some r → test r ≡ true → IsLiveAnd test live id
-live_and test live id r there passes =
-    subst (λ (w : Option Registration). IsSomeAnd w (λ r. IsTrue (test r))) (sym there) passes
 
 the_live : (test : Registration → Bool) (live : Live) (id : List ℕ) → IsLiveAnd test live id
     → (r : Registration) × (fin.get live id ≡ Some r) × (test r ≡ true)
@@ -43,33 +37,6 @@ none_live test live id none h =
     cc (r.2, none r.0 r.1)
 
 module _ (now : ℕ) (times : Times) (calls : OpenCalls) where
-  -- what the search answers for a registration is due
-  pub item_is_due : (live : Live) (r : Registration) (item : DueItem)
-      → fin.get live r.identifier ≡ Some r → item_of now times calls r ≡ Some item
-      → IsEndpointItem now times live calls item
-  item_is_due live r item there is =
-      cases (nat_eq (legs_of calls r.identifier) 0) refl (is_to_be_asked times now r) refl
-      (is_silent times now r) refl is where
-        in_call : nat_eq (legs_of calls r.identifier) 0 ≡ false → IsInCall calls r.identifier
-        in_call h = by_place (legs_of calls r.identifier) 0 (IsInCall calls r.identifier)
-            (λ e. absurd (cc (h, (Decides-eqb (legs_of calls r.identifier) 0).1 e)))
-            (λ differ. omega (arith, differ))
-
-        cases : (b : Bool) → nat_eq (legs_of calls r.identifier) 0 ≡ b
-            → (a : Bool) → is_to_be_asked times now r ≡ a
-            → (s : Bool) → is_silent times now r ≡ s
-            → cond b None (cond a (Some (Interrogate r.identifier))
-            (cond s (Some (Silent r.identifier)) None)) ≡ Some item
-            → IsEndpointItem now times live calls item
-        cases true h a p s q e = some_none (sym e)
-        cases false h true p s q e =
-            subst (IsEndpointItem now times live calls) (same_some _ item e)
-            (in_call h, live_and (is_to_be_asked times now) live r.identifier r there p)
-        cases false h false p true q e =
-            subst (IsEndpointItem now times live calls) (same_some _ item e)
-            (in_call h, live_and (is_silent times now) live r.identifier r there q)
-        cases false h false p false q e = some_none (sym e)
-
   -- where it answers nothing, neither test passes of an endpoint in a call
   nothing_asked : (r : Registration) → item_of now times calls r ≡ None
       → IsInCall calls r.identifier → is_to_be_asked times now r ≡ true → ⊥

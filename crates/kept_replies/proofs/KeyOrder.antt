@@ -1,5 +1,5 @@
 -- The order of datagrams as keys: it is total, and only equal keys tie.
-use Rattle.std.proofs.Common.{◌≡◌, ℕ, List, Bool, true, false, ◌&&◌, refl, ◌∙◌, ap}
+use Rattle.std.proofs.Common.{◌≡◌, ℕ, List, ap}
 use Rattle.std.specs.Bool.{Decides}
 use Rattle.std.specs.Cmp.{IsTotalOrder}
 use Rattle.std.specs.Ordering.{nat_cmp, ordering_then}
@@ -7,6 +7,7 @@ use Rattle.std.specs.Cmp.Lexicographic.{slice_cmp}
 use Rattle.std.specs.FinMap.{IsAntisymmetric}
 use Rattle.std.proofs.lemmas.Cmp.{nat_cmp_total, nat_list_cmp_total, on_total, then_total}
 use Rattle.std.proofs.lemmas.Map.Lookups.{exact_pairs, exact_unsigned, exact_bytes}
+use Rattle.std.proofs.lemmas.Bool.{and_parts, and_from}
 use Rattle.ras_module.specs.Same.{address_decides, texts_decide}
 use Rattle.kept_replies.specs.declared.key.KeptKey.{KeptKey}
 use Rattle.kept_replies.specs.Keys.{same_key, key_cmp, ip_of, port_of, bytes_of}
@@ -29,20 +30,13 @@ key_cmp-IsAntisymmetric a b h =
     exact_bytes rest (ip_of a, (port_of a, bytes_of a)) (ip_of b, (port_of b, bytes_of b)) h in
     one_key a b (ap (λ p. p.0) all) (ap (λ p. p.1.0) all) (ap (λ p. p.1.1) all)
 
-both_true : (a b : Bool) → (a && b) ≡ true → (a ≡ true) × (b ≡ true)
-both_true true b h = (refl, h)
-both_true false b h = absurd (cc h)
-
-true_both : (a b : Bool) → a ≡ true → b ≡ true → (a && b) ≡ true
-true_both a b p q = ap (λ c. c && b) p ∙ q
-
 pub key_decides : (a b : KeptKey) → Decides (same_key a b) (a ≡ b)
 key_decides a b = (
   λ h.
-      (let both = both_true _ _ h in
+      (let both = and_parts _ _ h in
       let sources = (address_decides a.source b.source).0 both.0 in
       let bytes = (texts_decide a.bytes b.bytes).0 both.1 in
       λ i. record { source = sources i; bytes = bytes i }),
-  λ e. true_both _ _ ((address_decides a.source b.source).1 (ap (λ k. k.source) e))
+  λ e. and_from _ _ ((address_decides a.source b.source).1 (ap (λ k. k.source) e))
       ((texts_decide a.bytes b.bytes).1 (ap (λ k. k.bytes) e)),
 )

@@ -10,7 +10,8 @@ use Rattle.keyed.proofs.Listed as listed
 use Rattle.keyed.proofs.Places.{IsMapOf}
 use Rattle.ras_module.specs.Same.{texts_decide}
 use Rattle.kept_replies.specs.Kept.{KeptTable, IsNamed, named_by}
-use Rattle.kept_replies.specs.inside.Stored.{AreStored, identifiers_of, is_identifier, is_named_by, key_of}
+use Rattle.kept_replies.specs.inside.Stored.{AreStored, identifiers_of, is_identifier, is_named_by}
+use Rattle.kept_replies.specs.inside.Stored.{key_of}
 use Rattle.kept_replies.specs.declared.entry.KeptEntry.{KeptEntry}
 use Rattle.kept_replies.specs.declared.key.KeptKey.{KeptKey}
 use Rattle.kept_replies.proofs.KeyOrder.{key_cmp_total, key_cmp-IsAntisymmetric}

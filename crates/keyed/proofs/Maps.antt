@@ -154,12 +154,6 @@ module _ {K : Type 0} {R : K → K → Ordering} (o : IsTotalOrder R) (same : Is
         ap fin.len (insert_again m k old there ∙ sym (insert_over m k old))
         ∙ len_more (fin.remove m k) k old (Changed-remove m k).here
 
-    pub len_same : (m : FinMap R V) (k : K) (old new : V) → fin.get m k ≡ Some old
-        → fin.len (fin.insert m k new) ≡ fin.len m
-    len_same m k old new there =
-        ap fin.len (sym (insert_over m k new))
-        ∙ (len_more (fin.remove m k) k new (Changed-remove m k).here ∙ sym (len_less m k old there))
-
     -- a look-up among the entries that pass a test of their values
     pub find_retained : (test : V → Bool) (q : K) (es : List (K × V)) → IsOnce R es
         → fin.find R q (filter (λ e. test e.1) es) ≡ option_filter test (fin.find R q es)

@@ -50,10 +50,6 @@ Changed-set (r ∷ rows) (suc i) v h = let c = Changed-set rows i v
       elsewhere c zero differ = refl
       elsewhere c (suc j) differ = c.others j (λ e. differ (ap suc e))
 
-pub no_row_past : {X : Type 0} (rows : List X) → slice_get rows (length rows) ≡ None
-no_row_past [] = refl
-no_row_past (r ∷ rows) = no_row_past rows
-
 -- what is left after a removal stood elsewhere, and what stood elsewhere is left
 pub left_over : {X : Type 0} (rows : List X) (i j : ℕ) (r : X)
     → slice_get (remove rows i) j ≡ Some r → (m : ℕ) × (slice_get rows m ≡ Some r) × (m ≢ i)

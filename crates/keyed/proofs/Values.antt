@@ -4,6 +4,7 @@ use Rattle.std.proofs.Common.{◌||◌, ◌≡◌, ℕ, ◌*◌, ◌≤◌, Bool
 use Rattle.std.proofs.Common.{refl, sym, ◌∙◌, ap, subst, cond, Some, None, arith}
 use Rattle.std.specs.Prelude.{T}
 use Rattle.std.specs.List.{list_any, sum_by, find as find_first}
+use Rattle.std.proofs.lemmas.Bool.{false_from_ne_true}
 use Rattle.std.proofs.lemmas.List.Sums.{sum_by-cons}
 use Rattle.std.specs.Cmp.{IsTotalOrder}
 use Rattle.std.specs.declared.cmp.Ordering.{Ordering}
@@ -26,11 +27,8 @@ module _ {K X : Type 0} {R : K → K → Ordering} (o : IsTotalOrder R) (same : 
       (fin.find R k (e ∷ es) ≡ Some r)
       (λ p. some_none (sym there
       ∙ (ap (λ q. fin.find R q es) p ∙ find_below R e.0 es (first _ _ h))))
-      (λ differ. ap (λ b. cond b (Some e.1) (fin.find R k es)) (not_true (eq_by_cmp R k e.0)
-      (λ t. differ ((key_decides o same k e.0).0 t))) ∙ there) where
-        not_true : (b : Bool) → (b ≡ true → ⊥) → b ≡ false
-        not_true true f = absurd (f refl)
-        not_true false f = refl
+      (λ differ. ap (λ b. cond b (Some e.1) (fin.find R k es)) (false_from_ne_true
+      (eq_by_cmp R k e.0) (λ t. differ ((key_decides o same k e.0).0 t))) ∙ there)
 
   each_entry : (P : K → X → Type 0) (es : List (K × X)) → T (is_sorted R es)
       → ((k : K) (r : X) → fin.find R k es ≡ Some r → P k r) → Each P es

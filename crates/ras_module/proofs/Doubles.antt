@@ -3,6 +3,7 @@ use Rattle.std.proofs.Common.{◌≡◌, ◌<◌, ◌+◌, ℕ, Bool, true, fals
 use Rattle.std.proofs.Common.{◌||◌, length, get_or, drop, refl, sym, ◌∙◌, ap, append_assoc}
 use Rattle.std.specs.Prelude.{filter}
 use Rattle.std.proofs.lemmas.List.{at_drop_more}
+use Rattle.std.proofs.Math.Bool.{or-false}
 use Rattle.ras_module.specs.declared.alias.Alias.{Alias}
 use Rattle.ras_module.specs.Aliases.{same_alias, has_alias, without_doubles}
 use Rattle.ras_module.specs.Same.{alias_decides}
@@ -54,13 +55,9 @@ kept_already kept rest x has =
           sym (ap not (ap (has_alias kept) (sym ((alias_decides x a).0 same)) ∙ has))
       cases a false differ = refl
 
-or_false : (b : Bool) → (b || false) ≡ b
-or_false true = refl
-or_false false = refl
-
 has_push : (kept : List Alias) (x a : Alias)
     → has_alias (kept ++ x ∷ []) a ≡ (has_alias kept a || same_alias x a)
-has_push [] x a = or_false (same_alias x a)
+has_push [] x a = or-false (same_alias x a)
 has_push (k ∷ kept) x a = cases (same_alias k a) (has_push kept x a) where
   cases : (b : Bool) → has_alias (kept ++ x ∷ []) a ≡ (has_alias kept a || same_alias x a)
       → (b || has_alias (kept ++ x ∷ []) a) ≡ ((b || has_alias kept a) || same_alias x a)

@@ -1,11 +1,12 @@
 -- What the tests of equality decide.
-use Rattle.std.proofs.Common.{◌≡◌, ℕ, Bool, true, false, ◌&&◌, List, nat_eq, refl, sym, ◌∙◌, ap}
+use Rattle.std.proofs.Common.{◌≡◌, ℕ, Bool, true, false, List, nat_eq, refl, sym, ap}
 use Rattle.std.specs.Bool.{Decides}
 use Rattle.std.specs.Cmp.{IsEquivalence, IsPartialEquivalence, partial_equiv_from_equiv}
 use Rattle.std.specs.Cmp.Lexicographic.{pointwise}
 use Rattle.std.proofs.lemmas.Cmp.{lists_equiv}
 use Rattle.std.proofs.lemmas.Slice.Eq.{slice_eq-Decides}
 use Rattle.std.proofs.lemmas.Bool.Decides.{Decides-eqb}
+use Rattle.std.proofs.lemmas.Bool.{and_parts, and_from}
 use Rattle.ras_module.specs.declared.address.Address.{Address}
 use Rattle.ras_module.specs.declared.alias.Alias.{Alias}
 use Rattle.ras_module.specs.declared.alias.Alias.TheVariants.{Digits, H323Id}
@@ -17,21 +18,14 @@ use Rattle.ras_module.specs.CallKeys.{same_call_key}
 pub texts_decide : (xs ys : List ℕ) → Decides (pointwise nat_eq xs ys) (xs ≡ ys)
 texts_decide xs ys = slice_eq-Decides Decides-eqb xs ys (pointwise nat_eq xs ys) refl
 
-both_true : (a b : Bool) → (a && b) ≡ true → (a ≡ true) × (b ≡ true)
-both_true true b h = (refl, h)
-both_true false b h = absurd (cc h)
-
-true_both : (a b : Bool) → a ≡ true → b ≡ true → (a && b) ≡ true
-true_both a b p q = ap (λ c. c && b) p ∙ q
-
 pub address_decides : (a b : Address) → Decides (same_address a b) (a ≡ b)
 address_decides a b = (
   λ h.
-      (let both = both_true _ _ h in
+      (let both = and_parts _ _ h in
       let ips = (texts_decide a.ip b.ip).0 both.0 in
       let ports = (Decides-eqb a.port b.port).0 both.1 in
       λ i. record { ip = ips i; port = ports i }),
-  λ e. true_both _ _ ((texts_decide a.ip b.ip).1 (ap (λ c. c.ip) e))
+  λ e. and_from _ _ ((texts_decide a.ip b.ip).1 (ap (λ c. c.ip) e))
       ((Decides-eqb a.port b.port).1 (ap (λ c. c.port) e)),
 )
 
@@ -48,9 +42,6 @@ alias_decides (H323Id a) (H323Id b) =
     (λ h. ap H323Id ((texts_decide a b).0 h), λ e. (texts_decide a b).1 (cc e))
 alias_decides (Digits a) (H323Id b) = (λ h. absurd (cc h), λ e. absurd (cc e))
 alias_decides (H323Id a) (Digits b) = (λ h. absurd (cc h), λ e. absurd (cc e))
-
-pub aliases_decide : (a b : List Alias) → Decides (pointwise same_alias a b) (a ≡ b)
-aliases_decide a b = slice_eq-Decides alias_decides a b (pointwise same_alias a b) refl
 
 -- two tests that are true together are one
 together : (a b : Bool) → (a ≡ true → b ≡ true) → (b ≡ true → a ≡ true) → a ≡ b

@@ -8,6 +8,7 @@ use Rattle.std.specs.Cmp.Lexicographic.{slice_cmp}
 use Rattle.std.specs.FinMap as fin
 use Rattle.std.proofs.lemmas.Cmp.{nat_list_cmp_total}
 use Rattle.std.proofs.lemmas.Map.Lookups.{exact_bytes}
+use Rattle.std.proofs.lemmas.Bool.{and_from, not-false}
 use Rattle.keyed.specs.Maps.{update, Changed}
 use Rattle.keyed.proofs.Decide.{by_member, Contains-parts, any_decides, some_none, same_some}
 use Rattle.keyed.proofs.Maps.{by_key, Changed-insert, Changed-remove, Changed-update, insert_over}
@@ -216,10 +217,9 @@ module _ (live : Live) (held : Held) (agree : Agree live held) (address : Addres
                 both_fail false b h = refl
           at by false is = sym (any_row nat_list_cmp_total exact_bytes (λ r. has_alias r.aliases
               alias && not (same_address r.call_signal address)) live h.holder by.0 by.1.live_is
-              (both_true ((any_decides same_alias alias_decides (by.0).aliases alias).1 by.1.has)
-              (ap not (ap (λ a. same_address a address) (sym by.1.address_is) ∙ is)))) where
-                both_true : {a b : Bool} → a ≡ true → b ≡ true → (a && b) ≡ true
-                both_true {b = b} p q = ap (λ x. x && b) p ∙ q
+              (and_from _ _
+              ((any_decides same_alias alias_decides (by.0).aliases alias).1 by.1.has)
+              (ap not (ap (λ a. same_address a address) (sym by.1.address_is) ∙ is))))
 
   pub conflicts_are : (aliases : List Alias)
       → conflicts held address aliases ≡ registered_elsewhere live address aliases
@@ -250,10 +250,7 @@ module _ (held : Held) (address : Address) where
       → ((h : Holding) → w ≡ Some h → h.address ≡ address → P) → P
   here_or_nowhere alias None P e f g = f refl
   here_or_nowhere alias (Some h) P e f g = g h refl
-      ((address_decides h.address address).0 (opened (same_address h.address address) e)) where
-        opened : (b : Bool) → not b ≡ false → b ≡ true
-        opened true e = refl
-        opened false e = absurd (cc e)
+      ((address_decides h.address address).0 (not-false (same_address h.address address) e))
 
 -- where none of the aliases of a request is held elsewhere, nobody holds one, if nobody has its
 -- address

@@ -1,12 +1,13 @@
 -- Of more numbers than there are texts, one is not among them.
 use Rattle.std.proofs.Common.{◌≡◌, ◌≢◌, ℕ, zero, suc, ◌+◌, ◌<◌, ◌≤◌, ◌==◌, Bool, true, false, not}
 use Rattle.std.proofs.Common.{◌||◌, List, [], ◌∷◌, ◌++◌, length, map, nat_eq, refl, ◌∙◌, ap, subst}
-use Rattle.std.proofs.Common.{arith}
+use Rattle.std.proofs.Common.{arith, sym}
 use Rattle.std.specs.Prelude.{filter, Contains}
 use Rattle.std.specs.List.{list_any}
 use Rattle.std.specs.Cmp.Lexicographic.{pointwise}
 use Rattle.std.proofs.lemmas.Bool.Decides.{nat_tests, Decides-eqb}
 use Rattle.std.proofs.lemmas.List.{length-map, length-append}
+use Rattle.std.proofs.Math.Bool.{or_assoc}
 use Rattle.keyed.proofs.Decide.{any_decides}
 use Rattle.ras_module.specs.Same.{texts_decide}
 use Rattle.registrations.specs.declared.registration.Registration.{Registration}
@@ -70,18 +71,14 @@ has_its_number (i ∷ ids) id has =
 abbrev pub used : List Registration → List (List ℕ) → List (List ℕ)
 used rows taken = map identifier_of rows ++ taken
 
-or_assoc : (a b c : Bool) → (a || (b || c)) ≡ ((a || b) || c)
-or_assoc true b c = refl
-or_assoc false b c = refl
-
 used_any : (rows : List Registration) (taken : List (List ℕ)) (id : List ℕ)
     → has_id (used rows taken) id
     ≡ (list_any (λ r. pointwise nat_eq r.identifier id) rows || has_id taken id)
 used_any [] taken id = refl
 used_any (r ∷ rows) taken id =
     ap (λ b. pointwise nat_eq r.identifier id || b) (used_any rows taken id)
-    ∙ or_assoc (pointwise nat_eq r.identifier id)
-    (list_any (λ (i : Registration). pointwise nat_eq i.identifier id) rows) (has_id taken id)
+    ∙ sym (or_assoc (pointwise nat_eq r.identifier id)
+    (list_any (λ (i : Registration). pointwise nat_eq i.identifier id) rows) (has_id taken id))
 
 -- a number whose text is used is among their numbers
 pub number_used : (rows : List Registration) (taken : List (List ℕ)) (id : List ℕ) (n : ℕ)
@@ -111,7 +108,3 @@ not_all rows taken start each =
 -- what the test doesn't find is not in the list
 pub not_among : (ids : List (List ℕ)) (id : List ℕ) → has_id ids id ≡ false → Contains ids id → ⊥
 not_among ids id e h = cc (e, (any_decides (pointwise nat_eq) texts_decide ids id).1 h)
-
-pub neither : (a b : Bool) → (a || b) ≡ false → (a ≡ false) × (b ≡ false)
-neither true b h = absurd (cc h)
-neither false b h = (refl, h)

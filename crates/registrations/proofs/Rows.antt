@@ -5,7 +5,7 @@ use Rattle.std.proofs.Common.{suc, ◌||◌, Some, None, arith}
 use Rattle.std.specs.Prelude.{Option, slice_get, remove, MatchOption, position, IsSome, IfSome}
 use Rattle.std.specs.Prelude.{nat_le}
 use Rattle.std.proofs.Math.ListN.{set}
-use Rattle.std.specs.Option.{option_map, option_copied}
+use Rattle.std.specs.Option.{option_copied}
 use Rattle.std.specs.List.{find as find_first, list_any}
 use Rattle.std.specs.Cmp.Lexicographic.{pointwise}
 use Rattle.std.specs.FinMap as fin
@@ -14,6 +14,7 @@ use Rattle.std.proofs.lemmas.Map.Lookups.{exact_bytes}
 use Rattle.std.proofs.lemmas.List.{length-set, length-append}
 use Rattle.std.proofs.lemmas.Bool.Decides.{nat_tests}
 use Rattle.std.proofs.lemmas.Option.{get_or_from_slice_get, slice_get_within}
+use Rattle.std.proofs.lemmas.Iterator.Adapters.{option_map_id}
 use Rattle.keyed.specs.Maps.{update}
 use Rattle.keyed.specs.Places.{row_in, IsPlaceOf}
 use Rattle.keyed.proofs.Decide.{some_none, same_some}
@@ -31,15 +32,11 @@ use Rattle.registrations.specs.Registry.{Live, live_of, at_address, identifier_o
 use Rattle.registrations.specs.Registry.{IsConsistent}
 use Rattle.registrations.specs.inside.Stored.{IsTable}
 
-same_option : {A : Type 0} (w : Option A) → option_map (λ x. x) w ≡ w
-same_option None = refl
-same_option (Some x) = refl
-
 -- the first row of an identifier is what the map has
 pub get_row : (rows : List Registration) (id : List ℕ)
     → find_first (λ r. pointwise nat_eq r.identifier id) rows ≡ fin.get (live_of rows) id
 get_row rows id =
-    sym (same_option (find_first (λ r. pointwise nat_eq r.identifier id) rows))
+    sym (option_map_id (find_first (λ r. pointwise nat_eq r.identifier id) rows))
     ∙ find_key nat_list_cmp_total exact_bytes identifier_of (λ r. r)
     (pointwise nat_eq) texts_decide id rows
 

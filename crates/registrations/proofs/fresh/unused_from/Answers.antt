@@ -1,7 +1,8 @@
 use Rattle.std.proofs.Common.{below_more, ◌+◌, ◌∙◌, sym, arith}
-use Rattle.registrations.proofs.Covering.{number_used, not_all, neither, not_among}
+use Rattle.registrations.proofs.Covering.{number_used, not_all, not_among}
 use Rattle.registrations.proofs.Rows.{none_named}
 use Rattle.registrations.proofs.fresh.unused_from.Goals as goal
+use Rattle.std.proofs.lemmas.Bool.{or_parts}
 
 pub loop-n-preserved : goal.loop-n-preserved
 loop-n-preserved c = below_more _ _ c.loop-n.invariant (number_used c.args.items.now
@@ -10,7 +11,7 @@ loop-n-preserved c = below_more _ _ c.loop-n.invariant (number_used c.args.items
 
 pub returns-then-not-is_used : goal.returns-then-not-is_used
 returns-then-not-is_used c =
-    let fresh = neither _ _ (sym c.is_used.ensures ∙ c.if-not-is_used.true) in
+    let fresh = or_parts _ _ (sym c.is_used.ensures ∙ c.if-not-is_used.true) in
     record {
       not_live = none_named c.args.items.now c.numbered-id.result fresh.0;
       not_taken = not_among c.args.taken.now c.numbered-id.result fresh.1;
