@@ -38,7 +38,9 @@ some_at_all a b c d value e f g h = rw (e, f, g, h) refl
 pub not_all : (p : ℕ → Bool) (xs : List ℕ) (i : ℕ) → i < length xs → p (get_or xs i 0) ≡ false
     → list_all p xs ≡ false
 not_all p xs i below fails =
-    let from : (b : Bool) → list_all p xs ≡ b → list_all p xs ≡ false = λ b e. elim b as (λ b. list_all p xs ≡ b → list_all p xs ≡ false) [
-      | true ↦ λ e. let passes = AllPass-from_list_all p xs e i 0 below in absurd (cc (passes, fails))
+    let from : (b : Bool) → list_all p xs ≡ b → list_all p xs ≡ false =
+    λ b e. elim b as (λ b. list_all p xs ≡ b → list_all p xs ≡ false) [
+      | true ↦ λ e. let passes = AllPass-from_list_all p xs e i 0 below in
+          absurd (cc (passes, fails))
       | false ↦ λ e. e
     ] e in from (list_all p xs) refl

@@ -66,25 +66,39 @@ one_set : (parts : ConfigParts) (i : ℕ) (key : List ℕ) (least most number : 
 unfolding range_fault
 one_set parts i key least most number low high e =
     let inside : is_outside least most number ≡ false = grind (arith, nat_tests) in
-    subst (λ (test : Bool). first_fault (set (tests_of parts) i (test, key)) ≡ None) (sym inside) (passes_with (tests_of parts) i key e)
+    subst (λ (test : Bool). first_fault (set (tests_of parts) i (test, key)) ≡ None) (sym inside)
+    (passes_with (tests_of parts) i key e)
 
 stays_in_range : (parts : ConfigParts) (key : Key) (number : ℕ) → 1 ≤ number
     → number ≤ most_of key → range_fault parts ≡ None
     → range_fault (with_number parts key number) ≡ None
 unfolding range_fault
-stays_in_range parts Limit number low high e = one_set parts 0 (codes "zone.limit") 1 (most_of Limit) number low high e
-stays_in_range parts CallLimit number low high e = one_set parts 1 (codes "zone.call_limit") 1 (most_of CallLimit) number low high e
-stays_in_range parts TimeToLive number low high e = one_set parts 2 (codes "zone.time_to_live") 1 (most_of TimeToLive) number low high e
-stays_in_range parts Endpoints number low high e = one_set parts 3 (codes "zone.endpoints") 1 (most_of Endpoints) number low high e
-stays_in_range parts Calls number low high e = one_set parts 4 (codes "zone.calls") 1 (most_of Calls) number low high e
-stays_in_range parts Kept number low high e = one_set parts 5 (codes "zone.kept") 1 (most_of Kept) number low high e
-stays_in_range parts Window number low high e = one_set parts 6 (codes "zone.window") 1 (most_of Window) number low high e
-stays_in_range parts Silence number low high e = one_set parts 7 (codes "zone.silence") 1 (most_of Silence) number low high e
-stays_in_range parts Delay number low high e = one_set parts 8 (codes "zone.delay") 1 (most_of Delay) number low high e
-stays_in_range parts Retries number low high e = one_set parts 9 (codes "zone.retries") 1 (most_of Retries) number low high e
-stays_in_range parts Asks number low high e = one_set parts 10 (codes "zone.asks") 1 (most_of Asks) number low high e
-stays_in_range parts AskWait number low high e = one_set parts 11 (codes "zone.ask_wait") 1 (most_of AskWait) number low high e
-stays_in_range parts PoolTurn number low high e = one_set parts 12 (codes "zone.pool_turn") 1 (most_of PoolTurn) number low high e
+stays_in_range parts Limit number low high e =
+    one_set parts 0 (codes "zone.limit") 1 (most_of Limit) number low high e
+stays_in_range parts CallLimit number low high e =
+    one_set parts 1 (codes "zone.call_limit") 1 (most_of CallLimit) number low high e
+stays_in_range parts TimeToLive number low high e =
+    one_set parts 2 (codes "zone.time_to_live") 1 (most_of TimeToLive) number low high e
+stays_in_range parts Endpoints number low high e =
+    one_set parts 3 (codes "zone.endpoints") 1 (most_of Endpoints) number low high e
+stays_in_range parts Calls number low high e =
+    one_set parts 4 (codes "zone.calls") 1 (most_of Calls) number low high e
+stays_in_range parts Kept number low high e =
+    one_set parts 5 (codes "zone.kept") 1 (most_of Kept) number low high e
+stays_in_range parts Window number low high e =
+    one_set parts 6 (codes "zone.window") 1 (most_of Window) number low high e
+stays_in_range parts Silence number low high e =
+    one_set parts 7 (codes "zone.silence") 1 (most_of Silence) number low high e
+stays_in_range parts Delay number low high e =
+    one_set parts 8 (codes "zone.delay") 1 (most_of Delay) number low high e
+stays_in_range parts Retries number low high e =
+    one_set parts 9 (codes "zone.retries") 1 (most_of Retries) number low high e
+stays_in_range parts Asks number low high e =
+    one_set parts 10 (codes "zone.asks") 1 (most_of Asks) number low high e
+stays_in_range parts AskWait number low high e =
+    one_set parts 11 (codes "zone.ask_wait") 1 (most_of AskWait) number low high e
+stays_in_range parts PoolTurn number low high e =
+    one_set parts 12 (codes "zone.pool_turn") 1 (most_of PoolTurn) number low high e
 
 -- settings leave the networks
 networks_stay : (parts : ConfigParts) (key : Key) (number : ℕ)
@@ -119,16 +133,19 @@ unfolding range_fault
 defaults_in_range name address networks bits = rw bits refl
 
 -- settings in their ranges are refused for want of a default pool alone
-pub no_range_fault : (parts : ConfigParts) (answer : Result ConfigParts ConfigFault) (key : Bor (List ℕ))
+pub no_range_fault : (parts : ConfigParts)
+    (answer : Result ConfigParts ConfigFault) (key : Bor (List ℕ))
     → IsConfigAnswer parts answer
     → answer ≡ Err (OutOfRange key) → range_fault parts ≡ None → ⊥
 no_range_fault parts (Ok config) key is e inside = absurd (cc e)
 no_range_fault parts (Err (OutOfRange other)) key is e inside = absurd (cc (is, inside))
 no_range_fault parts (Err NoDefaultPool) key is e inside = absurd (cc e)
 
-pub no_config_fault : (parts : ConfigParts) (answer : Result ConfigParts ConfigFault) (fault : ConfigFault)
+pub no_config_fault : (parts : ConfigParts)
+    (answer : Result ConfigParts ConfigFault) (fault : ConfigFault)
     → IsConfigAnswer parts answer
     → answer ≡ Err fault → IsConfig parts → ⊥
 no_config_fault parts (Ok config) fault is e inside = absurd (cc e)
 no_config_fault parts (Err (OutOfRange key)) fault is e inside = absurd (cc (is, inside.ranges))
-no_config_fault parts (Err NoDefaultPool) fault is e inside = absurd (cc (is.1, inside.default_pool))
+no_config_fault parts (Err NoDefaultPool) fault is e inside =
+    absurd (cc (is.1, inside.default_pool))

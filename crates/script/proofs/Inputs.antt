@@ -1,5 +1,6 @@
 -- What is read of an input is what a script is read of.
-use Rattle.std.proofs.Common.{◌≡◌, ℕ, ◌≤◌, Bool, if◌then◌else◌, true, false, Option, Some, None, Result, Ok, Err, List}
+use Rattle.std.proofs.Common.{◌≡◌, ℕ, ◌≤◌, Bool, if◌then◌else◌, true, false, Option, Some, None}
+use Rattle.std.proofs.Common.{Result, Ok, Err, List}
 use Rattle.std.proofs.Common.{length, refl, subst, map, arith, nat_lt}
 use Rattle.std.proofs.lemmas.Bool.Decides.{nat_tests}
 use Rattle.std.specs.Io.KnownBytes.{Consumes, IsAtEnd}
@@ -15,7 +16,8 @@ use Rattle.script.specs.Pools.{PoolEntry, networks_of}
 use Rattle.script.specs.Said.{Said}
 use Rattle.script.specs.Words.{lines_of}
 use Rattle.script.specs.Lines.{line_of}
-use Rattle.script.specs.Scripts.{script_from, script_with, script_unless, in_place, said_by, bad_line}
+use Rattle.script.specs.Scripts.{script_from, script_with, script_unless, in_place, said_by}
+use Rattle.script.specs.Scripts.{bad_line}
 use Rattle.script.specs.Scripts.{script_of, parts_of}
 use Rattle.script.specs.Scripts.{GivesUnlessStopped}
 use Rattle.script.specs.Reads.{ConsumesAtMost, ConsumesExactly, IsInputFault, IsAtEndIfRead}
@@ -32,11 +34,13 @@ never_if : (is_default : Bool) (script : Script)
 never_if true script e = absurd (cc e)
 never_if false script e = absurd (cc e)
 
-never_from : (place : Option (List ℕ × Address)) (settings : List (Key × ℕ)) (pools : List PoolEntry) (events : List Event)
+never_from : (place : Option (List ℕ × Address)) (settings : List (Key × ℕ))
+    (pools : List PoolEntry) (events : List Event)
     → script_from place settings pools events ≡ Err TooLong → ⊥
 never_from None settings pools events e = absurd (cc e)
 never_from (Some zone) settings pools events e =
-    never_if (has_default (networks_of pools)) (script_with (parts_of zone (networks_of pools) settings) pools events) e
+    never_if (has_default (networks_of pools))
+    (script_with (parts_of zone (networks_of pools) settings) pools events) e
 
 never_long : (bad : Option ℕ) (said : Said) → script_unless bad said ≡ Err TooLong → ⊥
 never_long (Some bad) said e = absurd (cc e)
@@ -68,7 +72,8 @@ whole_answer old new text answer taken end few meaning = record {
   taken = taken;
   few = omega (arith, few);
   meaning = meaning;
-  long = λ e. absurd (not_long text few (subst (λ (a : Result Script ScriptFault). GivesUnlessStopped (script_of text) a) e meaning));
+  long = λ e. absurd (not_long text few
+      (subst (λ (a : Result Script ScriptFault). GivesUnlessStopped (script_of text) a) e meaning));
   end = ends answer new end;
 }
 

@@ -1,5 +1,5 @@
 -- Numbers in decimal digits.
-use Rattle.std.proofs.Common.{◌≡◌, ℕ, ◌+◌, ◌-◌, ◌*◌, ◌<◌, true, false, leb, ltb, None, List, length}
+use Rattle.std.proofs.Common.{◌≡◌, ℕ, ◌+◌, ◌-◌, ◌*◌, ◌<◌, true, leb, ltb, None, List, length}
 use Rattle.std.proofs.Common.{take, get_or, ap, ◌∙◌, arith, rules}
 use Rattle.std.proofs.lemmas.Bool.Decides.{nat_tests}
 use Rattle.std.proofs.lemmas.Int.Digits.{digits_value_more}
@@ -9,20 +9,15 @@ use Rattle.std.specs.Char.{is_ascii_digit, digit_value}
 use Rattle.std.specs.List.{list_all}
 use Rattle.std.specs.Str.Parse.{digits_value}
 use Rattle.script.specs.Fields.{number_of}
-use Rattle.script.proofs.FourTests.{none_at_second, none_at_last, not_all}
-
-pub no_digit : (low high : ℕ) (word : List ℕ) (i : ℕ) → i < length word
-    → is_ascii_digit (get_or word i 0) ≡ false
-    → None ≡ number_of low high word
-no_digit low high word i below fails =
-    none_at_second (ltb 0 (length word)) _ (leb low (digits_value 10 word)) (leb (digits_value 10 word) high) (digits_value 10 word)
-    (not_all is_ascii_digit word i below fails)
+use Rattle.script.proofs.FourTests.{none_at_last}
 
 pub too_large : (low high : ℕ) (word : List ℕ) (i : ℕ) → high < digits_value 10 (take i word)
     → None ≡ number_of low high word
 too_large low high word i above =
-    let whole : high < digits_value 10 word = omega (arith, digits_value-take-le 10 word i (omega arith)) in
-    none_at_last (ltb 0 (length word)) (list_all is_ascii_digit word) (leb low (digits_value 10 word)) _ (digits_value 10 word)
+    let whole : high < digits_value 10 word =
+    omega (arith, digits_value-take-le 10 word i (omega arith)) in
+    none_at_last (ltb 0 (length word)) (list_all is_ascii_digit word)
+    (leb low (digits_value 10 word)) _ (digits_value 10 word)
     (search (rules, nat_tests))
 
 -- one more digit
@@ -30,9 +25,11 @@ digit_value_is : (c : ℕ) → is_ascii_digit c ≡ true → digit_value c ≡ c
 digit_value_is c e = grind (arith, nat_tests)
 
 pub digit_more : (word : List ℕ) (i : ℕ) → i < length word → is_ascii_digit (get_or word i 0) ≡ true
-    → digits_value 10 (take (i + 1) word) ≡ digits_value 10 (take i word) * 10 + (get_or word i 0 - 48)
+    → digits_value 10 (take (i + 1) word)
+    ≡ digits_value 10 (take i word) * 10 + (get_or word i 0 - 48)
 digit_more word i below e =
-    digits_value_more 10 word i below ∙ ap (λ d. digits_value 10 (take i word) * 10 + d) (digit_value_is (get_or word i 0) e)
+    digits_value_more 10 word i below
+    ∙ ap (λ d. digits_value 10 (take i word) * 10 + d) (digit_value_is (get_or word i 0) e)
 
 pub digits_more : (word : List ℕ) (i : ℕ) → i < length word
     → is_ascii_digit (get_or word i 0) ≡ true

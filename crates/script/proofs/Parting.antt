@@ -42,7 +42,8 @@ front_found mark place text e = ap (λ n. take n text) (some_place _ _ place e).
 pub rest_found : (mark place : ℕ) (text : List ℕ) → found_in mark text ≡ Some place
     → take (length text - (place + 1)) (drop (place + 1) text) ≡ rest_part mark text
 rest_found mark place text e =
-    take_all (length text - (place + 1)) (drop (place + 1) text) (omega (arith, length-drop (place + 1) text))
+    take_all (length text - (place + 1)) (drop (place + 1) text)
+    (omega (arith, length-drop (place + 1) text))
     ∙ ap (λ n. drop (n + 1) text) (some_place _ _ place e).0
 
 pub front_of_all : (mark : ℕ) (text : List ℕ) → found_in mark text ≡ None
@@ -50,16 +51,19 @@ pub front_of_all : (mark : ℕ) (text : List ℕ) → found_in mark text ≡ Non
 front_of_all mark text e = sym (take_all (place_of mark text) text (no_place _ _ e))
 
 pub rest_of_all : (mark : ℕ) (text : List ℕ) → found_in mark text ≡ None → [] ≡ rest_part mark text
-rest_of_all mark text e = sym (drop_all (place_of mark text + 1) text (omega (arith, no_place _ _ e)))
+rest_of_all mark text e =
+    sym (drop_all (place_of mark text + 1) text (omega (arith, no_place _ _ e)))
 
 -- the parts of a text are its front, and the parts of its rest, where there are any
 pub split_step : (mark : ℕ) (text : List ℕ)
-    → (slice_split (is_mark mark) text ≡ front_part mark text ∷ slice_split (is_mark mark) (rest_part mark text))
+    → (slice_split (is_mark mark) text
+    ≡ front_part mark text ∷ slice_split (is_mark mark) (rest_part mark text))
     ⊎ ((slice_split (is_mark mark) text ≡ front_part mark text ∷ []) × (rest_part mark text ≡ []))
 split_step mark text = elim (cases_lt (place_of mark text) (length text)) [
   | inl h ↦ inl (slice_split_first (is_mark mark) text 0 h)
   | inr h ↦ inr (
-    slice_split_none (is_mark mark) text (λ k d b. fails_before_first (is_mark mark) text k d (omega arith))
+    slice_split_none (is_mark mark) text
+        (λ k d b. fails_before_first (is_mark mark) text k d (omega arith))
         ∙ ap (λ front. front ∷ []) (sym (take_all (place_of mark text) text h)),
     drop_all (place_of mark text + 1) text (omega arith),
   )
@@ -69,10 +73,12 @@ abbrev is_word : List ℕ → Bool
 is_word word = nat_lt 0 (length word)
 
 pub words_step : (line : List ℕ)
-    → words_of line ≡ cond (is_word (front_part 32 line)) (front_part 32 line ∷ words_of (rest_part 32 line)) (words_of (rest_part 32 line))
+    → words_of line ≡ cond (is_word (front_part 32 line))
+    (front_part 32 line ∷ words_of (rest_part 32 line)) (words_of (rest_part 32 line))
 words_step line = elim (split_step 32 line) [
   | inl e ↦ ap (filter is_word) e
-  | inr e ↦ ap (filter is_word) e.0 ∙ ap (λ rest. cond (is_word (front_part 32 line)) (front_part 32 line ∷ words_of rest) (words_of rest)) (sym e.1)
+  | inr e ↦ ap (filter is_word) e.0 ∙ ap (λ rest. cond (is_word (front_part 32 line))
+      (front_part 32 line ∷ words_of rest) (words_of rest)) (sym e.1)
 ]
 
 pub rest_shorter : (mark : ℕ) (text : List ℕ) → 0 < length text
@@ -84,5 +90,6 @@ pub words_more : (line front rest : List ℕ) → front ≡ front_part 32 line
     → words_of line ≡ front ∷ words_of rest
 words_more line front rest is_front is_rest some =
     let b : is_word front ≡ true = search (rules, nat_tests) in
-    let at : words_of line ≡ cond (is_word front) (front ∷ words_of rest) (words_of rest) = rw (is_front, is_rest) (words_step line) in
+    let at : words_of line ≡ cond (is_word front) (front ∷ words_of rest) (words_of rest) =
+    rw (is_front, is_rest) (words_step line) in
     rw b at at

@@ -6,7 +6,8 @@ use Rattle.std.proofs.lemmas.List.{take_more, map_more}
 use Rattle.std.specs.Prelude.{encode_utf8, encode_utf8_all, map}
 use Rattle.hex.specs.Hex.{encode_with}
 use Rattle.ras_core.specs.declared.outcome.Outcome.{Outcome}
-use Rattle.script.specs.Prints.{character_of, identifier_text, outcome_line, outcome_lines, outcome_lines_from}
+use Rattle.script.specs.Prints.{character_of, identifier_text, outcome_line, outcome_lines}
+use Rattle.script.specs.Prints.{outcome_lines_from}
 
 encode_utf8_all-append : (xs ys : List ℕ)
     → encode_utf8_all (xs ++ ys) ≡ encode_utf8_all xs ++ encode_utf8_all ys
@@ -16,18 +17,21 @@ encode_utf8_all-append (x ∷ xs) ys =
     ∙ sym (append_assoc (encode_utf8 x) (encode_utf8_all xs) (encode_utf8_all ys))
 
 pub identifier_more : (id : List ℕ) (i : ℕ) → i < length id
-    → identifier_text (take (i + 1) id) ≡ identifier_text (take i id) ++ encode_utf8 (character_of (get_or id i 0))
+    → identifier_text (take (i + 1) id)
+    ≡ identifier_text (take i id) ++ encode_utf8 (character_of (get_or id i 0))
 identifier_more id i below =
     ap encode_utf8_all (map_more character_of id i 0 below)
     ∙ encode_utf8_all-append (map character_of (take i id)) (character_of (get_or id i 0) ∷ [])
-    ∙ ap (λ (t : List ℕ). identifier_text (take i id) ++ t) (append-nil (encode_utf8 (character_of (get_or id i 0))))
+    ∙ ap (λ (t : List ℕ). identifier_text (take i id) ++ t)
+    (append-nil (encode_utf8 (character_of (get_or id i 0))))
 
 encode_with-append : (digits xs ys : List ℕ)
     → encode_with digits (xs ++ ys) ≡ encode_with digits xs ++ encode_with digits ys
 unfolding encode_with
 encode_with-append digits [] ys = refl
 encode_with-append digits (x ∷ xs) ys =
-    ap (λ (rest : List ℕ). slice_index digits (x / 16) ∷ slice_index digits (x % 16) ∷ rest) (encode_with-append digits xs ys)
+    ap (λ (rest : List ℕ). slice_index digits (x / 16) ∷ slice_index digits (x % 16) ∷ rest)
+    (encode_with-append digits xs ys)
 
 encode_with-one : (digits : List ℕ) (x : ℕ)
     → encode_with digits (x ∷ []) ≡ slice_index digits (x / 16) ∷ slice_index digits (x % 16) ∷ []
@@ -35,31 +39,41 @@ unfolding encode_with
 encode_with-one digits x = refl
 
 pub encode_with_more : (digits xs : List ℕ) (i : ℕ) → i < length xs
-    → encode_with digits (take (i + 1) xs) ≡ encode_with digits (take i xs) ++ (slice_index digits (get_or xs i 0 / 16) ∷ slice_index digits (get_or xs i 0 % 16) ∷ [])
+    → encode_with digits (take (i + 1) xs) ≡ encode_with digits (take i xs)
+    ++ (slice_index digits (get_or xs i 0 / 16) ∷ slice_index digits (get_or xs i 0 % 16) ∷ [])
 encode_with_more digits xs i below =
-    ap (encode_with digits) (take_more xs i 0 below) ∙ encode_with-append digits (take i xs) (get_or xs i 0 ∷ [])
-    ∙ ap (λ (last : List ℕ). encode_with digits (take i xs) ++ last) (encode_with-one digits (get_or xs i 0))
+    ap (encode_with digits) (take_more xs i 0 below)
+    ∙ encode_with-append digits (take i xs) (get_or xs i 0 ∷ [])
+    ∙ ap (λ (last : List ℕ). encode_with digits (take i xs) ++ last)
+    (encode_with-one digits (get_or xs i 0))
 
 lines-append : (n : ℕ) (xs ys : List Outcome)
-    → outcome_lines_from n (xs ++ ys) ≡ outcome_lines_from n xs ++ outcome_lines_from (n + length xs) ys
+    → outcome_lines_from n (xs ++ ys)
+    ≡ outcome_lines_from n xs ++ outcome_lines_from (n + length xs) ys
 lines-append n [] ys = ap (λ (m : ℕ). outcome_lines_from m ys) (sym (add-zero n))
 lines-append n (x ∷ xs) ys =
     ap (λ (t : List ℕ). outcome_line n x ++ t)
-    (lines-append (n + 1) xs ys ∙ ap (λ (m : ℕ). outcome_lines_from (n + 1) xs ++ outcome_lines_from m ys) (omega arith))
-    ∙ sym (append_assoc (outcome_line n x) (outcome_lines_from (n + 1) xs) (outcome_lines_from (n + length (x ∷ xs)) ys))
+    (lines-append (n + 1) xs ys
+    ∙ ap (λ (m : ℕ). outcome_lines_from (n + 1) xs ++ outcome_lines_from m ys) (omega arith))
+    ∙ sym (append_assoc (outcome_line n x) (outcome_lines_from (n + 1) xs)
+    (outcome_lines_from (n + length (x ∷ xs)) ys))
 
 pub lines_more : (xs : List Outcome) (i : ℕ) (outcome : Outcome) → i < length xs
     → outcome ≡ get_or xs i outcome
     → outcome_lines (take (i + 1) xs) ≡ outcome_lines (take i xs) ++ outcome_line (i + 1) outcome
 lines_more xs i outcome below is =
-    let number : 1 + length (take i xs) ≡ i + 1 = omega (arith, length-take-le i xs (omega (arith, below))) in
-    ap outcome_lines (take_more xs i outcome below ∙ ap (λ (o : Outcome). take i xs ++ o ∷ []) (sym is))
+    let number : 1 + length (take i xs) ≡ i + 1 =
+    omega (arith, length-take-le i xs (omega (arith, below))) in
+    ap outcome_lines (take_more xs i outcome below
+    ∙ ap (λ (o : Outcome). take i xs ++ o ∷ []) (sym is))
     ∙ lines-append 1 (take i xs) (outcome ∷ [])
     ∙ ap (λ (m : ℕ). outcome_lines (take i xs) ++ (outcome_line m outcome ++ [])) number
-    ∙ ap (λ (t : List ℕ). outcome_lines (take i xs) ++ t) (append-nil (outcome_line (i + 1) outcome))
+    ∙ ap (λ (t : List ℕ). outcome_lines (take i xs) ++ t)
+    (append-nil (outcome_line (i + 1) outcome))
 
 pub address_flat : (a b c d port dot colon : List ℕ)
-    → a ++ (dot ++ (b ++ (dot ++ (c ++ (dot ++ (d ++ (colon ++ port))))))) ≡ a ++ dot ++ b ++ dot ++ c ++ dot ++ d ++ colon ++ port
+    → a ++ (dot ++ (b ++ (dot ++ (c ++ (dot ++ (d ++ (colon ++ port)))))))
+    ≡ a ++ dot ++ b ++ dot ++ c ++ dot ++ d ++ colon ++ port
 address_flat a b c d port dot colon = sym (simp append_assoc)
 
 pub output_flat : (mark address space octets : List ℕ)
@@ -67,8 +81,11 @@ pub output_flat : (mark address space octets : List ℕ)
 output_flat mark address space octets = sym (simp append_assoc)
 
 pub line_flat : (number space note answer dropped output end : List ℕ)
-    → (number ++ space) ++ (note ++ (answer ++ (dropped ++ (output ++ end)))) ≡ number ++ space ++ note ++ answer ++ dropped ++ output ++ end
+    → (number ++ space) ++ (note ++ (answer ++ (dropped ++ (output ++ end))))
+    ≡ number ++ space ++ note ++ answer ++ dropped ++ output ++ end
 line_flat number space note answer dropped output end =
-    let left : (number ++ space) ++ (note ++ (answer ++ (dropped ++ (output ++ end)))) ≡ number ++ (space ++ (note ++ (answer ++ (dropped ++ (output ++ end))))) = simp append_assoc in
-    let right : number ++ space ++ note ++ answer ++ dropped ++ output ++ end ≡ number ++ (space ++ (note ++ (answer ++ (dropped ++ (output ++ end))))) = simp append_assoc in
+    let left : (number ++ space) ++ (note ++ (answer ++ (dropped ++ (output ++ end)))) ≡ number
+    ++ (space ++ (note ++ (answer ++ (dropped ++ (output ++ end))))) = simp append_assoc in
+    let right : number ++ space ++ note ++ answer ++ dropped ++ output ++ end ≡ number
+    ++ (space ++ (note ++ (answer ++ (dropped ++ (output ++ end))))) = simp append_assoc in
     left ∙ sym right

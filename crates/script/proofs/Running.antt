@@ -6,14 +6,17 @@ use Rattle.ras_core.specs.Machine.{most_steps}
 use Rattle.script.specs.declared.fault.RunFault.TheVariants.{Memory, Closed}
 use Rattle.script.specs.Runs.{RunsAndPrints, IsRunOf}
 
-pub no_memory_at : (start : Running) (events : List Event) (before : ℕ) (after : Running) (old new : Option (List ℕ))
+pub no_memory_at : (start : Running) (events : List Event) (before : ℕ) (after : Running)
+    (old new : Option (List ℕ))
     → before < length events
     → RunsAndPrints start (take before events) after old new
     → (after.state.steps ≡ most_steps → ⊥)
     → IsRunOf start events old new (Err (Memory (before + 1)))
-no_memory_at start events before after old new below ran more = rw add-one (after, (below, ran), more)
+no_memory_at start events before after old new below ran more =
+    rw add-one (after, (below, ran), more)
 
-pub closed_at : (start : Running) (events : List Event) (before : ℕ) (after : Running) (old new : Option (List ℕ))
+pub closed_at : (start : Running) (events : List Event) (before : ℕ) (after : Running)
+    (old new : Option (List ℕ))
     → before < length events
     → RunsAndPrints start (take before events) after old new
     → after.state.steps ≡ most_steps

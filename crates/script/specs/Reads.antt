@@ -38,7 +38,8 @@ IsAtEndIfRead (Err Stream) left = Unit {0}
 IsAtEndIfRead (Err Memory) left = Unit {0}
 
 -- At most one octet past the greatest size is read, and the answer is what the octets say.
-pub record ReadsScript (old new : Option (List ℕ)) (answer : Result Script ScriptFault) : Type 0 where
+pub record ReadsScript (old new : Option (List ℕ))
+    (answer : Result Script ScriptFault) : Type 0 where
   pub text : List ℕ
   pub taken : Consumes old new text
   pub few : length text ≤ 1048577

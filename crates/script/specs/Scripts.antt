@@ -1,5 +1,6 @@
 -- What a script says as a whole.
-use Rattle.std.specs.Prelude.{ℕ, ◌≡◌, ◌+◌, not, List, [], ◌∷◌, length, nat_lt, map, fold, filter_map}
+use Rattle.std.specs.Prelude.{ℕ, ◌≡◌, ◌+◌, not, List, [], ◌∷◌, length, nat_lt, map, fold}
+use Rattle.std.specs.Prelude.{filter_map}
 use Rattle.std.specs.Prelude.{Option, Some, None, is_some, Result, Ok, Err, if◌then◌else◌}
 use Rattle.std.specs.List.{position_from, last_or}
 use Rattle.ras_module.specs.declared.address.Address.{Address}
@@ -68,7 +69,8 @@ script_with config pools events =
     record { config = config; pools = specs_of config.limit pools; events = events }
 
 -- a zone has to be named, and its last pool has to serve every address
-abbrev pub script_from : Option (List ℕ × Address) → List (Key × ℕ) → List PoolEntry → List Event → Result Script ScriptFault
+abbrev pub script_from : Option (List ℕ × Address) → List (Key × ℕ) → List PoolEntry → List Event
+    → Result Script ScriptFault
 script_from None settings pools events = Err NoZone
 script_from (Some zone) settings pools events =
     if has_default (networks_of pools)

@@ -1,25 +1,29 @@
 use Rattle.std.proofs.Common.{rules, arith, ◌≡◌, ◌++◌, ◌≤◌, take, length, ap, ◌∙◌}
 use Rattle.std.proofs.lemmas.List.{take-append-le}
 use Rattle.std.proofs.lemmas.Grind.{common_steps}
-use Rattle.script.proofs.KnownBytes.{consumes_then}
+use Rattle.std.proofs.KnownBytes.{Consumes-trans}
 use Rattle.script.proofs.input.read_whole.Goals as goal
 
 pub loop-preserved : goal.loop-preserved
 loop-preserved g c =
     let n : c.in-Ok.n ≤ length c.read.new.buf = search rules in
-    let now : c.extend_from_slice.new.self.items ≡ c.loop.all.items ++ take c.in-Ok.n c.read.new.buf =
-    c.in_ok-extend_from_slice-in-Ok.ensures.items ∙ ap (λ t. c.loop.all.items ++ t) (take-append-le _ c.read.new.buf _ n) in
+    let now : c.extend_from_slice.new.self.items
+    ≡ c.loop.all.items ++ take c.in-Ok.n c.read.new.buf =
+    c.in_ok-extend_from_slice-in-Ok.ensures.items
+    ∙ ap (λ t. c.loop.all.items ++ t) (take-append-le _ c.read.new.buf _ n) in
     record {
       len = grind (arith, common_steps);
       rounds = grind (arith, common_steps);
-      bytes = rw now (consumes_then _ _ _ _ _ c.loop.invariant.bytes c.in-Ok.ensures.bytes.0);
+      bytes = rw now (Consumes-trans _ _ _ _ _ c.loop.invariant.bytes c.in-Ok.ensures.bytes.0);
     }
 
-pub returns-in_err-extend_from_slice-in-Ok-clause-most : goal.returns-in_err-extend_from_slice-in-Ok-clause-most
+pub returns-in_err-extend_from_slice-in-Ok-clause-most :
+    goal.returns-in_err-extend_from_slice-in-Ok-clause-most
 returns-in_err-extend_from_slice-in-Ok-clause-most g c =
-    let within : length (c.loop.all.items ++ take c.in-Ok.n c.read.new.buf) ≤ 1048577 = grind (arith, common_steps) in
+    let within : length (c.loop.all.items ++ take c.in-Ok.n c.read.new.buf) ≤ 1048577 =
+    grind (arith, common_steps) in
     record {
       octets = c.loop.all.items ++ take c.in-Ok.n c.read.new.buf;
       few = within;
-      taken = consumes_then _ _ _ _ _ c.loop.invariant.bytes c.in-Ok.ensures.bytes.0;
+      taken = Consumes-trans _ _ _ _ _ c.loop.invariant.bytes c.in-Ok.ensures.bytes.0;
     }

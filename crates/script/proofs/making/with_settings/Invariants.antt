@@ -3,4 +3,5 @@ use Rattle.script.specs.Scripts.{with_setting}
 use Rattle.script.proofs.making.with_settings.Given as goal
 
 abbrev pub invariant-loop-setting : goal.invariant-loop-setting
-invariant-loop-setting l = l.config ≡ fold with_setting l.initial.config (take l.setting-index l.settings)
+invariant-loop-setting l =
+    l.config ≡ fold with_setting l.initial.config (take l.setting-index l.settings)

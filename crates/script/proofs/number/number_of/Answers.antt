@@ -6,7 +6,8 @@ use Rattle.script.proofs.number.number_of.Goals as goal
 use Rattle.script.proofs.number.number_of.Goals.{After-from}
 
 value_more : (c : After-from)
-    → c.loop-c.number * 10 + c.from.result ≡ digits_value 10 (take (c.loop-c.c-index + 1) c.args.word.now)
+    → c.loop-c.number * 10 + c.from.result
+    ≡ digits_value 10 (take (c.loop-c.c-index + 1) c.args.word.now)
 value_more c =
     let i = c.loop-c.c-index in
     let below : i < length c.args.word.now = search rules in
@@ -18,7 +19,8 @@ value_more c =
 pub returns-then-number-high-clause-value : goal.returns-then-number-high-clause-value
 returns-then-number-high-clause-value c =
     let more = value_more (goal.at.returns-then-number-high-clause-value c).After-from in
-    too_large c.args.low c.args.high c.args.word.now (c.loop-c.c-index + 1) (omega (arith, c.if-number-high.true))
+    too_large c.args.low c.args.high c.args.word.now
+    (c.loop-c.c-index + 1) (omega (arith, c.if-number-high.true))
 
 pub loop-c-preserved : goal.loop-c-preserved
 loop-c-preserved c =

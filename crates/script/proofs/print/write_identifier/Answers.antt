@@ -2,7 +2,7 @@ use Rattle.std.proofs.Common.{rules, ◌<◌, sym, subst, List, ℕ, length, get
 use Rattle.std.specs.Prelude.{encode_utf8}
 use Rattle.std.specs.Io.KnownBytes.{Appends}
 use Rattle.script.specs.Prints.{character_of, identifier_text}
-use Rattle.script.proofs.KnownBytes.{appends_then}
+use Rattle.std.proofs.KnownBytes.{Appends-trans}
 use Rattle.script.proofs.Printing.{identifier_more}
 use Rattle.script.proofs.print.write_identifier.Goals as goal
 
@@ -15,6 +15,7 @@ loop-code-preserved g c =
     let before = g.W.Write.contents c.loop-code.out in
     let after = g.W.Write.contents c.write.new.self in
     let wrote : Appends before after (encode_utf8 (character_of (get_or id i 0))) =
-    subst (λ (code : ℕ). Appends before after (encode_utf8 code)) c.character_of.ensures c.in_ok-write.ensures.bytes in
+    subst (λ (code : ℕ). Appends before after (encode_utf8 code)) c.character_of.ensures
+    c.in_ok-write.ensures.bytes in
     subst (λ (t : List ℕ). Appends start after t) (sym (identifier_more id i below))
-    (appends_then start before after (identifier_text (take i id)) _ c.loop-code.invariant wrote)
+    (Appends-trans start before after (identifier_text (take i id)) _ c.loop-code.invariant wrote)

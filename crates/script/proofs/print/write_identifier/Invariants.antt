@@ -4,4 +4,5 @@ use Rattle.script.specs.Prints.{identifier_text}
 use Rattle.script.proofs.print.write_identifier.Given as goal
 
 abbrev pub invariant-loop-code : goal.invariant-loop-code
-invariant-loop-code g l = Appends (g.W.Write.contents l.initial.out) (g.W.Write.contents l.out) (identifier_text (take l.code-index l.code-items))
+invariant-loop-code g l = Appends (g.W.Write.contents l.initial.out) (g.W.Write.contents l.out)
+    (identifier_text (take l.code-index l.code-items))

@@ -24,9 +24,12 @@ returns g c =
     let answer = answer_text outcome.answer in
     let dropped = dropped_text outcome.dropped in
     let output = output_text outcome.output in
-    subst (λ (t : List ℕ). OnOk c.write_all.result (Appends start end t)) (line_flat number space note answer dropped output newline)
-    (appends_then_on_ok c.write_all.result start one end (number ++ space) _ c.in_ok-write.ensures.bytes
+    subst (λ (t : List ℕ). OnOk c.write_all.result (Appends start end t))
+    (line_flat number space note answer dropped output newline)
+    (appends_then_on_ok c.write_all.result start one end
+    (number ++ space) _ c.in_ok-write.ensures.bytes
     (appends_then_on_ok c.write_all.result one two end note _ c.in_ok-write_note.ensures
     (appends_then_on_ok c.write_all.result two three end answer _ c.in_ok-write_answer.ensures
     (appends_then_on_ok c.write_all.result three four end dropped _ c.in_ok-write_dropped.ensures
-    (appends_then_on_ok c.write_all.result four five end output newline c.in_ok-write_output.ensures c.write_all.ensures.bytes)))))
+    (appends_then_on_ok c.write_all.result four five end output newline c.in_ok-write_output.ensures
+    c.write_all.ensures.bytes)))))

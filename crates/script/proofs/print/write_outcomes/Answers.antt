@@ -1,7 +1,7 @@
 use Rattle.std.proofs.Common.{rules, ◌<◌, ◌+◌, sym, subst, List, ℕ, length, take}
 use Rattle.std.specs.Io.KnownBytes.{Appends}
 use Rattle.script.specs.Prints.{outcome_lines, outcome_line}
-use Rattle.script.proofs.KnownBytes.{appends_then}
+use Rattle.std.proofs.KnownBytes.{Appends-trans}
 use Rattle.script.proofs.Printing.{lines_more}
 use Rattle.script.proofs.print.write_outcomes.Goals as goal
 
@@ -13,5 +13,7 @@ loop-i-preserved g c =
     let below : i < length outcomes = search rules in
     let start = g.W.Write.contents c.args.out.now in
     let after = g.W.Write.contents c.write_outcome.new.out in
-    subst (λ (t : List ℕ). Appends start after t) (sym (lines_more outcomes i outcome below c.index-outcomes-i.is))
-    (appends_then start (g.W.Write.contents c.loop-i.out) after (outcome_lines (take i outcomes)) (outcome_line (i + 1) outcome) c.loop-i.invariant c.in_ok-write_outcome.ensures)
+    subst (λ (t : List ℕ). Appends start after t)
+    (sym (lines_more outcomes i outcome below c.index-outcomes-i.is))
+    (Appends-trans start (g.W.Write.contents c.loop-i.out) after (outcome_lines (take i outcomes))
+    (outcome_line (i + 1) outcome) c.loop-i.invariant c.in_ok-write_outcome.ensures)

@@ -19,7 +19,8 @@ returns-in-Memory-clause-answer g c =
     let ran : RunsOn first (take before script.events) [] outcomes after = search rules in
     let lines : Appends start end (outcome_lines outcomes) = search rules in
     no_memory_at first script.events before after start end below
-    (record { outcomes = outcomes; run = ran; lines = lines }) (λ e. absurd (cc (c.in-Err-ran.ensures.closed.1 e, c.in-Memory.is)))
+    (record { outcomes = outcomes; run = ran; lines = lines })
+    (λ e. absurd (cc (c.in-Err-ran.ensures.closed.1 e, c.in-Memory.is)))
 
 pub returns-in-Ok-ran-clause-answer : goal.returns-in-Ok-ran-clause-answer
 returns-in-Ok-ran-clause-answer g c =

@@ -7,8 +7,10 @@ use Rattle.script.proofs.setting.Setting.apply.Goals as goal
 pub unreachable-requires : goal.unreachable-requires
 unreachable-requires c =
     let old : IsConfig c.into_parts-parts.result =
-    subst (λ (parts : ConfigParts). IsConfig parts) (sym c.into_parts-parts.ensures.same) c.into_parts-parts.ensures.ranges in
+    subst (λ (parts : ConfigParts). IsConfig parts)
+    (sym c.into_parts-parts.ensures.same) c.into_parts-parts.ensures.ranges in
     let new : IsConfig c.set.new.parts =
     subst (λ (parts : ConfigParts). IsConfig parts) (sym c.set.ensures)
-    (stays_config c.into_parts-parts.result c.self.inside.key c.self.inside.number c.self.invariant.0 c.self.invariant.1 old) in
+    (stays_config c.into_parts-parts.result c.self.inside.key c.self.inside.number
+    c.self.invariant.0 c.self.invariant.1 old) in
     no_config_fault c.set.new.parts c.new.result c.in-Err.field-0 c.new.ensures c.in-Err.is new
