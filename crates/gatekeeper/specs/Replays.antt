@@ -8,7 +8,8 @@ use Rattle.script.specs.declared.read.Script.{Script}
 use Rattle.script.specs.Reads.{ReadsScript}
 use Rattle.script.specs.Runs.{IsRunAnswer}
 use Rattle.gatekeeper.specs.declared.replay.ReplayFault.{ReplayFault}
-use Rattle.gatekeeper.specs.declared.replay.ReplayFault.TheVariants.{Script as OfScript, Run as OfRun}
+use Rattle.gatekeeper.specs.declared.replay.ReplayFault.TheVariants.{Script as OfScript}
+use Rattle.gatekeeper.specs.declared.replay.ReplayFault.TheVariants.{Run as OfRun}
 
 -- 1: the input is refused; 3: no memory; 4: a stream failed
 abbrev pub status_of : ReplayFault → ℕ
@@ -29,7 +30,8 @@ accounts_of script = map account_of script.pools
 
 -- A script was read and run, with its pools; or it was read and not run to its end; or it was not
 -- read, and the writer is as it was.
-abbrev pub Replays : Option (List ℕ) → Option (List ℕ) → Option (List ℕ) → Option (List ℕ) → Result Unit ReplayFault → Type 0
+abbrev pub Replays : Option (List ℕ) → Option (List ℕ) → Option (List ℕ) → Option (List ℕ)
+    → Result Unit ReplayFault → Type 0
 Replays left left_now old new (Ok done) =
     (script : Script) × ReadsScript left left_now (Ok script)
     × IsRunAnswer script (accounts_of script) old new (Ok done)
