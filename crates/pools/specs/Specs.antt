@@ -1,4 +1,3 @@
-use Rattle.std.specs.Prelude.{ℕ}
 use Rattle.pools.specs.declared.pool_spec.PoolSpec.{PoolSpec}
 use Rattle.pools.specs.declared.pool_spec.PoolSpec.TheVariants.{Fixed, Step, Paced}
 use Rattle.pools.specs.Account.{Account, opening_account}

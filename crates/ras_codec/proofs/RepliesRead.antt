@@ -43,7 +43,7 @@ use Rattle.ras_module.specs.declared.reason.BandRejectReason.{BandRejectReason}
 use Rattle.ras_module.specs.declared.reason.BandRejectReason.TheVariants as band
 use Rattle.ras_module.specs.declared.reason.DisengageRejectReason.{DisengageRejectReason}
 use Rattle.ras_module.specs.declared.reason.DisengageRejectReason.TheVariants as disengage
-use Rattle.ras_codec.specs.Replies.{null_choice, transport_address, identifier}
+use Rattle.ras_codec.specs.Replies.{null_choice, transport_address}
 use Rattle.ras_codec.specs.Replies.{admission_confirm_additions, gatekeeper_confirm}
 use Rattle.ras_codec.specs.Replies.{admission_confirm, info_request, request_in_progress}
 use Rattle.ras_codec.specs.Replies.{protocol_identifier, gatekeeper_reject, unregistration_confirm}

@@ -30,10 +30,10 @@ use Rattle.ras_module.specs.declared.reply.Reply.TheVariants.{Arj, Bcf, Brj, Dcf
 use Rattle.ras_module.specs.Rooms.{room_of}
 use Rattle.ras_codec.specs.Encoding.{Encoding, in_order, padded_octets, boolean, bits, whole}
 use Rattle.ras_codec.specs.Encoding.{small}
-use Rattle.ras_codec.specs.Replies.{protocol_identifier, characters, bmp_string, identifier}
+use Rattle.ras_codec.specs.Replies.{protocol_identifier, characters, identifier}
 use Rattle.ras_codec.specs.Replies.{transport_address, digits, digit_code, alias_address}
 use Rattle.ras_codec.specs.Replies.{alias_addresses, alias_list, null_choice, zero_octet}
-use Rattle.ras_codec.specs.Replies.{null_extension, terminal_alias, has_aliases}
+use Rattle.ras_codec.specs.Replies.{terminal_alias, has_aliases}
 use Rattle.ras_codec.specs.Replies.{registration_reason, held_in, time_to_live_octets}
 use Rattle.ras_codec.specs.Replies.{registration_confirm_additions, registration_confirm_front}
 use Rattle.ras_codec.specs.Replies.{registration_confirm, registration_reject}

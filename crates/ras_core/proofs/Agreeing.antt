@@ -6,10 +6,10 @@ use Rattle.std.proofs.lemmas.Cmp.{nat_list_cmp_total}
 use Rattle.std.proofs.lemmas.Map.Lookups.{exact_bytes}
 use Rattle.keyed.specs.Maps.{update}
 use Rattle.keyed.proofs.Maps.{Changed-update}
-use Rattle.std.specs.Option.{IsSomeAnd, option_map}
+use Rattle.std.specs.Option.{option_map}
 use Rattle.ras_module.specs.declared.alias.Alias.{Alias}
 use Rattle.ras_module.specs.declared.address.Address.{Address}
-use Rattle.aliases.specs.Held.{Held, IsHeldByAnother, with_aliases, without_holder}
+use Rattle.aliases.specs.Held.{Held, with_aliases, without_holder}
 use Rattle.registrations.specs.declared.registration.Registration.{Registration}
 use Rattle.registrations.specs.Registry.{Live, IsConsistent, after_hear, after_rewrite}
 use Rattle.registrations.specs.Agreement.{Agree}
@@ -20,12 +20,6 @@ use Rattle.ras_core.specs.declared.registering.Entry.{Entry}
 use Rattle.ras_core.specs.State.{heard_now}
 use Rattle.ras_core.specs.inside.Parts.{Roll}
 use Rattle.ras_core.specs.inside.Changes.{IsAddable, IsRewritable}
-
--- what nobody holds is held by no other
-pub free_of_others : (held : Held) (alias : Alias) (id : List ℕ) → fin.get held alias ≡ None
-    → IsHeldByAnother held alias id → ⊥
-free_of_others held alias id none other =
-    subst (λ w. IsSomeAnd w (λ h. h.holder ≡ id → ⊥)) none other
 
 module _ (roll : Roll) (held : Held) (agree : Agree roll.live held) where
   pub free_to_add : (r : Registration) → IsAddable roll r → (alias : Alias)

@@ -32,7 +32,7 @@ use Rattle.ras_core.specs.declared.change.Purpose.TheVariants.{Opening, Raising}
 use Rattle.ras_core.specs.Pools.{figures_at, figures_of, figures_after_return, pools_after_answer}
 use Rattle.ras_core.specs.Pools.{pools_after_return, pools_after_end}
 use Rattle.ras_core.specs.inside.Parts.{Usage, IsBacked, with_usage}
-use Rattle.ras_core.specs.inside.Decisions.{IsBandWidth, IsEnterable, IsGrantable, IsPurpose}
+use Rattle.ras_core.specs.inside.Decisions.{IsEnterable, IsGrantable, IsPurpose}
 use Rattle.ras_core.specs.inside.Decisions.{IsQuestion, granted_calls, calls_after_answer}
 use Rattle.ras_core.specs.inside.Changes.{IsOpenable, IsJoinable, IsLowerable}
 use Rattle.ras_core.specs.Soundness.{HasCounts}
@@ -322,9 +322,3 @@ IsBacked-start accounts most limit call_limit idle small = record {
   call_limit = EachCall-empty (λ call. call.units ≤ call_limit);
   limit = omega (arith, total-empty call_key_cmp_total call_key_cmp-IsAntisymmetric units_of);
 }
-
--- what a call has with what is lent is a BandWidth
-pub is_band_width : (u : Usage) (q : Question) (n : ℕ) → u.call_limit < 2 ^ 32 → n ≤ q.units
-    → (p : Purpose) → IsPurpose u q p → IsBandWidth p n
-is_band_width u q n small few (Opening leg) can = tt
-is_band_width u q n small few (Raising had) can = omega (arith, can.limit, few, small)

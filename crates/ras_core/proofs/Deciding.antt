@@ -5,7 +5,8 @@ use Rattle.std.specs.Prelude.{Result, Ok, Err, IsOk, MatchResult, ◌<◌, filte
 use Rattle.std.specs.FinMap as fin
 use Rattle.ras_module.specs.declared.alias.Alias.{Alias}
 use Rattle.ras_module.specs.declared.reply.Reply.{Reply}
-use Rattle.ras_module.specs.declared.reason.RegistrationRejectReason.TheVariants.{FullRegistrationRequired}
+use Rattle.ras_module.specs.declared.reason.RegistrationRejectReason.TheVariants as reject
+use reject.{FullRegistrationRequired}
 use Rattle.registrations.specs.declared.registration.Registration.{Registration}
 use Rattle.registrations.specs.Registry.{IsConsistent}
 use Rattle.ras_core.specs.declared.registering.Registering.{Registering}

@@ -1,5 +1,6 @@
 -- What the ranges of a zone's settings give.
-use Rattle.std.proofs.Common.{◌≡◌, ◌≤◌, ◌<◌, ◌||◌, ℕ, Bool, true, false, List, refl, Some, None}
+use Rattle.std.proofs.Common.{◌≡◌, ◌≤◌, ◌<◌, ℕ, Bool, true, false, List, refl, Some, None}
+use Rattle.std.proofs.lemmas.Bool.{or_parts}
 use Rattle.std.proofs.Common.{arith}
 use Rattle.std.specs.Prelude.{Option, IsSome, SomeIff, nat_lt, codes, if◌then◌else◌}
 use Rattle.std.proofs.lemmas.Bool.Decides.{nat_tests}
@@ -11,16 +12,12 @@ passes : (b : Bool) (x : List ℕ) (rest : Option (List ℕ)) → (if b then Som
 passes true x rest h = absurd (cc h)
 passes false x rest h = (refl, h)
 
-neither : (a b : Bool) → (a || b) ≡ false → (a ≡ false) × (b ≡ false)
-neither true b h = absurd (cc h)
-neither false b h = (refl, h)
-
 not_below : (a b : ℕ) → nat_lt a b ≡ false → b ≤ a
 not_below a b h = grind (arith, nat_tests)
 
 inside : (low high n : ℕ) → is_outside low high n ≡ false → (low ≤ n) × (n ≤ high)
 inside low high n h =
-    let both = neither (nat_lt n low) (nat_lt high n) h in
+    let both = or_parts (nat_lt n low) (nat_lt high n) h in
     (not_below n low both.0, not_below high n both.1)
 
 -- how long registrations live, and how many there may be

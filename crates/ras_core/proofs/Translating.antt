@@ -1,9 +1,10 @@
 -- The endpoint that is registered with an alias is the one that holds it in the table.
-use Rattle.std.proofs.Common.{◌≡◌, ◌<◌, ◌+◌, ℕ, Bool, true, false, List, ◌∷◌, drop, length, get_or}
+use Rattle.std.proofs.Common.{◌≡◌, ◌<◌, ◌+◌, ℕ, true, List, ◌∷◌, drop, length, get_or}
 use Rattle.std.proofs.Common.{refl, sym, ◌∙◌, ap, Some, None}
 use Rattle.std.specs.Prelude.{Option}
 use Rattle.std.specs.Option.{option_map}
 use Rattle.std.specs.FinMap as fin
+use Rattle.std.proofs.lemmas.Bool.{false_from_ne_true}
 use Rattle.std.proofs.lemmas.Cmp.{nat_list_cmp_total}
 use Rattle.std.proofs.lemmas.Map.Lookups.{exact_bytes}
 use Rattle.std.proofs.lemmas.List.{drop_more}
@@ -19,10 +20,6 @@ use Rattle.registrations.specs.Registry.{Live}
 use Rattle.registrations.specs.Agreement.{Agree}
 use Rattle.ras_core.specs.Admission.{registered_with, translation, address_or}
 
-not_true : (b : Bool) → (b ≡ true → ⊥) → b ≡ false
-not_true true f = absurd (f refl)
-not_true false f = refl
-
 module _ (live : Live) (held : Held) (agree : Agree live held) (alias : Alias) where
   -- each registration with the alias is its holder's
   is_held : (id : List ℕ) (r : Registration) → fin.get live id ≡ Some r
@@ -34,7 +31,7 @@ module _ (live : Live) (held : Held) (agree : Agree live held) (alias : Alias) w
   pub none_registered : holder_of held alias ≡ None → registered_with live alias ≡ None
   none_registered none =
       find_none nat_list_cmp_total exact_bytes (λ r. has_alias r.aliases alias) live
-      (λ id r there. not_true (has_alias r.aliases alias)
+      (λ id r there. false_from_ne_true (has_alias r.aliases alias)
       (λ has. some_none (sym (is_held id r there has) ∙ none)))
 
   pub holder_registered : (id : List ℕ) → holder_of held alias ≡ Some id

@@ -8,10 +8,8 @@ use Rattle.keyed.specs.Maps.{update}
 use Rattle.ras_module.specs.declared.address.Address.{Address}
 use Rattle.ras_module.specs.declared.alias.Alias.{Alias}
 use Rattle.ras_module.specs.declared.reason.AdmissionRejectReason.{AdmissionRejectReason}
-use Rattle.ras_module.specs.declared.reason.AdmissionRejectReason.TheVariants.{CalledPartyNotRegistered}
-use Rattle.ras_module.specs.declared.reason.AdmissionRejectReason.TheVariants.{RequestDenied}
-use Rattle.ras_module.specs.declared.reason.AdmissionRejectReason.TheVariants.{InvalidEndpointIdentifier}
-use Rattle.ras_module.specs.declared.reason.AdmissionRejectReason.TheVariants.{ResourceUnavailable}
+use Rattle.ras_module.specs.declared.reason.AdmissionRejectReason.TheVariants as reject
+use reject.{CalledPartyNotRegistered, RequestDenied, InvalidEndpointIdentifier, ResourceUnavailable}
 use Rattle.ras_module.specs.declared.reply.Reply.TheVariants.{Acf, Arj}
 use Rattle.ras_module.specs.Aliases.{has_alias}
 use Rattle.registrations.specs.declared.registration.Registration.{Registration}

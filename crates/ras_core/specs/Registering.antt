@@ -7,12 +7,9 @@ use Rattle.keyed.specs.Maps.{update}
 use Rattle.ras_module.specs.declared.address.Address.{Address}
 use Rattle.ras_module.specs.declared.alias.Alias.{Alias}
 use Rattle.ras_module.specs.declared.reason.RegistrationRejectReason.{RegistrationRejectReason}
-use Rattle.ras_module.specs.declared.reason.RegistrationRejectReason.TheVariants.{DiscoveryRequired}
-use Rattle.ras_module.specs.declared.reason.RegistrationRejectReason.TheVariants.{InvalidCallSignalAddress}
-use Rattle.ras_module.specs.declared.reason.RegistrationRejectReason.TheVariants.{InvalidRasAddress}
-use Rattle.ras_module.specs.declared.reason.RegistrationRejectReason.TheVariants.{DuplicateAlias}
-use Rattle.ras_module.specs.declared.reason.RegistrationRejectReason.TheVariants.{ResourceUnavailable}
-use Rattle.ras_module.specs.declared.reason.RegistrationRejectReason.TheVariants.{FullRegistrationRequired}
+use Rattle.ras_module.specs.declared.reason.RegistrationRejectReason.TheVariants as reject
+use reject.{DiscoveryRequired, InvalidCallSignalAddress, InvalidRasAddress, DuplicateAlias}
+use reject.{ResourceUnavailable, FullRegistrationRequired}
 use Rattle.ras_module.specs.declared.reply.Reply.{Reply}
 use Rattle.ras_module.specs.declared.reply.Reply.TheVariants.{Rcf, Rrj}
 use Rattle.ras_module.specs.Addresses.{same_address}

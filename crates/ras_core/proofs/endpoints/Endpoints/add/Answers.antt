@@ -3,10 +3,11 @@ use Rattle.std.specs.Prelude.{Contains}
 use Rattle.std.specs.FinMap as fin
 use Rattle.ras_module.specs.declared.alias.Alias.{Alias}
 use Rattle.aliases.specs.Held.{Held, IsHeldByAnother, with_aliases}
+use Rattle.aliases.proofs.Entering.{not_held}
 use Rattle.registrations.specs.Registry.{Live}
 use Rattle.registrations.specs.Agreement.{Agree}
 use Rattle.ras_core.specs.inside.Parts.{Roll}
-use Rattle.ras_core.proofs.Agreeing.{free_of_others, free_to_add, Agree-add, on_ok}
+use Rattle.ras_core.proofs.Agreeing.{free_to_add, Agree-add, on_ok}
 use Rattle.ras_core.proofs.endpoints.Endpoints.add.Goals as goal
 
 pub set_all-requires-clause-free : goal.set_all-requires-clause-free
@@ -14,7 +15,7 @@ set_all-requires-clause-free c alias has other =
     let held = c.self.inside.aliases.held in
     let agree = subst (λ (t : Roll). Agree t.live held) c.self.view_is c.self.invariant in
     let r = c.args.registration in
-    free_of_others held alias r.identifier
+    not_held held alias r.identifier
     (free_to_add c.args.self.now held agree r c.requires alias
     (subst (λ (xs : List Alias). Contains xs alias) c.as_slice-aliases.ensures.items has))
     (subst (λ (h : Held). IsHeldByAnother h alias r.identifier) c.reserve-2.ensures.held other)

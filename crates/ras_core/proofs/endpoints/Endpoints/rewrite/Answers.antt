@@ -3,12 +3,13 @@ use Rattle.std.specs.Prelude.{Contains, IsSome}
 use Rattle.std.specs.FinMap as fin
 use Rattle.ras_module.specs.declared.alias.Alias.{Alias}
 use Rattle.aliases.specs.Held.{Held, IsHeldByAnother, with_aliases, without_holder}
+use Rattle.aliases.proofs.Entering.{not_held}
 use Rattle.registrations.specs.Registry.{Live, IsConsistent, after_hear, after_rewrite}
 use Rattle.registrations.specs.Agreement.{Agree}
 use Rattle.keyed.specs.Maps.{update}
 use Rattle.ras_core.specs.State.{heard_now}
 use Rattle.ras_core.specs.inside.Parts.{Roll}
-use Rattle.ras_core.proofs.Agreeing.{free_of_others, free_to_rewrite, is_live, is_there}
+use Rattle.ras_core.proofs.Agreeing.{free_to_rewrite, is_live, is_there}
 use Rattle.ras_core.proofs.Agreeing.{is_there_after, Agree-rewriting}
 use Rattle.ras_core.proofs.endpoints.Endpoints.rewrite.Goals as goal
 
@@ -21,7 +22,7 @@ set_all-requires-clause-free c alias has other =
     let id = c.args.id in
     let dropped : c.drop_holder.new.self.held ≡ without_holder held id =
     c.drop_holder.ensures.rows ∙ ap (λ h. without_holder h id) c.reserve.ensures.held in
-    free_of_others (without_holder held id) alias id
+    not_held (without_holder held id) alias id
     (free_to_rewrite c.args.self.now held agree sound id c.args.entry c.requires alias
     (subst (λ (xs : List Alias). Contains xs alias) c.as_slice-2.ensures.items has))
     (subst (λ (h : Held). IsHeldByAnother h alias id) dropped other)

@@ -3,7 +3,7 @@ use Rattle.std.specs.Prelude.{IfSome}
 use Rattle.ras_codec.specs.Replies.{encoding_of}
 use Rattle.kept_replies.specs.Kept.{KeptReplies, Passes, is_over}
 use Rattle.ras_core.specs.declared.outcome.Note.{Note}
-use Rattle.ras_core.specs.State.{Running, State}
+use Rattle.ras_core.specs.State.{Running}
 use Rattle.ras_core.specs.inside.Parts.{RunningZone, running_of}
 use Rattle.ras_core.specs.Pools.{pools_after_answer}
 use Rattle.ras_core.specs.Keeping.{kept_as, plan_at, term_of}

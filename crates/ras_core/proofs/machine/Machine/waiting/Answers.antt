@@ -6,7 +6,7 @@ use Rattle.kept_replies.specs.Kept.{births}
 use Rattle.expiry.specs.declared.due_item.DueItem.TheVariants.{Retry}
 use Rattle.ras_core.specs.declared.job.Occasion.TheVariants.{Again}
 use Rattle.ras_core.specs.inside.Parts.{running_of}
-use Rattle.ras_core.specs.State.{Running, State}
+use Rattle.ras_core.specs.State.{Running}
 use Rattle.ras_core.specs.Turns.{IsDueIn}
 use Rattle.ras_core.specs.inside.Serving.{IsAgain}
 use Rattle.ras_core.proofs.Retrying.{is_again, is_served}
