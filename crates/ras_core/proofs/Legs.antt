@@ -158,6 +158,19 @@ length-pools_after (Lowering key units pool back) calls pools =
 length-pools_after (Leaving key endpoint) calls pools =
     length-after_end pools (freed_by_leave calls key endpoint)
 
+-- the parts of a zone fit together where its endpoints change, and each leg's is registered
+pub AreParts-live : (config : ConfigParts) (old new : Roll) (u : Usage) → AreParts config old u
+    → new.most ≡ old.most → (live : Live) → new.live ≡ live → HaveEndpoints live u.calls
+    → AreParts config new u
+AreParts-live config old new u parts most live is legs = record {
+  endpoints = most ∙ parts.endpoints;
+  calls = parts.calls;
+  limit = parts.limit;
+  call_limit = parts.call_limit;
+  pools = parts.pools;
+  legs = subst (λ live. HaveEndpoints live u.calls) (sym is) legs;
+}
+
 -- the parts of a zone after a change of its calls, whether it was made or not
 module _ (config : ConfigParts) (roll : Roll) (old : Usage) (parts : AreParts config roll old) where
   -- the limits of the calls are those of the settings

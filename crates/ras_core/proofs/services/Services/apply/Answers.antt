@@ -1,9 +1,9 @@
-use Rattle.std.proofs.Common.{◌∙◌, sym, subst}
-use Rattle.ras_core.specs.inside.Parts.{RunningZone}
-use Rattle.ras_core.specs.inside.Parts.{Usage}
+use Rattle.std.proofs.Common.{sym, subst, refl}
+use Rattle.ras_core.specs.inside.Parts.{RunningZone, Usage}
 use Rattle.ras_core.specs.inside.Changes.{IsCallChange, IsPossible}
 use Rattle.ras_core.specs.declared.change.Change.TheVariants.{Endpoint, Calls}
-use Rattle.ras_core.proofs.Legs.{AreParts-change, legs-endpoint_result, usage_is}
+use Rattle.ras_core.proofs.Legs.{AreParts-change, AreParts-live, legs-endpoint_result}
+use Rattle.ras_core.proofs.Legs.{usage_is}
 use Rattle.ras_core.proofs.services.Services.apply.Goals as goal
 
 pub invariant_of-self : goal.invariant_of-self
@@ -15,16 +15,9 @@ invariant_of-self g c =
     let possible = subst (λ x. IsPossible c.args.self.now.zone x) c.in-Endpoint.is c.requires in
     let here = subst (λ (m : RunningZone). IsPossible m.zone (Endpoint change))
     (sym c.self.view_is) possible in
-    record {
-      endpoints = c.apply.ensures.most ∙ parts.endpoints;
-      calls = parts.calls;
-      limit = parts.limit;
-      call_limit = parts.call_limit;
-      pools = parts.pools;
-      legs =
-          legs-endpoint_result c.apply.result i.endpoints c.apply.new.self u.calls c.args.now change
-          parts.legs here.1 c.apply.ensures.live c.apply.ensures.err;
-    }
+    AreParts-live i.config i.endpoints c.apply.new.self u parts c.apply.ensures.most _ refl
+    (legs-endpoint_result c.apply.result i.endpoints c.apply.new.self u.calls c.args.now change
+    parts.legs here.1 c.apply.ensures.live c.apply.ensures.err)
 
 pub invariant_of-self-in-Calls : goal.invariant_of-self-in-Calls
 invariant_of-self-in-Calls g c =

@@ -1,7 +1,5 @@
-use Rattle.std.proofs.Common.{◌∙◌, sym, subst}
 use Rattle.registrations.specs.Registry.{after_ask}
-use Rattle.ras_core.specs.Soundness.{HaveEndpoints}
-use Rattle.ras_core.proofs.Legs.{legs-update}
+use Rattle.ras_core.proofs.Legs.{AreParts-live, legs-update}
 use Rattle.ras_core.proofs.services.Services.inquire.Goals as goal
 
 pub invariant_of-self : goal.invariant_of-self
@@ -9,12 +7,5 @@ invariant_of-self g c =
     let i = c.self.inside in
     let parts = c.self.invariant in
     let u = i.bandwidth.usage in
-    record {
-      endpoints = c.ask.ensures.most ∙ parts.endpoints;
-      calls = parts.calls;
-      limit = parts.limit;
-      call_limit = parts.call_limit;
-      pools = parts.pools;
-      legs = subst (λ live. HaveEndpoints live u.calls) (sym c.ask.ensures.live)
-          (legs-update i.endpoints.live u.calls c.args.id.now (after_ask c.args.now) parts.legs);
-    }
+    AreParts-live i.config i.endpoints c.ask.new.self u parts c.ask.ensures.most _ c.ask.ensures.live
+    (legs-update i.endpoints.live u.calls c.args.id.now (after_ask c.args.now) parts.legs)
