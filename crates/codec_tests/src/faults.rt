@@ -1,13 +1,14 @@
 //! Octets that are cut short, changed, late, or not as short as they could be.
 
-use crate::requests::{
-    ARQ, ARQ_ANSWER, ARQ_OF_A_SECOND_CALL, BRQ, DRQ, GRQ, GRQ_OF_XX, IRR, KEEP_ALIVE, RRQ_101,
-    RRQ_102, RRQ_109_101, URQ, is_read,
-};
+use crate::requests::is_read;
 use ras_codec::{ReadFault, read};
 use ras_module::{Request, RequestSeqNum};
 use std::alloc::Global;
 use std::test::Fail;
+use vectors::requests::{
+    ARQ, ARQ_ANSWER, ARQ_OF_A_SECOND_CALL, BRQ, DRQ, GRQ, GRQ_OF_XX, IRR, KEEP_ALIVE, RRQ_101,
+    RRQ_102, RRQ_109_101, URQ,
+};
 
 /// Whether each shorter prefix, up to so many octets, ends too early.
 fn is_cut_short(alloc: Global, octets: &[u8], count: usize) -> bool {

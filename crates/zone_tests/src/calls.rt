@@ -1,15 +1,13 @@
 //! Calls of a zone, from admission to disengaging.
 
 use crate::making::{event_from, zone};
-use crate::messages::{
-    ACF, ANSWER_ACF, ANSWER_ARQ, ARQ, BCF, BRQ, CALL_IN_PROGRESS, DCF, DENIED, DRQ, OTHER_RRQ, RRQ,
-    SECOND_ARQ, URQ,
-};
 use pools::{FixedPool, Lend, Pool};
 use ras_core::{Datagram, Zone};
 use ras_module::{Address, Octets, Source};
 use std::alloc::Global;
 use std::test::Fail;
+use vectors::replies::{ACF_900, ACF_1280, ARJ, BCF, DCF, URJ};
+use vectors::requests::{ARQ, ARQ_ANSWER, ARQ_OF_A_SECOND_CALL, BRQ, DRQ, RRQ_101, RRQ_102, URQ};
 
 /// Whether the request of 10.0.0.LAST is answered so, where the pool is or isn't asked, and so many
 /// units are in use afterwards.
@@ -45,8 +43,8 @@ fn are_two(alloc: Global, zone: &mut Zone<FixedPool>) -> Result<bool, Fail> {
         ip: [10, 0, 0, 6],
         port: 1719,
     };
-    zone.step(event_from(alloc, first, &RRQ, 1_000)?)?;
-    zone.step(event_from(alloc, second, &OTHER_RRQ, 1_000)?)?;
+    zone.step(event_from(alloc, first, &RRQ_101, 1_000)?)?;
+    zone.step(event_from(alloc, second, &RRQ_102, 1_000)?)?;
     Ok(zone.endpoints()?.as_slice().len() == 2)
 }
 
@@ -57,11 +55,11 @@ fn is_lived(alloc: Global, zone: &mut Zone<FixedPool>) -> Result<bool, Fail> {
     let more = Some(Lend::Lent(720));
     Ok(
         are_two(alloc, zone)?
-            && is_served(alloc, zone, 5, &ARQ, &ACF, lent, 1_280)?
-            && is_served(alloc, zone, 5, &ARQ, &ACF, None, 1_280)?
-            && is_served(alloc, zone, 6, &ANSWER_ARQ, &ANSWER_ACF, None, 1_280)?
+            && is_served(alloc, zone, 5, &ARQ, &ACF_1280, lent, 1_280)?
+            && is_served(alloc, zone, 5, &ARQ, &ACF_1280, None, 1_280)?
+            && is_served(alloc, zone, 6, &ARQ_ANSWER, &ACF_900, None, 1_280)?
             && is_served(alloc, zone, 5, &BRQ, &BCF, more, 2_000)?
-            && is_served(alloc, zone, 5, &URQ, &CALL_IN_PROGRESS, None, 2_000)?
+            && is_served(alloc, zone, 5, &URQ, &URJ, None, 2_000)?
             && is_served(alloc, zone, 5, &DRQ, &DCF, None, 2_000)?
             && is_one_left(zone)?,
     )
@@ -97,8 +95,8 @@ fn is_refused(alloc: Global, zone: &mut Zone<FixedPool>) -> Result<bool, Fail> {
     let refused = Some(Lend::Refused);
     Ok(
         are_two(alloc, zone)?
-            && is_served(alloc, zone, 5, &ARQ, &ACF, lent, 1_280)?
-            && is_served(alloc, zone, 5, &SECOND_ARQ, &DENIED, refused, 1_280)?
+            && is_served(alloc, zone, 5, &ARQ, &ACF_1280, lent, 1_280)?
+            && is_served(alloc, zone, 5, &ARQ_OF_A_SECOND_CALL, &ARJ, refused, 1_280)?
             && zone.calls()?.as_slice().len() == 1,
     )
 }

@@ -2,10 +2,7 @@
 //! trace in the figures of an honest pool.
 
 use crate::making::{event_from, parts, zone_over};
-use crate::messages::{
-    ACF, ANSWER_ACF, ANSWER_ARQ, ARQ, BCF, BRQ, DCF, DENIED, DRQ, LESS_BCF, LESS_BRQ, OTHER_RCF,
-    OTHER_RRQ, RCF, RRQ, SAME_CALL_ACF, SAME_CALL_ARQ, SECOND_ARQ,
-};
+use crate::messages::{LESS_BCF, LESS_BRQ, SAME_CALL_ACF, SAME_CALL_ARQ};
 use pools::{FixedPool, Lend, Pool};
 use ras_core::{DueItem, Event, Moment, Network, Networks, Note, Zone};
 use ras_module::Address;
@@ -13,6 +10,8 @@ use std::alloc::Global;
 use std::sync::Arc;
 use std::sync::atomic::{AtomicU64, Ordering};
 use std::test::Fail;
+use vectors::replies::{ACF_900, ACF_1280, ARJ, BCF, DCF, RCF_0001, RCF_0002};
+use vectors::requests::{ARQ, ARQ_ANSWER, ARQ_OF_A_SECOND_CALL, BRQ, DRQ, RRQ_101, RRQ_102};
 
 /// How often a pool was asked, and how often it had its turn.
 #[derive(Drop)]
@@ -139,15 +138,15 @@ fn is_asked_once(
     second: &Met,
 ) -> Result<bool, Fail> {
     let lines: [(u8, &[u8], &[u8], Note, u64); 10] = [
-        (5, &RRQ, &RCF, Note::Served, 0),
-        (6, &OTHER_RRQ, &OTHER_RCF, Note::Served, 0),
-        (5, &ARQ, &ACF, Note::Served, 1),
-        (5, &ARQ, &ACF, Note::Kept, 1),
+        (5, &RRQ_101, &RCF_0001, Note::Served, 0),
+        (6, &RRQ_102, &RCF_0002, Note::Served, 0),
+        (5, &ARQ, &ACF_1280, Note::Served, 1),
+        (5, &ARQ, &ACF_1280, Note::Kept, 1),
         (5, &SAME_CALL_ARQ, &SAME_CALL_ACF, Note::Served, 1),
-        (6, &ANSWER_ARQ, &ANSWER_ACF, Note::Served, 1),
+        (6, &ARQ_ANSWER, &ACF_900, Note::Served, 1),
         (5, &BRQ, &BCF, Note::Served, 2),
         (5, &LESS_BRQ, &LESS_BCF, Note::Served, 2),
-        (5, &SECOND_ARQ, &DENIED, Note::Served, 3),
+        (5, &ARQ_OF_A_SECOND_CALL, &ARJ, Note::Served, 3),
         (5, &DRQ, &DCF, Note::Served, 3),
     ];
     for (last, request, reply, note, lends) in lines {

@@ -1,15 +1,14 @@
 //! Endpoints that come, stay and go.
 
 use crate::making::{event_from, zone};
-use crate::messages::{
-    DUPLICATE_RRJ, DUPLICATE_RRQ, FULL_REQUIRED, KEEP_ALIVE, OTHER_RCF, OTHER_RRQ, RCF, RCF_ANEW,
-    RRQ, UCF, URQ,
-};
+use crate::messages::{RCF_ANEW, UCF};
 use pools::FixedPool;
 use ras_core::{Datagram, Zone};
 use ras_module::{Address, Octets};
 use std::alloc::Global;
 use std::test::Fail;
+use vectors::replies::{RCF_0001, RCF_0002, RRJ_DUPLICATE, RRJ_FULL};
+use vectors::requests::{KEEP_ALIVE, RRQ_101, RRQ_102, RRQ_109_101, URQ};
 
 /// Whether the datagram is answered so, with or without a new identifier, and leaves so many
 /// endpoints.
@@ -39,13 +38,13 @@ fn is_answered(
 /// Whether endpoints register, are told of duplicates, leave and come again.
 fn come_and_go(alloc: Global, zone: &mut Zone<FixedPool>) -> Result<bool, Fail> {
     Ok(
-        is_answered(alloc, zone, 9, &KEEP_ALIVE, &FULL_REQUIRED, false, 0)?
-            && is_answered(alloc, zone, 5, &RRQ, &RCF, true, 1)?
-            && is_answered(alloc, zone, 6, &OTHER_RRQ, &OTHER_RCF, true, 2)?
-            && is_answered(alloc, zone, 7, &DUPLICATE_RRQ, &DUPLICATE_RRJ, false, 2)?
-            && is_answered(alloc, zone, 5, &RRQ, &RCF, false, 2)?
+        is_answered(alloc, zone, 9, &KEEP_ALIVE, &RRJ_FULL, false, 0)?
+            && is_answered(alloc, zone, 5, &RRQ_101, &RCF_0001, true, 1)?
+            && is_answered(alloc, zone, 6, &RRQ_102, &RCF_0002, true, 2)?
+            && is_answered(alloc, zone, 7, &RRQ_109_101, &RRJ_DUPLICATE, false, 2)?
+            && is_answered(alloc, zone, 5, &RRQ_101, &RCF_0001, false, 2)?
             && is_answered(alloc, zone, 5, &URQ, &UCF, false, 1)?
-            && is_answered(alloc, zone, 5, &RRQ, &RCF_ANEW, true, 2)?
+            && is_answered(alloc, zone, 5, &RRQ_101, &RCF_ANEW, true, 2)?
             && are_listed(zone)?,
     )
 }

@@ -1,15 +1,16 @@
 //! Steps and runs: discovery, repeats, turns.
 
 use crate::making::{event, is_told, sent, zone};
-use crate::messages::{GCF, GRJ, GRQ, GRQ_FOR_XX};
 use pools::FixedPool;
 use ras_core::{DueItem, Event, IgnoredCause, Moment, Note, Outcome, Zone};
 use std::alloc::Global;
 use std::test::Fail;
+use vectors::replies::{GCF, GRJ};
+use vectors::requests::{GRQ, GRQ_OF_XX};
 
 /// Whether the gatekeeper is told to who asks for none, and another one isn't it.
 fn is_discovered(alloc: Global, zone: &mut Zone<FixedPool>) -> Result<bool, Fail> {
-    Ok(is_told(alloc, zone, &GRQ, &GCF)? && is_told(alloc, zone, &GRQ_FOR_XX, &GRJ)?)
+    Ok(is_told(alloc, zone, &GRQ, &GCF)? && is_told(alloc, zone, &GRQ_OF_XX, &GRJ)?)
 }
 
 #[test]
