@@ -12,26 +12,28 @@ use Rattle.pools.specs.declared.interface.Lend.{Lend}
 use Rattle.pools.specs.declared.interface.Lend.TheVariants.{Lent, Refused, Wait}
 use Rattle.pools.specs.declared.interface.Figures.{Figures}
 use Rattle.pools.specs.Account.{IsAnswer}
-use Rattle.ras_core.specs.declared.change.Question.{Question}
+use Rattle.zone_services.specs.declared.change.Question.{Question}
 use Rattle.ras_core.specs.declared.job.Job.{Job}
 use Rattle.ras_core.specs.declared.job.Occasion.{Occasion}
 use Rattle.ras_core.specs.declared.job.Occasion.TheVariants.{First, Again}
 use Rattle.ras_core.specs.declared.outcome.Outcome.{Outcome}
-use Rattle.ras_core.specs.State.{State, Last, Running}
-use Rattle.ras_core.specs.inside.Parts.{RunningZone}
-use Rattle.ras_core.specs.Plans.{Served, Plan, Asking}
-use Rattle.ras_core.specs.Pools.{figures_at, pools_after_answer}
-use Rattle.ras_core.specs.Requests.{seq_of}
+use Rattle.ras_core.specs.State.{State, Running}
+use Rattle.zone_services.specs.Zone.{Last}
+use Rattle.zone_services.specs.inside.Parts.{RunningZone}
+use Rattle.zone_services.specs.Plans.{Served, Plan, Asking}
+use Rattle.zone_services.specs.Pools.{figures_at, pools_after_answer, lasts_after}
+use Rattle.zone_services.specs.Requests.{seq_of}
 use Rattle.ras_core.specs.Keeping.{Progress, Task, answered, answered_by, in_progress, kept_as}
-use Rattle.ras_core.specs.Keeping.{plan_at, term_of, waits, with_answered_pool}
+use Rattle.ras_core.specs.Keeping.{plan_at, waits, with_answered_pool}
+use Rattle.zone_config.specs.Terms.{term_of}
 use Rattle.ras_core.specs.Machine.{Ending, Serving, ended, note_at, plan_ending}
-use Rattle.ras_core.specs.inside.Decisions.{Asks, ask_of, calls_after_answer, granted_by}
-use Rattle.ras_core.specs.inside.Decisions.{refused_by, reply_of}
-use Rattle.ras_core.specs.inside.Changes.{heard_at}
-use Rattle.ras_core.specs.Soundness.{AreBornBefore, HasCounts}
-use Rattle.ras_core.specs.inside.Serving.{Does, IsJob}
-use Rattle.ras_core.specs.Steps.{IsTimely, MayChoose, ask_in_plan, choices_of, lasts_after}
-use Rattle.ras_core.proofs.PoolFigures.{All-answer}
+use Rattle.zone_services.specs.inside.Decisions.{Asks, ask_of, calls_after_answer, granted_by}
+use Rattle.zone_services.specs.inside.Decisions.{refused_by, reply_of}
+use Rattle.ras_core.specs.inside.Serving.{heard_at, Does, IsJob}
+use Rattle.ras_core.specs.Soundness.{AreBornBefore}
+use Rattle.zone_services.specs.Soundness.{HasCounts}
+use Rattle.ras_core.specs.Steps.{IsTimely, MayChoose, ask_in_plan, choices_of}
+use Rattle.zone_services.proofs.PoolFigures.{All-answer}
 use Rattle.ras_core.proofs.Carrying.{timely_of}
 use Rattle.ras_core.proofs.Dropping.{born_with_reply, born_with_request}
 

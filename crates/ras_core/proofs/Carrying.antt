@@ -10,26 +10,28 @@ use Rattle.ras_module.specs.declared.request.Request.{Request}
 use Rattle.ras_codec.specs.Replies.{encoding_of}
 use Rattle.kept_replies.specs.declared.key.KeptKey.{KeptKey}
 use Rattle.kept_replies.specs.Kept.{KeptReplies, KeptTable, NonePasses, Passes, is_over, left_in}
-use Rattle.ras_core.specs.declared.change.Change.{Change}
-use Rattle.ras_core.specs.declared.change.Decision.{Decision}
+use Rattle.zone_services.specs.declared.change.Change.{Change}
+use Rattle.zone_services.specs.declared.change.Decision.{Decision}
 use Rattle.ras_core.specs.declared.job.Job.{Job}
 use Rattle.ras_core.specs.declared.job.Occasion.{Occasion}
 use Rattle.ras_core.specs.declared.job.Occasion.TheVariants.{First, Again}
 use Rattle.ras_core.specs.declared.outcome.Outcome.{Outcome}
-use Rattle.ras_core.specs.State.{Zone, State, Last, Running}
-use Rattle.ras_core.specs.inside.Parts.{RunningZone}
-use Rattle.ras_core.specs.Plans.{Served, Plan, Settled, Naming, Asking, with_heard}
+use Rattle.zone_services.specs.Zone.{Zone, Last}
+use Rattle.ras_core.specs.State.{State, Running}
+use Rattle.zone_services.specs.inside.Parts.{RunningZone}
+use Rattle.zone_services.specs.Plans.{Served, Plan, Settled, Naming, Asking, with_heard}
 use Rattle.ras_core.specs.Keeping.{Task, answered, plan_at, with_reply}
 use Rattle.ras_core.specs.Machine.{Serving, ended, note_at, plan_ending}
 use Rattle.pools.specs.declared.interface.Figures.{Figures}
-use Rattle.ras_core.specs.inside.Decisions.{Decides, resolved}
-use Rattle.ras_core.specs.inside.Changes.{after_change, changed, heard_at}
+use Rattle.zone_services.specs.inside.Decisions.{Decides, resolved}
+use Rattle.zone_services.specs.inside.Changes.{after_change, changed}
+use Rattle.ras_core.specs.inside.Serving.{heard_at, Does, IsJob, IsOccasion}
 use Rattle.ras_core.specs.inside.Room.{IsPlaced}
 use Rattle.ras_core.specs.Soundness.{AreBornBefore}
-use Rattle.ras_core.specs.inside.Serving.{CountsOneMore, Does, IsJob, IsOccasion}
+use Rattle.zone_services.specs.Soundness.{CountsOneMore}
 use Rattle.ras_core.specs.Steps.{IsUnusedIn, IsTimely, MayChoose, ask_in_plan, choices_of}
-use Rattle.ras_core.specs.Steps.{lasts_after}
-use Rattle.ras_core.proofs.ButLent.{counts_same, same_after_change}
+use Rattle.zone_services.specs.Pools.{lasts_after}
+use Rattle.zone_services.proofs.ButLent.{counts_same, same_after_change}
 use Rattle.ras_core.proofs.Dropping.{born_with_reply}
 
 -- the zone after a change, in which the endpoint was heard

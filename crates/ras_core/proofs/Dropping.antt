@@ -1,9 +1,7 @@
 -- What the kept replies are after one was dropped, and after one was added.
 use Rattle.std.proofs.Common.{Bor, ◌≡◌, ◌<◌, ◌+◌, ℕ, Bool, true, false, refl, sym, ◌∙◌, ap, subst}
 use Rattle.std.proofs.Common.{Some, None, arith}
-use Rattle.std.specs.Prelude.{Option, IfSome, Contains, List, ◌↔◌, is_some}
-use Rattle.registrations.specs.Registry.{Live, IsUnused}
-use Rattle.ras_core.specs.Unused.{IsUnusedFor}
+use Rattle.std.specs.Prelude.{Option, IfSome, is_some}
 use Rattle.std.specs.Option.{IsSomeAnd, option_copied, option_map}
 use Rattle.std.specs.FinMap as fin
 use Rattle.keyed.specs.Maps.{update}
@@ -14,7 +12,7 @@ use Rattle.ras_module.specs.declared.reply.Reply.{Reply}
 use Rattle.ras_module.specs.declared.request.Request.{Request}
 use Rattle.kept_replies.specs.declared.key.KeptKey.{KeptKey}
 use Rattle.kept_replies.specs.declared.entry.KeptEntry.{KeptEntry}
-use Rattle.kept_replies.specs.Kept.{KeptReplies, AreBornApart, IsFreeBirth, IsNamed, KeptTable}
+use Rattle.kept_replies.specs.Kept.{KeptReplies, AreBornApart, IsFreeBirth, KeptTable}
 use Rattle.kept_replies.specs.Kept.{Becomes, NonePasses, Passes, births, without, without_birth}
 use Rattle.kept_replies.specs.Kept.{done, pending, finished, postponed, is_over}
 use Rattle.kept_replies.proofs.Births.{births-has}
@@ -121,19 +119,6 @@ module _ (kept : KeptReplies) (steps : ℕ) (before : AreBornBefore steps kept) 
       born_inserted dropped key (pending steps request reply retry times) refl
   born_with_request key (Again first left) dropped request reply retry times =
       born_updated key (postponed retry) (λ e. refl)
-
--- an identifier that no endpoint has, and none of those that are named, is unused
-pub unused_for : (live : Live) (kept : KeptReplies) (named : List (List ℕ)) (id : List ℕ)
-    → ((id : List ℕ) → Contains named id ↔ IsNamed kept id) → IsUnused live named id
-    → IsUnusedFor live kept id
-unused_for live kept named id iff unused = record {
-  unused = record {
-    not_live = unused.not_live;
-    not_taken = λ none. absurd (omega (arith, none.1));
-    text = unused.text;
-  };
-  unnamed = λ is. unused.not_taken ((iff id).1 is);
-}
 
 -- a look-up that finds nothing
 pub not_found : {A : Type 0} {v : Option A} (w : Option (Bor A)) → option_copied w ≡ v

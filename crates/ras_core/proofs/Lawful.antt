@@ -19,15 +19,15 @@ use Rattle.ras_core.specs.declared.outcome.Note.{Note}
 use Rattle.ras_core.specs.declared.outcome.Note.TheVariants as note
 use Rattle.ras_core.specs.declared.outcome.Outcome.{Outcome}
 use Rattle.ras_core.specs.State.{State, Running}
-use Rattle.ras_core.specs.Plans.{Plan}
-use Rattle.ras_core.specs.Requests.{plan_of}
+use Rattle.zone_services.specs.Plans.{Plan}
+use Rattle.zone_services.specs.Requests.{plan_of, HasReply}
 use Rattle.ras_core.specs.Keeping.{is_repeat}
 use Rattle.ras_core.specs.Turns.{IsNothingDueIn}
 use Rattle.ras_core.specs.Machine.{Ending, Course, Ignoring, Repeating, at_moment, course}
 use Rattle.ras_core.specs.Machine.{course_ending, datagram_course, first, keyed_course, most_steps}
 use Rattle.ras_core.specs.Machine.{planned_course, read_course, serving, turn_course}
-use Rattle.ras_core.specs.Steps.{EachState, IsAllowed, HasReply, IsWithinLimit, RunningRun, Step}
-use Rattle.ras_core.specs.Steps.{choices_of, item_of}
+use Rattle.ras_core.specs.Steps.{EachState, IsAllowed, IsWithinLimit, RunningRun, Step, choices_of}
+use Rattle.ras_core.specs.Steps.{item_of}
 use Rattle.ras_core.proofs.Retrying.{plan_there}
 
 not_above : (n most : ℕ) → n ≤ most → nat_lt most n ≡ false

@@ -1,5 +1,5 @@
 -- Steps in which no request is served.
-use Rattle.std.proofs.Common.{Bor, ◌≡◌, ◌<◌, ◌≤◌, ◌+◌, ℕ, Bool, true, List, refl, sym, ◌∙◌, ap, subst}
+use Rattle.std.proofs.Common.{Bor, ◌≡◌, ◌<◌, ◌≤◌, ◌+◌, ℕ, Bool, true, List, refl, sym, ap, subst}
 use Rattle.std.proofs.Common.{Some, None, arith}
 use Rattle.std.specs.Prelude.{Option, IsTrue, is_some, if◌then◌else◌}
 use Rattle.std.specs.Option.{IsSomeAnd, option_copied}
@@ -15,18 +15,15 @@ use Rattle.ras_core.specs.declared.outcome.IgnoredCause.TheVariants.{UnknownEndp
 use Rattle.ras_core.specs.declared.outcome.Note.{Note}
 use Rattle.ras_core.specs.declared.outcome.Note.TheVariants as note
 use Rattle.ras_core.specs.declared.outcome.Outcome.{Outcome}
-use Rattle.registrations.specs.Registry.{Live}
-use Rattle.ras_core.specs.State.{Running, Zone, with_live}
-use Rattle.ras_core.specs.inside.Parts.{RunningZone}
-use Rattle.ras_core.specs.Turns.{IsDueIn, effect, without_legs_of}
+use Rattle.ras_core.specs.State.{Running}
+use Rattle.zone_services.specs.inside.Parts.{RunningZone}
+use Rattle.ras_core.specs.Turns.{IsDueIn, effect}
 use Rattle.ras_core.specs.Machine.{Hearing, Doing, Ignoring, response_course}
-use Rattle.ras_core.specs.inside.Changes.{heard_at}
-use Rattle.ras_core.specs.inside.Leaving.{AreSameButLent}
+use Rattle.ras_core.specs.inside.Serving.{heard_at, Does}
+use Rattle.zone_services.specs.inside.Leaving.{AreSameButLent}
 use Rattle.ras_core.specs.Soundness.{AreBornBefore}
-use Rattle.ras_core.specs.inside.Serving.{Does}
 use Rattle.ras_core.specs.Steps.{HasFewOctets}
-use Rattle.ras_core.proofs.ButLent.{counts_same, same_after_end}
-use Rattle.ras_core.proofs.Departing.{over_else}
+use Rattle.zone_services.proofs.ButLent.{counts_same, same_after_end}
 use Rattle.ras_core.proofs.Dropping.{born_same}
 
 -- what is noted
@@ -92,22 +89,6 @@ does_hear old now id services there is =
       heard_zone : RunningZone
       heard_zone =
           heard_at (record { zone = old.state.zone; lasts = old.lasts }) First now (Some id)
-
--- who leaves changes no setting
-pub settings_stay : (z : Zone) (id : List ℕ) → (without_legs_of z id).config ≡ z.config
-settings_stay z id = ap (λ (z : Zone). z.config) (over_else id z (fin.keys z.calls))
-
-pub endpoints_stay : (z : Zone) (id : List ℕ) → (without_legs_of z id).live ≡ z.live
-endpoints_stay z id = ap (λ (z : Zone). z.live) (over_else id z (fin.keys z.calls))
-
--- who leaves all calls, and then the registrations become these
-pub left_then : (f : Live → Live) (z left : Zone) (id : List ℕ) → left ≡ without_legs_of z id
-    → (live : Live) → live ≡ f left.live
-    → with_live left live ≡ with_live (without_legs_of z id) (f z.live)
-left_then f z left id is live live_is =
-    ap (with_live left) live_is
-    ∙ (ap (λ (z : Zone). with_live z (f z.live)) is
-    ∙ ap (λ live. with_live (without_legs_of z id) (f live)) (endpoints_stay z id))
 
 -- who is asked was asked less than so often
 pub tries_few : (times : Times) (now : ℕ) (r : Registration) → IsTrue (is_to_be_asked times now r)

@@ -1,38 +1,34 @@
--- A request has one plan, and is served by the one that was decided on.
-use Rattle.std.proofs.Common.{◌≡◌, ℕ, subst, Some}
-use Rattle.keyed.proofs.Decide.{same_some}
+-- A request has a plan, and is served by what was concluded about it.
+use Rattle.std.proofs.Common.{◌≡◌, ℕ, Some, subst}
 use Rattle.ras_module.specs.declared.request.Request.{Request}
-use Rattle.ras_core.specs.declared.job.Job.{Job}
-use Rattle.ras_core.specs.declared.outcome.Outcome.{Outcome}
+use Rattle.zone_services.specs.declared.change.Conclusion.{Conclusion}
+use Rattle.zone_services.specs.declared.change.Conclusion.TheVariants.{Decided, Asked}
+use Rattle.zone_services.specs.declared.change.Decision.{Decision}
+use Rattle.zone_services.specs.declared.change.Question.{Question}
+use Rattle.zone_services.specs.Zone.{Zone}
+use Rattle.zone_services.specs.Plans.{Plan}
+use Rattle.zone_services.specs.Requests.{HasReply, plan_of}
+use Rattle.zone_services.specs.inside.Changes.{IsPossible}
+use Rattle.zone_services.specs.inside.Decisions.{Asks, IsConclusion}
 use Rattle.ras_core.specs.State.{Running}
-use Rattle.ras_core.specs.Plans.{Plan}
-use Rattle.ras_core.specs.Requests.{endpoint_of}
-use Rattle.ras_core.specs.Keeping.{plan_at}
-use Rattle.ras_core.specs.Machine.{Serving, serving}
-use Rattle.ras_core.specs.inside.Serving.{Does}
+use Rattle.ras_core.proofs.Retrying.{plan_there}
 
-module _ (old new : Running) (now : ℕ) (job : Job) (request : Request) (outcome : Outcome) where
-  pub does_planned : (decided plan : Plan) → Some decided ≡ Some plan
-      → Does old now (serving job outcome.dropped now request decided) outcome new
-      → Does old now (serving job outcome.dropped now request plan) outcome new
-  does_planned decided plan is =
-      subst (λ (p : Plan). Does old now (serving job outcome.dropped now request p) outcome new)
-      (same_some decided plan is)
+-- what was concluded, of the machine by its parts, holds of its value
+pub concluded : (old value : Running) → old ≡ value → (now : ℕ) (request : Request)
+    (was is : Conclusion) → was ≡ is → IsConclusion old.state.zone now request was
+    → IsConclusion value.state.zone now request is
+concluded old value same now request was is same_is h =
+    subst (λ (m : Running). IsConclusion m.state.zone now request is) same
+    (subst (IsConclusion old.state.zone now request) same_is h)
 
-  -- the request was taken apart, and put together again
-  pub does_made : (made : Request) → made ≡ request → (decided plan : Plan) → Some decided ≡ Some plan
-      → Does old now (Serving (record {
-        job = job;
-        dropped = outcome.dropped;
-        request = made;
-        plan = plan_at job.occasion now (endpoint_of request) decided;
-      })) outcome new
-      → Does old now (serving job outcome.dropped now request plan) outcome new
-  does_made made made_is decided plan is does =
-      does_planned decided plan is
-      (subst (λ (r : Request). Does old now (Serving (record {
-        job = job;
-        dropped = outcome.dropped;
-        request = r;
-        plan = plan_at job.occasion now (endpoint_of request) decided;
-      })) outcome new) made_is does)
+module _ (z : Zone) (now : ℕ) (request : Request) (served : HasReply request) where
+  abbrev pub its_plan : (plan : Plan) × (plan_of z now request ≡ Some plan)
+  its_plan = plan_there z now request served
+
+  -- a change that was decided can be made
+  pub possible_of : (d : Decision) → IsConclusion z now request (Decided d) → IsPossible z d.change
+  possible_of d is = (is its_plan.0 its_plan.1).possible
+
+  -- and a question may be put
+  pub asks_of : (q : Question) → IsConclusion z now request (Asked q) → Asks z its_plan.0 q
+  asks_of q is = is its_plan.0 its_plan.1

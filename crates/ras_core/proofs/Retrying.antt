@@ -17,16 +17,17 @@ use Rattle.expiry.specs.declared.due_item.DueItem.TheVariants.{Retry}
 use Rattle.ras_core.specs.declared.job.Job.{Job}
 use Rattle.ras_core.specs.declared.job.Occasion.TheVariants.{Again}
 use Rattle.ras_core.specs.declared.outcome.Outcome.{Outcome}
-use Rattle.ras_core.specs.State.{Running, State, Zone}
-use Rattle.ras_core.specs.Plans.{Plan, Settled, Naming, Asking}
-use Rattle.ras_core.specs.Requests.{plan_of}
+use Rattle.ras_core.specs.State.{Running, State}
+use Rattle.zone_services.specs.Zone.{Zone}
+use Rattle.zone_services.specs.Plans.{Plan, Settled, Naming, Asking}
+use Rattle.zone_services.specs.Requests.{plan_of, HasReply}
 use Rattle.ras_core.specs.Keeping.{Task}
 use Rattle.ras_core.specs.Turns.{IsDueIn}
 use Rattle.ras_core.specs.Machine.{Choices, Serving, again_course, note_at, plan_ending}
 use Rattle.ras_core.specs.Machine.{retry_course, retry_in_course, serving, with_answer, with_name}
 use Rattle.ras_core.specs.inside.Room.{IsDropped}
 use Rattle.ras_core.specs.inside.Serving.{Does, DropsFor, IsAgain, Serves}
-use Rattle.ras_core.specs.Steps.{HasReply, choices_of}
+use Rattle.ras_core.specs.Steps.{choices_of}
 
 -- what holds where a call succeeded, by two of its clauses
 pub if_ok_by_both : {A B : Type 0} (P Q R : A → Type 0) (r : Result A B) → IfOk r P → IfOk r Q

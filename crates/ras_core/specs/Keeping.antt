@@ -1,7 +1,7 @@
 -- What is kept of a request that is served, so that the same datagram is told the same, and how a
 -- request in progress goes on (H.225.0, RAS timers and request in progress).
-use Rattle.std.specs.Prelude.{ℕ, ◌+◌, ◌&&◌, Bool, true, false, not, nat_lt, is_some, List, Option}
-use Rattle.std.specs.Prelude.{None, Some, if◌then◌else◌}
+use Rattle.std.specs.Prelude.{ℕ, ◌&&◌, Bool, true, false, not, nat_lt, is_some, List, Option, None}
+use Rattle.std.specs.Prelude.{Some, if◌then◌else◌}
 use Rattle.std.specs.FinMap.{get, insert}
 use Rattle.keyed.specs.Maps.{update}
 use Rattle.ras_module.specs.declared.reply.Reply.{Reply}
@@ -14,15 +14,16 @@ use Rattle.kept_replies.specs.Kept.{KeptReplies, done, pending, finished, postpo
 use Rattle.kept_replies.specs.Kept.{is_over, reply_in, without_birth}
 use Rattle.pools.specs.declared.interface.Lend.{Lend}
 use Rattle.pools.specs.declared.interface.Lend.TheVariants.{Lent, Refused, Wait}
-use Rattle.ras_core.specs.declared.config.ConfigParts.{ConfigParts}
 use Rattle.ras_core.specs.declared.job.Job.{Job}
 use Rattle.ras_core.specs.declared.job.Occasion.{Occasion}
 use Rattle.ras_core.specs.declared.job.Occasion.TheVariants.{First, Again}
-use Rattle.ras_core.specs.declared.keeping.Term.{Term}
-use Rattle.ras_core.specs.State.{Zone, State}
-use Rattle.ras_core.specs.Pools.{pools_after_answer}
-use Rattle.ras_core.specs.Plans.{Served, Ask, Plan, hearing}
-use Rattle.ras_core.specs.Requests.{seq_of}
+use Rattle.zone_config.specs.declared.term.Term.{Term}
+use Rattle.zone_services.specs.Zone.{Zone}
+use Rattle.ras_core.specs.State.{State}
+use Rattle.zone_services.specs.Pools.{pools_after_answer}
+use Rattle.zone_services.specs.Plans.{Served, Ask, Plan, hearing}
+use Rattle.zone_services.specs.Requests.{seq_of}
+use Rattle.zone_config.specs.Terms.{term_of}
 
 -- whom a reply confirms is registered still; most replies confirm nobody
 abbrev pub is_registered_still : Live → Option (List ℕ) → Bool
@@ -124,13 +125,6 @@ kept_as kept key occasion dropped born request reply waits term =
     if waits
     then with_request kept key occasion dropped born request reply term.retry term.times
     else with_reply kept key occasion dropped born reply term.until
-
-abbrev pub term_of : ConfigParts → ℕ → Term
-term_of config now = record {
-  until = now + config.window;
-  retry = now + config.delay;
-  times = config.retries;
-}
 
 -- what is kept then: a reply for the window, a request that waits for the delay
 abbrev pub kept_after : State → ℕ → Task → Progress → KeptReplies

@@ -28,9 +28,10 @@ use Rattle.ras_core.specs.declared.outcome.IgnoredCause.TheVariants.{Busy, Unkno
 use Rattle.ras_core.specs.declared.outcome.Note.{Note}
 use Rattle.ras_core.specs.declared.outcome.Note.TheVariants as note
 use Rattle.ras_core.specs.declared.outcome.Outcome.{Outcome}
-use Rattle.ras_core.specs.State.{State, with_live, heard_now}
-use Rattle.ras_core.specs.Plans.{Served, Ask, Plan, Settled, Naming, Asking}
-use Rattle.ras_core.specs.Requests.{endpoint_of, plan_of}
+use Rattle.ras_core.specs.State.{State}
+use Rattle.zone_services.specs.Zone.{with_live, heard_now}
+use Rattle.zone_services.specs.Plans.{Served, Ask, Plan, Settled, Naming, Asking}
+use Rattle.zone_services.specs.Requests.{endpoint_of, plan_of}
 use Rattle.ras_core.specs.Keeping.{Task, Progress, answered, by_answer, is_repeat, kept_after}
 use Rattle.ras_core.specs.Keeping.{plan_at, with_answered_pool}
 use Rattle.ras_core.specs.Turns.{effect}

@@ -1,9 +1,7 @@
 -- Steps of the machine, and runs.
-use Rattle.std.specs.Prelude.{ℕ, ◌≡◌, ◌≤◌, ◌++◌, List, [], ◌∷◌, length, slice_set, Some, Option}
-use Rattle.std.specs.Prelude.{None, IfSome}
+use Rattle.std.specs.Prelude.{ℕ, ◌≡◌, ◌≤◌, ◌++◌, List, [], ◌∷◌, length, Some, Option, None, IfSome}
 use Rattle.std.specs.List.{zip}
 use Rattle.admission.specs.Calls.{in_use}
-use Rattle.pools.specs.declared.interface.Lend.{Lend}
 use Rattle.pools.specs.Account.{IsAnswer}
 use Rattle.kept_replies.specs.Kept.{NonePasses, Passes, is_over}
 use Rattle.expiry.specs.declared.due_item.DueItem.{DueItem}
@@ -16,13 +14,12 @@ use Rattle.ras_core.specs.declared.outcome.IgnoredCause.TheVariants.{Busy}
 use Rattle.ras_core.specs.declared.outcome.Note.{Note}
 use Rattle.ras_core.specs.declared.outcome.Note.TheVariants as note
 use Rattle.ras_core.specs.declared.outcome.Outcome.{Outcome}
-use Rattle.ras_module.specs.declared.request.Request.{Request}
-use Rattle.ras_module.specs.declared.request.Request.TheVariants.{Irr}
-use Rattle.ras_core.specs.State.{State, Running, Last}
-use Rattle.ras_core.specs.Soundness.{IsLentTo, Sound}
-use Rattle.ras_core.specs.Pools.{figures_at}
-use Rattle.ras_core.specs.Plans.{Ask, Plan, Settled, Naming, Asking}
-use Rattle.ras_core.specs.Unused.{IsUnusedFor}
+use Rattle.ras_core.specs.State.{State, Running}
+use Rattle.zone_services.specs.Soundness.{IsLentTo}
+use Rattle.ras_core.specs.Soundness.{Sound}
+use Rattle.zone_services.specs.Pools.{figures_at, lasts_after}
+use Rattle.zone_services.specs.Plans.{Ask, Plan, Settled, Naming, Asking}
+use Rattle.zone_services.specs.Unused.{IsUnusedFor}
 use Rattle.ras_core.specs.Turns.{IsDueIn, IsNothingDueIn}
 use Rattle.ras_core.specs.Machine.{Choices, Course, Ignoring, Hearing, Repeating, Serving, Doing}
 use Rattle.ras_core.specs.Machine.{Idle, course, machine, moment_of}
@@ -91,13 +88,6 @@ abbrev pub ask_in : Course → Option Ask
 ask_in (Serving task) = ask_in_plan task.plan
 ask_in other = None
 
--- The pool that was asked has that request, with the answer, as its last one; the last requests of
--- all others stay, and all stay where none was asked.
-abbrev pub lasts_after : List Last → Option Ask → Option Lend → List Last
-lasts_after lasts (Some ask) (Some answer) = slice_set lasts ask.pool (Some (ask.units, answer))
-lasts_after lasts (Some ask) None = lasts
-lasts_after lasts None answer = lasts
-
 -- an output has at most 20,000 octets
 abbrev pub HasFewOctets : Option Datagram → Type 0
 HasFewOctets None = Unit {0}
@@ -140,8 +130,3 @@ pub record RunsOn (old : Running) (events : List Event) (before now : List Outco
   pub each : length made ≡ length events
   pub run : Run old.state (zip events made) new.state
   pub steps : RunningRun old (zip events made) new
-
--- a request that has a reply: any but an InfoRequestResponse
-abbrev pub HasReply : Request → Type 0
-HasReply (Irr seq endpoint) = ⊥
-HasReply other = Unit {0}

@@ -1,31 +1,21 @@
 -- What is due, and what it comes to (H.323, 8.4.2, status; H.225.0, timeToLive, InfoRequest).
 use Rattle.std.specs.Prelude.{ℕ, ◌+◌, ◌==◌, List, Option, None, if◌then◌else◌}
-use Rattle.std.specs.List.{fold}
 use Rattle.std.specs.Option.{option_map}
-use Rattle.std.specs.FinMap.{get, keys, remove}
+use Rattle.std.specs.FinMap.{get}
 use Rattle.keyed.specs.Maps.{update}
 use Rattle.ras_module.specs.declared.reply.Reply.TheVariants.{Irq}
 use Rattle.ras_codec.specs.Replies.{encoding_of}
 use Rattle.registrations.specs.declared.registration.Registration.{Registration}
-use Rattle.registrations.specs.Registry.{after_ask, after_calm}
+use Rattle.registrations.specs.Registry.{after_ask}
 use Rattle.kept_replies.specs.Kept.{without_birth}
 use Rattle.expiry.specs.declared.due_item.DueItem.{DueItem}
 use Rattle.expiry.specs.declared.due_item.DueItem.TheVariants.{RegistrationOver, Interrogate}
 use Rattle.expiry.specs.declared.due_item.DueItem.TheVariants.{Silent, Retry, KeptOver, PoolTurn}
-use Rattle.expiry.specs.declared.times.Times.{Times}
 use Rattle.expiry.specs.Due.{IsDue, IsNothingDue}
-use Rattle.ras_core.specs.declared.config.ConfigParts.{ConfigParts}
 use Rattle.ras_core.specs.declared.outcome.Datagram.{Datagram}
-use Rattle.ras_core.specs.State.{Zone, State, with_live}
-use Rattle.ras_core.specs.Disengaging.{without_leg_of}
-
--- how long an endpoint in a call may be silent
-abbrev pub times_of : ConfigParts → Times
-times_of config = record {
-  silence = config.silence;
-  asks = config.asks;
-  ask_wait = config.ask_wait;
-}
+use Rattle.zone_services.specs.Zone.{with_live, times_of}
+use Rattle.ras_core.specs.State.{State}
+use Rattle.zone_services.specs.Disengaging.{without_endpoint, without_silent}
 
 -- the item is due in this state, or nothing is
 abbrev pub IsDueIn : State → ℕ → DueItem → Type 0
@@ -36,12 +26,6 @@ abbrev pub IsNothingDueIn : State → ℕ → Type 0
 IsNothingDueIn s now =
     IsNothingDue now s.next_pool_turn (times_of s.zone.config) s.zone.live s.zone.calls s.kept
 
--- the endpoint leaves each of its calls, as if it disengaged: those without a leg end, and their
--- units go back
-abbrev pub without_legs_of : Zone → List ℕ → Zone
-without_legs_of z endpoint =
-    fold (λ left call. without_leg_of left call endpoint) z (keys z.calls)
-
 -- what is done of itself: what is sent, and the state then
 pub record Effect : Type 0 where
   pub output : Option Datagram
@@ -50,16 +34,6 @@ pub record Effect : Type 0 where
 -- nothing is sent
 abbrev pub quietly : State → Effect
 quietly s = record { output = None; state = s }
-
--- the registration goes, with the endpoint's legs
-abbrev pub without_endpoint : Zone → List ℕ → Zone
-without_endpoint z endpoint =
-    with_live (without_legs_of z endpoint) (remove z.live endpoint)
-
--- the legs of an endpoint go that is silent, and it stays registered
-abbrev pub without_silent : Zone → List ℕ → Zone
-without_silent z endpoint =
-    with_live (without_legs_of z endpoint) (update z.live endpoint after_calm)
 
 -- The requestSeqNum of the interrogation after one with this number. It is from 1 to 65535
 -- (H.225.0, RequestSeqNum).

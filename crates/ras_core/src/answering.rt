@@ -6,18 +6,19 @@ ghost use Rattle.kept_replies.specs.Kept.{reply_in};
 ghost use Rattle.ras_core.specs.Keeping.{is_repeat};
 ghost use Rattle.ras_core.specs.Machine.{Repeating, datagram_course, request_course, response_course};
 ghost use Rattle.ras_core.specs.inside.Serving.{Does};
-ghost use Rattle.ras_core.specs.Steps.{HasReply};
-ghost use Rattle.ras_core.specs.Soundness.{AreBornBefore, HasCounts};
+ghost use Rattle.zone_services.specs.Requests.{HasReply};
+ghost use Rattle.ras_core.specs.Soundness.{AreBornBefore};
+ghost use Rattle.zone_services.specs.Soundness.{HasCounts};
 
 use crate::job::{Job, Occasion};
 use crate::machine::Machine;
-use crate::moment::Moment;
 use crate::outcome::{IgnoredCause, Note, Outcome};
 use kept_replies::{KeptEntry, KeptKey};
 use pools::Pool;
 use ras_codec::{ReadFault, read};
 use ras_module::{EndpointId, Octets, Reply, Request, Source};
 use std::alloc::AllocError;
+use zone_config::Moment;
 
 /// The octets that a datagram has at most.
 const MOST_OCTETS: usize = 4096;
@@ -88,7 +89,7 @@ impl<P: Pool> Machine<P> {
         if self.services.get(endpoint).is_none() {
             return Outcome::ignored(IgnoredCause::UnknownEndpoint);
         }
-        self.services.hear(Occasion::First, now, Some(*endpoint));
+        self.services.hear(now, Some(*endpoint));
         Outcome::noted(Note::Served, None)
     }
 

@@ -3,9 +3,9 @@
 ghost use Rattle.std.specs.Prelude.{◌≡◌, IfOk};
 ghost use Rattle.ras_core.specs.Machine.{moment_in};
 
-use crate::moment::Moment;
 use ras_module::{Octets, Source};
 use std::alloc::AllocError;
+use zone_config::Moment;
 
 /// One event: a step of the zone is made of it.
 #[derive(Drop)]

@@ -11,6 +11,7 @@ use crate::job::{Job, Occasion};
 use kept_replies::{Kept, KeptKey, ReserveFault};
 use ras_module::{Reply, Request};
 use std::alloc::AllocError;
+use zone_config::Term;
 
 /// Makes room for the reply to a datagram, which has an entry or finds a place for one.
 pub fn reserve(kept: &mut Kept, now: u64, key: &KeptKey) -> Result<(), AllocError>
@@ -116,14 +117,6 @@ pub fn keep_request(
             None
         }
     }
-}
-
-/// Until when a reply is kept, and when and how often a request that waits is served again.
-#[derive(Clone, Copy)]
-pub struct Term {
-    pub until: u64,
-    pub retry: u64,
-    pub times: u64,
 }
 
 /// Keeps the reply to a request, or the request if it is to wait. This takes no memory.

@@ -12,7 +12,8 @@ ghost use Rattle.ras_core.specs.declared.outcome.Outcome.{Outcome};
 ghost use Rattle.ras_core.specs.State.{Running, State};
 ghost use Rattle.ras_core.specs.Keeping.{is_repeat};
 ghost use Rattle.ras_core.specs.Turns.{IsNothingDueIn};
-ghost use Rattle.ras_core.specs.Steps.{EachState, HasReply, IsWithinLimit, RunningRun, Step};
+ghost use Rattle.ras_core.specs.Steps.{EachState, IsWithinLimit, RunningRun, Step};
+ghost use Rattle.zone_services.specs.Requests.{HasReply};
 
 use crate::event::Event;
 use crate::outcome::Note;

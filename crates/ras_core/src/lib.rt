@@ -2,34 +2,18 @@
 //! duties; ITU-T H.225.0, RAS). Nothing here waits, prints or reads a clock: moments are handed in.
 #![tactic(auto)]
 
-mod admitting;
 mod answering;
-mod bandwidth;
-mod bandwidth_change;
-mod calling;
-mod change;
-mod config;
-mod discovery;
-mod disengagement;
-mod endpoints;
 mod event;
 mod fault;
 mod job;
 mod keeping;
 mod laws;
 mod machine;
-mod moment;
-mod network;
 mod outcome;
-mod registering;
-mod registration;
-mod services;
 mod serving;
 mod turns;
-mod unregistration;
 mod zone;
 
-pub use config::{Config, ConfigFault, ConfigParts};
 pub use event::Event;
 pub use expiry::DueItem;
 pub use fault::{NewFault, StepFault};
@@ -37,7 +21,6 @@ pub use laws::{
     a_repeat_gets_its_kept_reply, a_turn_is_idle_only_where_nothing_is_due,
     bandwidth_is_within_the_limit_all_along,
 };
-pub use moment::Moment;
-pub use network::{Network, Networks};
 pub use outcome::{Datagram, IgnoredCause, Note, Outcome};
 pub use zone::Zone;
+pub use zone_config::{Config, ConfigFault, ConfigParts, Moment, Network, Networks};

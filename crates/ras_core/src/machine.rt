@@ -6,18 +6,16 @@ ghost use Rattle.registrations.specs.Registry.{IsListOf};
 ghost use Rattle.admission.specs.Calls.{in_use};
 ghost use Rattle.pools.specs.Account.{is_idle};
 ghost use Rattle.ras_core.specs.State.{opening};
-ghost use Rattle.ras_core.specs.Pools.{figures_of, figures_without_loans, lasts_of};
+ghost use Rattle.zone_services.specs.Pools.{figures_of, figures_without_loans, lasts_of, lasts_after};
 ghost use Rattle.ras_core.specs.Machine.{course, course_at, most_steps};
 ghost use Rattle.ras_core.specs.inside.Serving.{Does};
-ghost use Rattle.ras_core.specs.Steps.{HasFewOctets, Step, ask_in, choices_of, lasts_after};
-ghost use Rattle.ras_core.specs.Soundness.{AreBornBefore, HasCounts, Sound};
+ghost use Rattle.ras_core.specs.Steps.{HasFewOctets, Step, ask_in, choices_of};
+ghost use Rattle.ras_core.specs.Soundness.{AreBornBefore, Sound};
+ghost use Rattle.zone_services.specs.Soundness.{HasCounts};
 
-use crate::config::Config;
 use crate::event::Event;
 use crate::fault::StepFault;
-use crate::moment::Moment;
 use crate::outcome::Outcome;
-use crate::services::Services;
 use admission::CallList;
 use kept_replies::Kept;
 use pools::{Pool, PoolSet};
@@ -25,6 +23,8 @@ use ras_module::RequestSeqNum;
 use registrations::RegistrationList;
 use std::alloc::{AllocError, Global};
 use std::marker::Model;
+use zone_config::{Config, Moment};
+use zone_services::Services;
 
 /// The steps that a zone makes at most.
 const MOST_STEPS: u64 = 1 << 62;

@@ -7,17 +7,18 @@ ghost use Rattle.ras_core.specs.Machine.{Doing, retry_course, turn_course};
 ghost use Rattle.ras_core.specs.Turns.{IsDueIn, IsNothingDueIn, number_after};
 ghost use Rattle.ras_core.specs.inside.Serving.{Does, IsWaitingRequest};
 ghost use Rattle.ras_core.specs.Steps.{item_of};
-ghost use Rattle.ras_core.specs.Soundness.{AreBornBefore, HasCounts};
+ghost use Rattle.ras_core.specs.Soundness.{AreBornBefore};
+ghost use Rattle.zone_services.specs.Soundness.{HasCounts};
 
 use crate::job::{Job, Occasion};
 use crate::machine::Machine;
-use crate::moment::Moment;
 use crate::outcome::{Note, Outcome};
 use expiry::{DueItem, due};
 use kept_replies::KeptState;
 use pools::Pool;
 use ras_module::{EndpointId, Reply, Request, RequestSeqNum};
 use std::alloc::AllocError;
+use zone_config::Moment;
 
 impl<P: Pool> Machine<P> {
     /// Does any one item that is due.
@@ -136,7 +137,7 @@ impl<P: Pool> Machine<P> {
         ensures note { result.note ≡ Note.Done DueItem.PoolTurn }
     {
         self.services.turn_pools();
-        self.next_pool_turn = now.milliseconds() + self.services.pool_turn();
+        self.next_pool_turn = now.milliseconds() + self.services.config().pool_turn();
         Outcome::noted(Note::Done(DueItem::PoolTurn), None)
     }
 

@@ -6,22 +6,22 @@ ghost use Rattle.registrations.specs.Registry.{IsListOf};
 ghost use Rattle.admission.specs.Calls.{in_use};
 ghost use Rattle.pools.specs.Account.{is_idle};
 ghost use Rattle.ras_core.specs.State.{opening};
-ghost use Rattle.ras_core.specs.Pools.{figures_of, figures_without_loans, lasts_of};
+ghost use Rattle.zone_services.specs.Pools.{figures_of, figures_without_loans, lasts_of};
 ghost use Rattle.ras_core.specs.Machine.{course, most_steps};
-ghost use Rattle.ras_core.specs.Steps.{HasFewOctets, RunsOn, Step, ask_in, choices_of, lasts_after};
+ghost use Rattle.ras_core.specs.Steps.{HasFewOctets, RunsOn, Step, ask_in, choices_of};
+ghost use Rattle.zone_services.specs.Pools.{lasts_after};
 ghost use Rattle.ras_core.specs.Soundness.{Sound};
 
-use crate::config::Config;
 use crate::event::Event;
 use crate::fault::{NewFault, StepFault};
 use crate::machine::Machine;
-use crate::moment::Moment;
 use crate::outcome::Outcome;
 use admission::CallList;
 use pools::{Pool, PoolSet};
 use registrations::RegistrationList;
 use std::alloc::{AllocError, Global};
 use std::marker::Model;
+use zone_config::{Config, Moment};
 
 /// The zone of one gatekeeper, with the pools from which its calls have their bandwidth. Contracts see
 /// its state, which is always sound, and each pool's last request with its answer.

@@ -5,13 +5,13 @@ use Rattle.std.proofs.Common.{arith, Bor}
 use Rattle.std.proofs.lemmas.Bool.Decides.{nat_tests}
 use Rattle.std.specs.List.{list_any}
 use Rattle.ras_module.specs.declared.address.Address.{Address}
-use Rattle.ras_core.specs.declared.config.ConfigParts.{ConfigParts}
-use Rattle.ras_core.specs.declared.config.ConfigFault.{ConfigFault}
-use Rattle.ras_core.specs.declared.config.ConfigFault.TheVariants.{OutOfRange, NoDefaultPool}
-use Rattle.ras_core.specs.declared.network.Network.{Network}
-use Rattle.ras_core.specs.Defaults.{default_parts}
-use Rattle.ras_core.specs.Networks.{has_default, is_too_long}
-use Rattle.ras_core.specs.Ranges.{range_fault, is_outside, IsConfig, IsConfigAnswer}
+use Rattle.zone_config.specs.declared.config.ConfigParts.{ConfigParts}
+use Rattle.zone_config.specs.declared.config.ConfigFault.{ConfigFault}
+use Rattle.zone_config.specs.declared.config.ConfigFault.TheVariants.{OutOfRange, NoDefaultPool}
+use Rattle.zone_config.specs.declared.network.Network.{Network}
+use Rattle.zone_config.specs.Defaults.{default_parts}
+use Rattle.zone_config.specs.Networks.{has_default, is_too_long}
+use Rattle.zone_config.specs.Ranges.{range_fault, is_outside, IsConfig, IsConfigAnswer}
 use Rattle.script.specs.declared.key.Key.{Key}
 use Rattle.script.specs.declared.key.Key.TheVariants.{Limit, CallLimit, TimeToLive, Endpoints}
 use Rattle.script.specs.declared.key.Key.TheVariants.{Calls, Kept, Window, Silence, Delay, Retries}

@@ -7,7 +7,7 @@ use Rattle.std.specs.Char.{is_ascii_digit}
 use Rattle.std.specs.Str.{chars, is_utf8}
 use Rattle.std.specs.Str.Parse.{digits_value}
 use Rattle.hex.specs.Hex.{decode_of}
-use Rattle.ras_core.specs.declared.network.Network.{Network}
+use Rattle.zone_config.specs.declared.network.Network.{Network}
 use Rattle.ras_module.specs.declared.address.Address.{Address}
 use Rattle.script.specs.Words.{front_part, rest_part}
 

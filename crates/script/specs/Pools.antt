@@ -3,7 +3,7 @@ use Rattle.std.specs.Prelude.{ℕ, List, [], ◌∷◌, map, Option, Some, None,
 use Rattle.std.specs.Str.{bytes_eq}
 use Rattle.pools.specs.declared.pool_spec.PoolSpec.{PoolSpec}
 use Rattle.pools.specs.declared.pool_spec.PoolSpec.TheVariants.{Fixed, Step, Paced}
-use Rattle.ras_core.specs.declared.network.Network.{Network}
+use Rattle.zone_config.specs.declared.network.Network.{Network}
 use Rattle.script.specs.Fields.{◌>>=◌, number_of, network_of}
 
 -- a pool, with the network that it serves; none: every address

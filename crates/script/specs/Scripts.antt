@@ -4,11 +4,11 @@ use Rattle.std.specs.Prelude.{filter_map}
 use Rattle.std.specs.Prelude.{Option, Some, None, is_some, Result, Ok, Err, if◌then◌else◌}
 use Rattle.std.specs.List.{position_from, last_or}
 use Rattle.ras_module.specs.declared.address.Address.{Address}
-use Rattle.ras_core.specs.declared.config.ConfigParts.{ConfigParts}
+use Rattle.zone_config.specs.declared.config.ConfigParts.{ConfigParts}
 use Rattle.ras_core.specs.declared.event.Event.{Event}
-use Rattle.ras_core.specs.declared.network.Network.{Network}
-use Rattle.ras_core.specs.Defaults.{default_parts}
-use Rattle.ras_core.specs.Networks.{has_default}
+use Rattle.zone_config.specs.declared.network.Network.{Network}
+use Rattle.zone_config.specs.Defaults.{default_parts}
+use Rattle.zone_config.specs.Networks.{has_default}
 use Rattle.script.specs.declared.fault.ScriptFault.{ScriptFault}
 use Rattle.script.specs.declared.fault.ScriptFault.TheVariants.{TooLong, BadLine, NoZone}
 use Rattle.script.specs.declared.fault.ScriptFault.TheVariants.{NoDefaultPool, Stream, Memory}

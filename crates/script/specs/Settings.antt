@@ -1,7 +1,7 @@
 -- The settings that a line may make: for each key its word, its greatest number and its field.
 use Rattle.std.specs.Prelude.{ℕ, List, Option, Some, None, codes, if◌then◌else◌}
 use Rattle.std.specs.Str.{bytes_eq}
-use Rattle.ras_core.specs.declared.config.ConfigParts.{ConfigParts}
+use Rattle.zone_config.specs.declared.config.ConfigParts.{ConfigParts}
 use Rattle.script.specs.Fields.{◌>>=◌, number_of}
 use Rattle.script.specs.declared.key.Key.{Key}
 use Rattle.script.specs.declared.key.Key.TheVariants.{Limit, CallLimit, TimeToLive, Endpoints}

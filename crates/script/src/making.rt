@@ -2,8 +2,8 @@
 
 ghost use Rattle.std.specs.Prelude.{◌≡◌, IfOk, true, false, fold, None, Some, if◌then◌else◌};
 ghost use Rattle.std.specs.List.{list_any};
-ghost use Rattle.ras_core.specs.Defaults.{default_parts};
-ghost use Rattle.ras_core.specs.Networks.{has_default, is_too_long};
+ghost use Rattle.zone_config.specs.Defaults.{default_parts};
+ghost use Rattle.zone_config.specs.Networks.{has_default, is_too_long};
 ghost use Rattle.script.specs.Pools.{networks_of, specs_of};
 ghost use Rattle.script.specs.Scripts.{with_setting};
 

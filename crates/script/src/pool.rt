@@ -1,7 +1,7 @@
 //! The pool lines of a script.
 
 ghost use Rattle.std.specs.Prelude.{◌≡◌, ◌≤◌, IfSome, false};
-ghost use Rattle.ras_core.specs.Networks.{is_too_long};
+ghost use Rattle.zone_config.specs.Networks.{is_too_long};
 ghost use Rattle.script.specs.Fields.{network_of, number_of};
 ghost use Rattle.script.specs.Pools.{PoolEntry, fixed_pool, paced_pool, pool_of, pool_with_network};
 ghost use Rattle.script.specs.Pools.{served_network, step_pool};
@@ -23,7 +23,7 @@ pub struct PoolLine {
 
 impl Model for PoolLine {
     ghost use Rattle.std.specs.Prelude.{◌≡◌, false};
-    ghost use Rattle.ras_core.specs.Networks.{is_too_long};
+    ghost use Rattle.zone_config.specs.Networks.{is_too_long};
     ghost use Rattle.script.specs.Pools.{PoolEntry};
 
     ghost Value = { PoolEntry };

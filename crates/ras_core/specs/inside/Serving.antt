@@ -1,5 +1,5 @@
 -- How a request is served, step by step: what the functions of the machine owe one another.
-use Rattle.std.specs.Prelude.{ℕ, ◌≡◌, ◌+◌, All, List, Some, Option, None}
+use Rattle.std.specs.Prelude.{ℕ, ◌≡◌, ◌+◌, List, Some, Option, None}
 use Rattle.std.specs.Option.{IsSomeAnd}
 use Rattle.std.specs.FinMap.{get, len}
 use Rattle.kept_replies.specs.declared.key.KeptKey.{KeptKey}
@@ -9,43 +9,24 @@ use Rattle.ras_core.specs.declared.job.Job.{Job}
 use Rattle.ras_core.specs.declared.job.Occasion.{Occasion}
 use Rattle.ras_core.specs.declared.job.Occasion.TheVariants.{First, Again}
 use Rattle.ras_core.specs.declared.outcome.Outcome.{Outcome}
-use Rattle.pools.specs.declared.interface.Figures.{Figures}
 use Rattle.ras_module.specs.declared.request.Request.{Request}
-use Rattle.ras_module.specs.declared.request.Request.TheVariants.{Arq, Brq, Drq, Rrq, Urq}
 use Rattle.ras_core.specs.State.{State, Running}
-use Rattle.ras_core.specs.Soundness.{AreBornBefore, HasCounts}
-use Rattle.ras_core.specs.Plans.{Plan}
-use Rattle.ras_core.specs.Requests.{plan_of}
+use Rattle.ras_core.specs.Soundness.{AreBornBefore}
+use Rattle.zone_services.specs.Plans.{Plan}
+use Rattle.zone_services.specs.Requests.{plan_of, HasReply}
 use Rattle.ras_core.specs.inside.Room.{IsDropped}
 use Rattle.ras_core.specs.Turns.{IsDueIn}
 use Rattle.ras_core.specs.Machine.{Course, Doing, course_ending, retry_course, serving}
-use Rattle.ras_core.specs.declared.calling.Admission.{Admission}
-use Rattle.ras_core.specs.declared.calling.BandwidthChange.{BandwidthChange}
-use Rattle.ras_core.specs.declared.calling.Disengagement.{Disengagement}
-use Rattle.ras_core.specs.declared.registering.Registering.{Registering}
-use Rattle.ras_core.specs.declared.registering.Unregistering.{Unregistering}
-use Rattle.ras_core.specs.Steps.{IsAllowed, HasReply, HasFewOctets, ask_in, choices_of, lasts_after}
+use Rattle.ras_core.specs.Steps.{IsAllowed, HasFewOctets, ask_in, choices_of}
+use Rattle.zone_services.specs.Pools.{lasts_after}
+use Rattle.zone_services.specs.Soundness.{CountsOneMore}
+use Rattle.zone_services.specs.inside.Changes.{heard}
+use Rattle.zone_services.specs.inside.Parts.{RunningZone}
 
--- the requests as they are served
-abbrev pub rrq_of : Registering → Request
-rrq_of q =
-    Rrq q.seq q.call_signal q.ras q.aliases q.gatekeeper q.time_to_live q.keep_alive q.endpoint
-
-abbrev pub urq_of : Unregistering → Request
-urq_of q = Urq q.seq q.call_signal q.endpoint
-
-abbrev pub arq_of : Admission → Request
-arq_of q = Arq q.seq q.endpoint q.dest q.dest_address q.asked q.call q.answer
-
-abbrev pub brq_of : BandwidthChange → Request
-brq_of q = Brq q.seq q.endpoint q.call q.asked
-
-abbrev pub drq_of : Disengagement → Request
-drq_of q = Drq q.seq q.endpoint q.call
-
--- each pool counted at most one refusal and one wait more
-abbrev pub CountsOneMore : List Figures → List Figures → Type 0
-CountsOneMore old new = (most : ℕ) → All (HasCounts most) old → All (HasCounts (most + 1)) new
+-- an endpoint is heard as its request is served for the first time
+abbrev pub heard_at : RunningZone → Occasion → ℕ → Option (List ℕ) → RunningZone
+heard_at z First now endpoint = heard z now endpoint
+heard_at z (Again born left) now endpoint = z
 
 -- What a course comes to, before the clock and the number of steps are set.
 pub record Does (old : Running) (now : ℕ) (c : Course) (outcome : Outcome)
@@ -88,19 +69,6 @@ abbrev pub DropsFor : State → Job → Option ℕ → Type 0
 DropsFor s job dropped =
     IsDropped (record { kept = s.kept; most = s.zone.config.kept; room = 0 })
     job.key job.occasion dropped
-
--- a request about a call
-abbrev pub IsAboutCalls : Request → Type 0
-IsAboutCalls (Arq seq endpoint dest dest_address asked call answer) = Unit {0}
-IsAboutCalls (Brq seq endpoint call asked) = Unit {0}
-IsAboutCalls (Drq seq endpoint call) = Unit {0}
-IsAboutCalls other = ⊥
-
--- a request about a leg that is there already
-abbrev pub IsAboutALeg : Request → Type 0
-IsAboutALeg (Brq seq endpoint call asked) = Unit {0}
-IsAboutALeg (Drq seq endpoint call) = Unit {0}
-IsAboutALeg other = ⊥
 
 -- this request may be served again, and that is what is to be done
 pub record IsAgain (s : State) (now born : ℕ) (job : Job) (request : Request) : Type 0 where

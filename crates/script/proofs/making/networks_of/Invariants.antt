@@ -1,6 +1,6 @@
 use Rattle.std.proofs.Common.{◌≡◌, ◌++◌, map, take, false}
 use Rattle.std.specs.List.{list_any}
-use Rattle.ras_core.specs.Networks.{is_too_long}
+use Rattle.zone_config.specs.Networks.{is_too_long}
 use Rattle.script.proofs.making.networks_of.Given as goal
 
 abbrev pub invariant-loop-line : goal.invariant-loop-line

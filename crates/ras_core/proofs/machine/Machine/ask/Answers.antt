@@ -3,16 +3,17 @@ use Rattle.std.specs.Prelude.{IfSome}
 use Rattle.ras_codec.specs.Replies.{encoding_of}
 use Rattle.kept_replies.specs.Kept.{KeptReplies, Passes, is_over}
 use Rattle.ras_core.specs.declared.outcome.Note.{Note}
+use Rattle.zone_config.specs.declared.config.ConfigParts.{ConfigParts}
 use Rattle.ras_core.specs.State.{Running}
-use Rattle.ras_core.specs.inside.Parts.{RunningZone, running_of}
-use Rattle.ras_core.specs.Pools.{pools_after_answer}
-use Rattle.ras_core.specs.Keeping.{kept_as, plan_at, term_of}
+use Rattle.zone_services.specs.inside.Parts.{RunningZone}
+use Rattle.ras_core.specs.inside.Parts.{running_of}
+use Rattle.zone_services.specs.Pools.{pools_after_answer, lasts_after}
+use Rattle.ras_core.specs.Keeping.{kept_as, plan_at}
+use Rattle.zone_config.specs.Terms.{term_of}
 use Rattle.ras_core.specs.Machine.{Serving}
-use Rattle.ras_core.specs.inside.Decisions.{Asks, ask_of, calls_after_answer, reply_of}
-use Rattle.ras_core.specs.inside.Changes.{heard_at}
+use Rattle.zone_services.specs.inside.Decisions.{Asks, ask_of, calls_after_answer, reply_of}
+use Rattle.ras_core.specs.inside.Serving.{heard_at, Does, IsJob}
 use Rattle.ras_core.specs.Soundness.{AreBornBefore}
-use Rattle.ras_core.specs.inside.Serving.{Does, IsJob}
-use Rattle.ras_core.specs.Steps.{lasts_after}
 use Rattle.ras_core.specs.inside.Room.{IsPlaced}
 use Rattle.ras_core.proofs.Asking.{does_answered}
 use Rattle.ras_core.proofs.Carrying.{placed_of}
@@ -36,8 +37,8 @@ returns-clause-does g c plan asks =
     let i = c.self.inside in
     let now = c.args.now in
     let job = c.args.job in
-    let id = c.args.endpoint in
     let q = c.args.question in
+    let id = q.endpoint in
     let request = c.args.request in
     let dropped = c.keep-dropped.result in
     let answer = c.in_ok-answer.answer in
@@ -45,7 +46,7 @@ returns-clause-does g c plan asks =
     let reply = c.reply-reply.result in
     let old =
     running_of i.services i.kept.kept i.clock i.interrogation_number i.next_pool_turn i.steps in
-    let services = c.hear.new.self in
+    let services = c.hear.new.services in
     let kept = c.keep-dropped.new.kept.kept in
     let asked : RunningZone = record {
       zone = record i.services.zone {
@@ -58,13 +59,17 @@ returns-clause-does g c plan asks =
     λ j. record { zone = c.in_ok-answer.ensures.zone j; lasts = c.in_ok-answer.ensures.lasts j } in
     let services_is : services ≡ heard_at asked job.occasion now (Some id) =
     c.hear.ensures ∙ ap (λ (z : RunningZone). heard_at z job.occasion now (Some id)) asked_is in
+    let config_is = c.config-config.ensures in
+    let term_is = c.term-term.ensures.same
+    ∙ ap (λ (config : ConfigParts). term_of config now) config_is in
     let kept_is : kept ≡ kept_as i.kept.kept job.key job.occasion dropped i.steps request reply w
     (term_of i.services.zone.config now) =
     c.keep-dropped.ensures.kept
     ∙ (λ j. kept_as (c.reserve.ensures.kept j) job.key job.occasion dropped i.steps request reply w
-    (c.term-term.ensures.same j)) in
+    (term_is j)) in
     let reply_is : reply ≡ reply_of q answer w i.services.zone.config.delay =
-    c.reply-reply.ensures ∙ ap (λ n. reply_of q answer w n) c.delay-delay.ensures in
+    c.reply-reply.ensures ∙ ap (λ n. reply_of q answer w n)
+    (c.delay-delay.ensures ∙ ap (λ (config : ConfigParts). config.delay) config_is) in
     let over =
     subst (λ (k : KeptReplies). IfSome dropped (Passes (is_over now) k)) c.reserve.ensures.kept
     (subst (λ (n : ℕ). IfSome dropped (Passes (is_over n) c.reserve.new.kept.kept))

@@ -5,15 +5,18 @@ use Rattle.kept_replies.specs.Kept.{KeptReplies, Passes, is_over}
 use Rattle.ras_core.specs.declared.outcome.Datagram.{Datagram}
 use Rattle.ras_core.specs.declared.outcome.Note.{Note}
 use Rattle.ras_core.specs.State.{Running}
-use Rattle.ras_core.specs.inside.Parts.{RunningZone, running_of}
+use Rattle.zone_services.specs.inside.Parts.{RunningZone}
+use Rattle.ras_core.specs.inside.Parts.{running_of}
+use Rattle.zone_config.specs.declared.config.ConfigParts.{ConfigParts}
+use Rattle.zone_config.specs.Terms.{term_of}
 use Rattle.ras_core.specs.Keeping.{plan_at, with_reply}
 use Rattle.ras_core.specs.Machine.{Serving}
-use Rattle.ras_core.specs.inside.Decisions.{Decides}
-use Rattle.ras_core.specs.inside.Changes.{changed, heard_at}
+use Rattle.zone_services.specs.inside.Decisions.{Decides}
+use Rattle.zone_services.specs.inside.Changes.{changed}
+use Rattle.ras_core.specs.inside.Serving.{heard_at, Does, IsJob}
 use Rattle.ras_core.specs.Soundness.{AreBornBefore}
-use Rattle.ras_core.specs.inside.Serving.{Does, IsJob}
 use Rattle.ras_core.specs.Steps.{IsUnusedIn}
-use Rattle.ras_core.proofs.Agreeing.{on_ok}
+use Rattle.zone_services.proofs.Answered.{on_ok}
 use Rattle.ras_core.proofs.Carrying.{does_carried, zone_after}
 use Rattle.ras_core.proofs.machine.Machine.carry_out.Goals as goal
 
@@ -27,7 +30,7 @@ returns-clause-does g c plan request decides =
     let dropped = c.keep_reply-dropped.result in
     let old =
     running_of i.services i.kept.kept i.clock i.interrogation_number i.next_pool_turn i.steps in
-    let services = c.hear.new.self in
+    let services = c.hear.new.services in
     let kept = c.keep_reply-dropped.new.kept.kept in
     let applied : c.apply.new.self ≡ changed i.services now d.change =
     on_ok c.apply.result c.in_ok-apply.field-0 c.in_ok-apply.was c.apply.ensures.ok in
@@ -35,7 +38,8 @@ returns-clause-does g c plan request decides =
     ≡ zone_after i.services.zone i.services.lasts now job.occasion endpoint d.change =
     c.hear.ensures ∙ ap (λ (z : RunningZone). heard_at z job.occasion now endpoint) applied in
     let until_is : c.term-term.result.until ≡ now + i.services.zone.config.window =
-    ap (λ t. t.until) c.term-term.ensures.same in
+    ap (λ t. t.until) (c.term-term.ensures.same
+    ∙ ap (λ (config : ConfigParts). term_of config now) c.config.ensures) in
     let kept_is : kept ≡ with_reply i.kept.kept job.key job.occasion dropped i.steps d.reply
     (now + i.services.zone.config.window) =
     c.keep_reply-dropped.ensures.kept

@@ -3,7 +3,7 @@ use Rattle.expiry.specs.declared.due_item.DueItem.TheVariants.{KeptOver}
 use Rattle.ras_core.specs.State.{Running}
 use Rattle.ras_core.specs.Soundness.{AreBornBefore}
 use Rattle.ras_core.specs.inside.Parts.{running_of}
-use Rattle.ras_core.proofs.ButLent.{same_after_end}
+use Rattle.zone_services.proofs.ButLent.{same_after_end}
 use Rattle.ras_core.proofs.Dropping.{born_dropped}
 use Rattle.ras_core.proofs.Noting.{does_item}
 use Rattle.ras_core.proofs.machine.Machine.expire.Goals as goal

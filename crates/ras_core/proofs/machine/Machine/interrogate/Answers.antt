@@ -3,11 +3,12 @@ use Rattle.std.specs.Option.{option_copied, option_map}
 use Rattle.std.specs.FinMap as fin
 use Rattle.expiry.specs.declared.times.Times.{Times}
 use Rattle.expiry.specs.declared.due_item.DueItem.TheVariants.{Interrogate}
-use Rattle.ras_core.specs.State.{Running, Zone}
-use Rattle.ras_core.specs.Turns.{IsDueIn, inquiry, times_of}
-use Rattle.ras_core.specs.inside.Leaving.{AreSameButLent}
+use Rattle.ras_core.specs.State.{Running}
+use Rattle.zone_services.specs.Zone.{Zone, times_of}
+use Rattle.ras_core.specs.Turns.{IsDueIn, inquiry}
+use Rattle.zone_services.specs.inside.Leaving.{AreSameButLent}
 use Rattle.ras_core.specs.inside.Parts.{running_of}
-use Rattle.ras_core.proofs.ButLent.{same_after_end}
+use Rattle.zone_services.proofs.ButLent.{same_after_end}
 use Rattle.ras_core.proofs.Dropping.{born_same}
 use Rattle.ras_core.proofs.Noting.{does_item, tries_few_in}
 use Rattle.ras_core.proofs.machine.Machine.interrogate.Goals as goal

@@ -1,10 +1,12 @@
 use Rattle.std.proofs.Common.{◌∙◌, refl, ap, sym, None}
 use Rattle.expiry.specs.declared.due_item.DueItem.TheVariants.{RegistrationOver}
-use Rattle.ras_core.specs.declared.config.ConfigParts.{ConfigParts}
-use Rattle.ras_core.specs.State.{Running, Zone}
+use Rattle.zone_config.specs.declared.config.ConfigParts.{ConfigParts}
+use Rattle.ras_core.specs.State.{Running}
+use Rattle.zone_services.specs.Zone.{Zone}
 use Rattle.ras_core.specs.inside.Parts.{running_of}
 use Rattle.ras_core.proofs.Dropping.{born_same}
-use Rattle.ras_core.proofs.Noting.{does_item, settings_stay}
+use Rattle.ras_core.proofs.Noting.{does_item}
+use Rattle.zone_services.proofs.Departing.{settings_stay}
 use Rattle.ras_core.proofs.machine.Machine.lapse.Goals as goal
 
 pub invariant_of-self : goal.invariant_of-self

@@ -1,6 +1,7 @@
 use Rattle.std.proofs.Common.{◌≡◌, ◌^◌, ◌+◌, All, ℕ, ap, sym, subst, arith}
 use Rattle.ras_core.specs.State.{Running}
-use Rattle.ras_core.specs.Soundness.{AreBornBefore, HasCounts}
+use Rattle.ras_core.specs.Soundness.{AreBornBefore}
+use Rattle.zone_services.specs.Soundness.{HasCounts}
 use Rattle.ras_core.proofs.machine.Machine.step.Goals as goal
 
 pub returns-clause-counts : goal.returns-clause-counts

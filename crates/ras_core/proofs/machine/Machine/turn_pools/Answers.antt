@@ -1,9 +1,11 @@
 use Rattle.std.proofs.Common.{◌≡◌, ◌+◌, ◌∙◌, refl, ap, subst, sym, None}
 use Rattle.expiry.specs.declared.due_item.DueItem.TheVariants.{PoolTurn}
+use Rattle.zone_config.specs.declared.config.ConfigParts.{ConfigParts}
 use Rattle.ras_core.specs.State.{Running}
-use Rattle.ras_core.specs.inside.Parts.{RunningZone, running_of}
-use Rattle.ras_core.specs.inside.Leaving.{AreSameButLent}
-use Rattle.ras_core.proofs.ButLent.{same_after_end}
+use Rattle.zone_services.specs.inside.Parts.{RunningZone}
+use Rattle.ras_core.specs.inside.Parts.{running_of}
+use Rattle.zone_services.specs.inside.Leaving.{AreSameButLent}
+use Rattle.zone_services.proofs.ButLent.{same_after_end}
 use Rattle.ras_core.proofs.Dropping.{born_same}
 use Rattle.ras_core.proofs.Noting.{does_item}
 use Rattle.ras_core.proofs.machine.Machine.turn_pools.Goals as goal
@@ -24,7 +26,8 @@ returns-clause-does g c =
     } in
     let now_is = sym c.milliseconds.ensures.same in
     let turn_is =
-    sym (c.pool_turn.ensures.same ∙ ap (λ (z : RunningZone). z.zone.config.pool_turn) same) in
+    sym (c.pool_turn.ensures.same ∙ ap (λ (config : ConfigParts). config.pool_turn) c.config.ensures
+    ∙ ap (λ (z : RunningZone). z.zone.config.pool_turn) same) in
     does_item old _ c.self.view_is c.args.now PoolTurn c.requires
     None c.noted.result c.noted.ensures new
     refl (λ j. record old.state { zone = (sym same j).zone; next_pool_turn = now_is j + turn_is j })

@@ -1,6 +1,6 @@
 use Rattle.std.proofs.Common.{subst, sym}
-use Rattle.ras_core.specs.declared.config.ConfigParts.{ConfigParts}
-use Rattle.ras_core.specs.Ranges.{IsConfig}
+use Rattle.zone_config.specs.declared.config.ConfigParts.{ConfigParts}
+use Rattle.zone_config.specs.Ranges.{IsConfig}
 use Rattle.script.proofs.InRange.{stays_config, no_config_fault}
 use Rattle.script.proofs.setting.Setting.apply.Goals as goal
 

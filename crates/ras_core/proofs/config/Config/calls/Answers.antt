@@ -1,8 +1,0 @@
-use Rattle.ras_core.proofs.RangesKept.{limits}
-use Rattle.ras_core.proofs.config.Config.calls.Goals as goal
-
-pub returns-clause-some : goal.returns-clause-some
-returns-clause-some c = (limits c.self.inside.parts c.self.invariant.ranges).some_calls
-
-pub returns-clause-few : goal.returns-clause-few
-returns-clause-few c = (limits c.self.inside.parts c.self.invariant.ranges).calls

@@ -1,5 +1,0 @@
-use Rattle.ras_core.proofs.RangesKept.{limits}
-use Rattle.ras_core.proofs.config.Config.endpoints.Goals as goal
-
-pub returns-clause-few : goal.returns-clause-few
-returns-clause-few c = (limits c.self.inside.parts c.self.invariant.ranges).endpoints

@@ -1,5 +1,0 @@
-use Rattle.ras_core.proofs.RangesKept.{limits}
-use Rattle.ras_core.proofs.config.Config.pool_turn.Goals as goal
-
-pub returns-clause-small : goal.returns-clause-small
-returns-clause-small c = (limits c.self.inside.parts c.self.invariant.ranges).pool_turn

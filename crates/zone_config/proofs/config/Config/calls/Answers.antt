@@ -1,0 +1,8 @@
+use Rattle.zone_config.proofs.RangesKept.{limits}
+use Rattle.zone_config.proofs.config.Config.calls.Goals as goal
+
+pub returns-clause-some : goal.returns-clause-some
+returns-clause-some c = (limits c.self.inside.parts c.self.invariant.ranges).some_calls
+
+pub returns-clause-few : goal.returns-clause-few
+returns-clause-few c = (limits c.self.inside.parts c.self.invariant.ranges).calls

@@ -1,0 +1,4 @@
+pub mod Networks
+pub mod Ranges
+pub mod Defaults
+pub mod Terms

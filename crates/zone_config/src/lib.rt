@@ -1,0 +1,13 @@
+//! What is set for a zone: its name and address, its limits and times, and the networks of its pools.
+//! Nothing here reads a clock: moments are numbers that are handed in.
+#![tactic(auto)]
+
+mod config;
+mod moment;
+mod network;
+mod term;
+
+pub use config::{Config, ConfigFault, ConfigParts};
+pub use moment::Moment;
+pub use network::{Network, Networks};
+pub use term::Term;

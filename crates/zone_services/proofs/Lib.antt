@@ -1,0 +1,11 @@
+pub mod Answered
+pub mod Agreeing
+pub mod Conclusions
+pub mod PoolFigures
+pub mod Lending
+pub mod Backing
+pub mod Translating
+pub mod Legs
+pub mod Resizing
+pub mod ButLent
+pub mod Departing

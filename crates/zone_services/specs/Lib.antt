@@ -1,0 +1,13 @@
+pub mod Zone
+pub mod Plans
+pub mod Pools
+pub mod Discovery
+pub mod Registering
+pub mod Unregistering
+pub mod Admission
+pub mod Bandwidth
+pub mod Disengaging
+pub mod Requests
+pub mod Unused
+pub mod Soundness
+pub mod inside

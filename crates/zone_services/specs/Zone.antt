@@ -1,0 +1,50 @@
+-- What a zone has.
+use Rattle.std.specs.Prelude.{ℕ, List, Option}
+use Rattle.std.specs.FinMap.{empty}
+use Rattle.keyed.specs.Maps.{update}
+use Rattle.registrations.specs.Registry.{Live, after_hear}
+use Rattle.admission.specs.Calls.{OpenCalls}
+use Rattle.expiry.specs.declared.times.Times.{Times}
+use Rattle.pools.specs.declared.interface.Figures.{Figures}
+use Rattle.pools.specs.declared.interface.Lend.{Lend}
+use Rattle.zone_config.specs.declared.config.ConfigParts.{ConfigParts}
+
+-- A zone: its settings, which endpoints are registered, the calls, and the figures of its pools.
+pub record Zone : Type 0 where
+  pub config : ConfigParts
+  pub live : Live
+  pub calls : OpenCalls
+  pub pools : List Figures
+
+-- a zone in which nobody is registered and no call is open
+abbrev pub empty_zone : ConfigParts → List Figures → Zone
+empty_zone config pools = record {
+  config = config;
+  live = empty;
+  calls = empty;
+  pools = pools;
+}
+
+-- the zone in which this is registered instead
+abbrev pub with_live : Zone → Live → Zone
+with_live z live = record z { live = live }
+
+-- the zone in which these calls are open instead
+abbrev pub with_calls : Zone → OpenCalls → Zone
+with_calls z calls = record z { calls = calls }
+
+-- the endpoint was heard now, if it is registered
+abbrev pub heard_now : ℕ → List ℕ → Live → Live
+heard_now now id live = update live id (after_hear now)
+
+-- what a pool was asked for last, with its answer
+abbrev pub Last : Type 0
+Last = Option (ℕ × Lend)
+
+-- how long an endpoint in a call may be silent
+abbrev pub times_of : ConfigParts → Times
+times_of config = record {
+  silence = config.silence;
+  asks = config.asks;
+  ask_wait = config.ask_wait;
+}
