@@ -29,7 +29,7 @@ use Rattle.ras_module.specs.Addresses.{same_address}
 use Rattle.ras_module.specs.Same.{texts_decide, address_decides}
 use Rattle.registrations.specs.declared.registration.Registration.{Registration}
 use Rattle.registrations.specs.Registry.{Live, live_of, at_address, identifier_of, call_signal_of}
-use Rattle.registrations.specs.Registry.{IsConsistent}
+use Rattle.registrations.specs.Registry.{Registry, Becomes, IsConsistent}
 use Rattle.registrations.specs.inside.Stored.{IsTable}
 
 -- the first row of an identifier is what the map has
@@ -137,6 +137,31 @@ live_write rows most lowest live id i old f table is row keeps =
     (slice_get_within rows i old row.there) row.there keeps
     ∙ ((λ k. fin.insert (is k) ((keeps ∙ row.id_is) k) (f old))
     ∙ sym (update_there nat_list_cmp_total exact_bytes live id old f row.found))
+
+-- A registration that is there is changed in its row, and keeps its identifier and its address: the
+-- rows are those of a table still, and what it becomes is the map with that change.
+module _ (rows : List Registration) (most lowest : ℕ) (id : List ℕ) (i : ℕ) (old : Registration)
+    (f : Registration → Registration) (table : IsTable rows most lowest)
+    (place : IsPlaceOf identifier_of id rows i) (read : old ≡ get_or rows i old)
+    (keeps : (f old).identifier ≡ old.identifier) where
+  pub its_row : IsRowOf rows (live_of rows) id i old
+  its_row = IsRowOf-place rows most lowest (live_of rows) id i old table refl place read
+
+  pub IsTable-changed : (f old).call_signal ≡ old.call_signal
+      → IsTable (set rows i (f old)) most lowest
+  IsTable-changed = IsTable-write rows most lowest i old (f old) table its_row.there keeps
+
+  pub Becomes-changed : (was value new : Registry) → was ≡ value → was.live ≡ live_of rows
+      → new.live ≡ live_of (set rows i (f old)) → new.most ≡ was.most → was.room ≤ new.room
+      → Becomes value new (update value.live id f)
+  Becomes-changed was value new same live new_live most_is room =
+      subst (λ (v : Registry). Becomes v new (update v.live id f)) same (record {
+        rows = new_live
+            ∙ (live_write rows most lowest (live_of rows) id i old f table refl its_row keeps
+            ∙ ap (λ m. update m id f) (sym live));
+        most = most_is;
+        room = room;
+      })
 
 -- no row has an address that a search doesn't find
 no_address : (rows : List Registration) (address : Address)
