@@ -1,7 +1,7 @@
 -- Calls stay backed by the pools, within the limits, as they open, change and end.
 use Rattle.std.proofs.Common.{◌≡◌, ◌<◌, ◌≤◌, ◌+◌, ◌^◌, All, ℕ, Bool, true, false, List, length}
 use Rattle.std.proofs.Common.{refl, sym, ◌∙◌, ap, subst, arith, Some, None}
-use Rattle.std.specs.Prelude.{Option, IsSome, IsTrue, slice_set}
+use Rattle.std.specs.Prelude.{Option, IfOk, IsSome, IsTrue, Ok, Result, slice_set}
 use Rattle.std.specs.FinMap as fin
 use Rattle.std.proofs.lemmas.List.{length-map, length-set}
 use Rattle.keyed.proofs.Sums.{total-empty}
@@ -11,7 +11,9 @@ use Rattle.keyed.proofs.Decide.{some_none, same_some}
 use Rattle.admission.proofs.Leaving.{freed-other, freed-last}
 use Rattle.ras_module.specs.declared.call_key.CallKey.{CallKey}
 use Rattle.admission.specs.declared.call.Call.{Call}
+use Rattle.admission.specs.declared.fault.CallFault.{CallFault}
 use Rattle.admission.specs.declared.leg.Leg.{Leg}
+use Rattle.admission.specs.declared.table.Left.{Left}
 use Rattle.admission.specs.Calls.{CallTable, OpenCalls, EachCall, in_use, leg_at, legs_in}
 use Rattle.admission.specs.Calls.{units_from, units_of, new_call, with_leg, with_units, after_leave}
 use Rattle.admission.specs.Calls.{freed_by_leave}
@@ -32,12 +34,12 @@ use Rattle.zone_services.specs.declared.change.Purpose.TheVariants.{Opening, Rai
 use Rattle.zone_services.specs.Pools.{figures_at, figures_of, figures_after_return}
 use Rattle.zone_services.specs.Pools.{pools_after_answer}
 use Rattle.zone_services.specs.Pools.{pools_after_return, pools_after_end}
-use Rattle.zone_services.specs.inside.Parts.{Usage, IsBacked, with_usage}
+use Rattle.zone_services.specs.inside.Parts.{Lending, Usage, IsBacked, with_usage}
 use Rattle.zone_services.specs.inside.Decisions.{IsEnterable, IsGrantable, IsPurpose}
 use Rattle.zone_services.specs.inside.Decisions.{IsQuestion, granted_calls, calls_after_answer}
 use Rattle.zone_services.specs.inside.Changes.{IsOpenable, IsJoinable, IsLowerable}
 use Rattle.zone_services.specs.Soundness.{HasCounts}
-use Rattle.zone_services.proofs.Answered.{is_there}
+use Rattle.zone_services.proofs.Answered.{if_ok, is_there}
 use Rattle.zone_services.proofs.PoolFigures.{figures_there}
 use Rattle.zone_services.proofs.Lending.{lent-opened, lent-opened_empty, lent-joined, lent-refused}
 use Rattle.zone_services.proofs.Lending.{lent-waiting, lent-part, lent-raised, lent-lowered}
@@ -297,6 +299,21 @@ module _ (u : Usage) (b : IsBacked u) (key : CallKey) (endpoint : List ℕ) (cal
   freed_is_lent = subst (λ (f : ℕ × ℕ). f.1 ≤ (figures_at u.pools f.0).lent)
       (its_own (has_other call.legs endpoint) refl)
       (lent-part u.pools u.calls key b.lent call there (b.pools key call there))
+
+-- the call that an endpoint leaves, in the calls as they are held
+pub call_left : (was value : Lending) → was ≡ value → (key : CallKey) (endpoint : List ℕ)
+    → IsSome (leg_at value.usage.calls key endpoint)
+    → (call : Call) × (fin.get was.usage.calls key ≡ Some call)
+call_left was value is key endpoint has =
+    call_with_leg was.usage.calls key endpoint
+    (subst (λ (l : Lending). IsSome (leg_at l.usage.calls key endpoint)) (sym is) has)
+
+-- what the table said that the call had from its pool
+pub freed_as : (r : Result Left CallFault) (left : Left) → r ≡ Ok left
+    → (freed was : Option (ℕ × ℕ)) → IfOk r (λ left. left.ended ≡ freed) → left.ended ≡ was
+    → freed ≡ was
+freed_as r left ok freed was named is =
+    sym (if_ok (λ left. left.ended ≡ freed) r left ok named) ∙ is
 
 -- no call, and pools that have lent nothing
 idle_lent : (a : Account) → IsTrue (is_idle a) → a.figures.lent ≡ 0

@@ -1,12 +1,12 @@
 use Rattle.std.proofs.Common.{◌≡◌, sym, ap, ◌∙◌, subst, arith}
-use Rattle.std.specs.Prelude.{IsSome}
 use Rattle.std.proofs.lemmas.List.{length-map}
-use Rattle.admission.specs.Calls.{after_leave, freed_by_leave, leg_at}
+use Rattle.admission.specs.Calls.{after_leave, freed_by_leave}
 use Rattle.zone_services.specs.inside.Parts.{Lending, with_usage}
 use Rattle.zone_services.specs.Pools.{figures_of, lasts_of, pools_after_return, pools_after_end}
-use Rattle.zone_services.proofs.Answered.{on_ok, if_ok}
+use Rattle.zone_services.proofs.Answered.{on_ok}
 use Rattle.zone_services.proofs.PoolFigures.{figures-return, figures_there, lasts-return}
-use Rattle.zone_services.proofs.Backing.{IsBacked-is, IsBacked-leave, call_with_leg, freed_is_lent}
+use Rattle.zone_services.proofs.Backing.{IsBacked-is, IsBacked-leave, call_left, freed_as}
+use Rattle.zone_services.proofs.Backing.{freed_is_lent}
 use Rattle.zone_services.proofs.Backing.{freed_pool, usage_in}
 use Rattle.zone_services.proofs.bandwidth.Bandwidth.leave.Goals as goal
 
@@ -14,14 +14,9 @@ pub take_back-requires-clause-pool : goal.take_back-requires-clause-pool
 take_back-requires-clause-pool g c =
     let i = c.self.inside in
     let u = usage_in i.calls i.pools i.limit i.call_limit in
-    let has =
-    subst (λ (l : Lending). IsSome (leg_at l.usage.calls c.args.key.now c.args.endpoint.now))
-    (sym c.self.view_is) c.requires in
-    let call = call_with_leg u.calls c.args.key.now c.args.endpoint.now has in
-    let freed =
-    sym (if_ok (λ left. left.ended ≡ freed_by_leave u.calls c.args.key.now c.args.endpoint.now)
-    c.leave.result c.unwrap-left.result c.unwrap-left.ensures c.leave.ensures.ended)
-    ∙ c.in-Some.is in
+    let call = call_left _ _ c.self.view_is c.args.key.now c.args.endpoint.now c.requires in
+    let freed = freed_as c.leave.result c.unwrap-left.result c.unwrap-left.ensures _ _
+    c.leave.ensures.ended c.in-Some.is in
     omega (
       arith,
       freed_pool u c.self.invariant c.args.key.now c.args.endpoint.now call.0 call.1
@@ -33,14 +28,9 @@ pub take_back-requires-clause-lent : goal.take_back-requires-clause-lent
 take_back-requires-clause-lent g c =
     let i = c.self.inside in
     let u = usage_in i.calls i.pools i.limit i.call_limit in
-    let has =
-    subst (λ (l : Lending). IsSome (leg_at l.usage.calls c.args.key.now c.args.endpoint.now))
-    (sym c.self.view_is) c.requires in
-    let call = call_with_leg u.calls c.args.key.now c.args.endpoint.now has in
-    let freed =
-    sym (if_ok (λ left. left.ended ≡ freed_by_leave u.calls c.args.key.now c.args.endpoint.now)
-    c.leave.result c.unwrap-left.result c.unwrap-left.ensures c.leave.ensures.ended)
-    ∙ c.in-Some.is in
+    let call = call_left _ _ c.self.view_is c.args.key.now c.args.endpoint.now c.requires in
+    let freed = freed_as c.leave.result c.unwrap-left.result c.unwrap-left.ensures _ _
+    c.leave.ensures.ended c.in-Some.is in
     omega (
       arith,
       freed_is_lent u c.self.invariant c.args.key.now c.args.endpoint.now call.0 call.1
@@ -53,14 +43,9 @@ pub invariant_of-self : goal.invariant_of-self
 invariant_of-self g c =
     let i = c.self.inside in
     let u = usage_in i.calls i.pools i.limit i.call_limit in
-    let has =
-    subst (λ (l : Lending). IsSome (leg_at l.usage.calls c.args.key.now c.args.endpoint.now))
-    (sym c.self.view_is) c.requires in
-    let call = call_with_leg u.calls c.args.key.now c.args.endpoint.now has in
-    let freed =
-    sym (if_ok (λ left. left.ended ≡ freed_by_leave u.calls c.args.key.now c.args.endpoint.now)
-    c.leave.result c.unwrap-left.result c.unwrap-left.ensures c.leave.ensures.ended)
-    ∙ c.in-Some.is in
+    let call = call_left _ _ c.self.view_is c.args.key.now c.args.endpoint.now c.requires in
+    let freed = freed_as c.leave.result c.unwrap-left.result c.unwrap-left.ensures _ _
+    c.leave.ensures.ended c.in-Some.is in
     let pools = ap figures_of c.take_back.ensures.after
     ∙ (figures-return i.pools c.in-Some.pool c.from.result
     ∙ (ap (pools_after_return u.pools c.in-Some.pool) c.from.ensures
@@ -76,15 +61,10 @@ pub invariant_of-self-in_default : goal.invariant_of-self-in_default
 invariant_of-self-in_default g c =
     let i = c.self.inside in
     let u = usage_in i.calls i.pools i.limit i.call_limit in
-    let has =
-    subst (λ (l : Lending). IsSome (leg_at l.usage.calls c.args.key.now c.args.endpoint.now))
-    (sym c.self.view_is) c.requires in
-    let call = call_with_leg u.calls c.args.key.now c.args.endpoint.now has in
+    let call = call_left _ _ c.self.view_is c.args.key.now c.args.endpoint.now c.requires in
     let left = on_ok c.leave.result c.unwrap-left.result c.unwrap-left.ensures c.leave.ensures.ok in
-    let freed =
-    sym (if_ok (λ left. left.ended ≡ freed_by_leave u.calls c.args.key.now c.args.endpoint.now)
-    c.leave.result c.unwrap-left.result c.unwrap-left.ensures c.leave.ensures.ended)
-    ∙ c.in_default.is in
+    let freed = freed_as c.leave.result c.unwrap-left.result c.unwrap-left.ensures _ _
+    c.leave.ensures.ended c.in_default.is in
     IsBacked-is (with_usage u _
     (pools_after_end u.pools (freed_by_leave u.calls c.args.key.now c.args.endpoint.now)))
     c.leave.new.self.calls u.pools c.leave.new.self.most
@@ -95,14 +75,8 @@ pub returns-in-Some-clause-usage : goal.returns-in-Some-clause-usage
 returns-in-Some-clause-usage g c =
     let i = c.self.inside in
     let u = usage_in i.calls i.pools i.limit i.call_limit in
-    let has =
-    subst (λ (l : Lending). IsSome (leg_at l.usage.calls c.args.key.now c.args.endpoint.now))
-    (sym c.self.view_is) c.requires in
-    let call = call_with_leg u.calls c.args.key.now c.args.endpoint.now has in
-    let freed =
-    sym (if_ok (λ left. left.ended ≡ freed_by_leave u.calls c.args.key.now c.args.endpoint.now)
-    c.leave.result c.unwrap-left.result c.unwrap-left.ensures c.leave.ensures.ended)
-    ∙ c.in-Some.is in
+    let freed = freed_as c.leave.result c.unwrap-left.result c.unwrap-left.ensures _ _
+    c.leave.ensures.ended c.in-Some.is in
     let pools = ap figures_of c.take_back.ensures.after
     ∙ (figures-return i.pools c.in-Some.pool c.from.result
     ∙ (ap (pools_after_return u.pools c.in-Some.pool) c.from.ensures
