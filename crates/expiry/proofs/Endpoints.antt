@@ -16,9 +16,9 @@ use Rattle.registrations.specs.declared.registration.Registration.{Registration}
 use Rattle.expiry.specs.Due.{IsInCall, IsLiveAnd, is_to_be_asked, is_silent}
 use Rattle.expiry.specs.inside.Searched.{item_of, IsEndpointItem, IsNoEndpointDue}
 use Rattle.expiry.specs.declared.times.Times.{Times}
-use Rattle.expiry.specs.declared.due_item.DueItem.{DueItem}
-use Rattle.expiry.specs.declared.due_item.DueItem.TheVariants.{RegistrationOver, Interrogate}
-use Rattle.expiry.specs.declared.due_item.DueItem.TheVariants.{Silent, Retry, KeptOver, PoolTurn}
+use Rattle.zone_events.specs.declared.due_item.DueItem.{DueItem}
+use Rattle.zone_events.specs.declared.due_item.DueItem.TheVariants.{RegistrationOver, Interrogate}
+use Rattle.zone_events.specs.declared.due_item.DueItem.TheVariants.{Silent, Retry, KeptOver, PoolTurn}
 
 the_live : (test : Registration → Bool) (live : Live) (id : List ℕ) → IsLiveAnd test live id
     → (r : Registration) × (fin.get live id ≡ Some r) × (test r ≡ true)

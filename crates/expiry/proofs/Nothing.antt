@@ -10,9 +10,9 @@ use Rattle.registrations.specs.declared.registration.Registration.{Registration}
 use Rattle.expiry.specs.Due.{IsDue, IsNothingDue, is_deadline_past}
 use Rattle.expiry.specs.inside.Searched.{IsNoEndpointDue}
 use Rattle.expiry.specs.declared.times.Times.{Times}
-use Rattle.expiry.specs.declared.due_item.DueItem.{DueItem}
-use Rattle.expiry.specs.declared.due_item.DueItem.TheVariants.{RegistrationOver, Interrogate}
-use Rattle.expiry.specs.declared.due_item.DueItem.TheVariants.{Silent, Retry, KeptOver, PoolTurn}
+use Rattle.zone_events.specs.declared.due_item.DueItem.{DueItem}
+use Rattle.zone_events.specs.declared.due_item.DueItem.TheVariants.{RegistrationOver, Interrogate}
+use Rattle.zone_events.specs.declared.due_item.DueItem.TheVariants.{Silent, Retry, KeptOver, PoolTurn}
 use Rattle.expiry.proofs.Endpoints.{none_live}
 
 later : (now : ℕ) (r : Registration) → now < r.deadline → is_deadline_past now r ≡ false

@@ -11,9 +11,9 @@ use Rattle.kept_replies.specs.Kept.{KeptReplies, Passes, is_over, is_retry}
 use Rattle.registrations.specs.Registry.{Live}
 use Rattle.registrations.specs.declared.registration.Registration.{Registration}
 use Rattle.expiry.specs.declared.times.Times.{Times}
-use Rattle.expiry.specs.declared.due_item.DueItem.{DueItem}
-use Rattle.expiry.specs.declared.due_item.DueItem.TheVariants.{RegistrationOver, Interrogate}
-use Rattle.expiry.specs.declared.due_item.DueItem.TheVariants.{Silent, Retry, KeptOver, PoolTurn}
+use Rattle.zone_events.specs.declared.due_item.DueItem.{DueItem}
+use Rattle.zone_events.specs.declared.due_item.DueItem.TheVariants.{RegistrationOver, Interrogate}
+use Rattle.zone_events.specs.declared.due_item.DueItem.TheVariants.{Silent, Retry, KeptOver, PoolTurn}
 
 -- the time to live is over
 abbrev pub is_deadline_past : ℕ → Registration → Bool

@@ -4,12 +4,12 @@ ghost use Rattle.std.specs.Prelude.{◌≡◌, ◌+◌, ◌↔◌, nat_le, IsTru
 ghost use Rattle.expiry.specs.Due.{IsDue, IsNothingDue, IsInCall, is_to_be_asked, is_silent};
 ghost use Rattle.expiry.specs.inside.Searched.{item_of, item_in_call, IsNoEndpointDue, IsEndpointItem};
 
-use crate::due_item::DueItem;
 use crate::times::Times;
 use admission::Calls;
 use kept_replies::Kept;
 use ras_module::EndpointId;
 use registrations::{Registration, Registrations};
+use zone_events::DueItem;
 
 /// Something that is due now, where the pools' next turn is at the moment `next_turn`: any of what
 /// is due, and None exactly where nothing is. Moments are in milliseconds. This takes no memory.

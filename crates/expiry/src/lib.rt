@@ -2,10 +2,9 @@
 //! requests that wait, kept replies that are over, and the pools' turn.
 #![tactic(auto)]
 
-mod due_item;
 mod due_search;
 mod times;
 
-pub use due_item::DueItem;
 pub use due_search::due;
 pub use times::Times;
+pub use zone_events::DueItem;

@@ -1,13 +1,13 @@
 -- What follows from a pool's answer about a request is what it comes to.
 use Rattle.std.proofs.Common.{◌≡◌, ◌≤◌, ◌+◌, ℕ, length, Bool, true, false, List, refl, sym, ◌∙◌, ap}
 use Rattle.std.proofs.Common.{subst, Some, None}
-use Rattle.std.specs.Prelude.{Option, All, IfSome, if◌then◌else◌}
+use Rattle.std.specs.Prelude.{Option, All, if◌then◌else◌}
 use Rattle.ras_module.specs.declared.reply.Reply.{Reply}
 use Rattle.ras_module.specs.declared.request.Request.{Request}
 use Rattle.ras_module.specs.declared.reply.Reply.TheVariants.{Rip}
 use Rattle.ras_codec.specs.Replies.{encoding_of}
 use Rattle.kept_replies.specs.declared.key.KeptKey.{KeptKey}
-use Rattle.kept_replies.specs.Kept.{KeptReplies, Passes, is_over}
+use Rattle.kept_replies.specs.Kept.{KeptReplies}
 use Rattle.pools.specs.declared.interface.Lend.{Lend}
 use Rattle.pools.specs.declared.interface.Lend.TheVariants.{Lent, Refused, Wait}
 use Rattle.pools.specs.declared.interface.Figures.{Figures}
@@ -16,36 +16,34 @@ use Rattle.zone_services.specs.declared.change.Question.{Question}
 use Rattle.ras_core.specs.declared.job.Job.{Job}
 use Rattle.ras_core.specs.declared.job.Occasion.{Occasion}
 use Rattle.ras_core.specs.declared.job.Occasion.TheVariants.{First, Again}
-use Rattle.ras_core.specs.declared.outcome.Outcome.{Outcome}
+use Rattle.zone_events.specs.declared.outcome.Outcome.{Outcome}
 use Rattle.ras_core.specs.State.{State, Running}
 use Rattle.zone_services.specs.Zone.{Last}
 use Rattle.zone_services.specs.inside.Parts.{RunningZone}
 use Rattle.zone_services.specs.Plans.{Served, Plan, Asking}
 use Rattle.zone_services.specs.Pools.{figures_at, pools_after_answer, lasts_after}
 use Rattle.zone_services.specs.Requests.{seq_of}
-use Rattle.ras_core.specs.Keeping.{Progress, Task, answered, answered_by, in_progress, kept_as}
-use Rattle.ras_core.specs.Keeping.{plan_at, waits, with_answered_pool}
+use Rattle.ras_core.specs.Keeping.{Progress, Task, answered, answered_by, dropped_for, in_progress}
+use Rattle.ras_core.specs.Keeping.{kept_with, plan_at, state_after, waits, with_answered_pool}
 use Rattle.zone_config.specs.Terms.{term_of}
 use Rattle.ras_core.specs.Machine.{Ending, Serving, ended, note_at, plan_ending}
 use Rattle.zone_services.specs.inside.Decisions.{Asks, ask_of, calls_after_answer, granted_by}
 use Rattle.zone_services.specs.inside.Decisions.{refused_by, reply_of}
-use Rattle.ras_core.specs.inside.Serving.{heard_at, Does, IsJob}
+use Rattle.ras_core.specs.inside.Courses.{heard_at, Does}
 use Rattle.ras_core.specs.Soundness.{AreBornBefore}
 use Rattle.zone_services.specs.Soundness.{HasCounts}
 use Rattle.ras_core.specs.Steps.{IsTimely, MayChoose, ask_in_plan, choices_of}
 use Rattle.zone_services.proofs.PoolFigures.{All-answer}
-use Rattle.ras_core.proofs.Carrying.{timely_of}
-use Rattle.ras_core.proofs.Dropping.{born_with_reply, born_with_request}
+use Rattle.ras_core.proofs.Dropping.{born_kept_with}
 
 module _ (s : State) (lasts : List Last) (now : ℕ) (key : KeptKey) (request : Request)
-    (dropped : Option ℕ) (id : List ℕ) (q : Question) where
+    (id : List ℕ) (q : Question) where
   abbrev pub asking : Plan
   asking = Asking (ask_of q) (granted_by s.zone q) (refused_by s.zone q)
 
   abbrev pub asked_task : Occasion → Task
   asked_task occasion = record {
     job = record { key = key; occasion = occasion };
-    dropped = dropped;
     request = request;
     plan = plan_at occasion now (Some id) asking;
   }
@@ -55,7 +53,7 @@ module _ (s : State) (lasts : List Last) (now : ℕ) (key : KeptKey) (request : 
     answer = Some answer;
     output = Some (record { to = key.source; bytes = encoding_of reply });
     note = note_at occasion;
-    dropped = dropped;
+    dropped = dropped_for occasion;
     given = None;
   }
 
@@ -70,7 +68,8 @@ module _ (s : State) (lasts : List Last) (now : ℕ) (key : KeptKey) (request : 
 
   abbrev pub asked_kept : Occasion → Bool → Reply → KeptReplies
   asked_kept occasion w reply =
-      kept_as s.kept key occasion dropped s.steps request reply w (term_of s.zone.config now)
+      kept_with s.kept key occasion s.steps
+      (state_after request reply w (term_of s.zone.config now))
 
   abbrev pub asked_running : Occasion → Lend → Bool → Reply → Running
   asked_running occasion answer w reply = record {
@@ -102,21 +101,22 @@ module _ (s : State) (lasts : List Last) (now : ℕ) (key : KeptKey) (request : 
       (choices_of (asked_outcome occasion (Lent units)
       (reply_of q (Lent units) false s.zone.config.delay)))
       ≡ asked_answer occasion (Lent units) false (reply_of q (Lent units) false s.zone.config.delay)
-  lent_now First units = refl
+  lent_now (First dropped) units = refl
   lent_now (Again born left) units = refl
 
   refused_now : (occasion : Occasion)
       → plan_ending s now (asked_task occasion) (plan_at occasion now (Some id) asking)
       (choices_of (asked_outcome occasion Refused (reply_of q Refused false s.zone.config.delay)))
       ≡ asked_answer occasion Refused false (reply_of q Refused false s.zone.config.delay)
-  refused_now First = refl
+  refused_now (First dropped) = refl
   refused_now (Again born left) = refl
 
-  waits_at_first : seq_of request ≡ q.seq
-      → plan_ending s now (asked_task First) (plan_at First now (Some id) asking)
-      (choices_of (asked_outcome First Wait (reply_of q Wait true s.zone.config.delay)))
-      ≡ asked_answer First Wait true (reply_of q Wait true s.zone.config.delay)
-  waits_at_first seq = ap (λ n. asked_answer First Wait true (Rip n s.zone.config.delay)) seq
+  waits_at_first : (dropped : Option ℕ) → seq_of request ≡ q.seq
+      → plan_ending s now (asked_task (First dropped)) (plan_at (First dropped) now (Some id) asking)
+      (choices_of (asked_outcome (First dropped) Wait (reply_of q Wait true s.zone.config.delay)))
+      ≡ asked_answer (First dropped) Wait true (reply_of q Wait true s.zone.config.delay)
+  waits_at_first dropped seq =
+      ap (λ n. asked_answer (First dropped) Wait true (Rip n s.zone.config.delay)) seq
 
   waits_again : (born left : ℕ) (w : Bool) → waits (Again born left) Wait ≡ w
       → seq_of request ≡ q.seq
@@ -138,49 +138,40 @@ module _ (s : State) (lasts : List Last) (now : ℕ) (key : KeptKey) (request : 
   asked_by occasion (Lent units) true is seq = absurd (cc is)
   asked_by occasion Refused false is seq = refused_now occasion
   asked_by occasion Refused true is seq = absurd (cc is)
-  asked_by First Wait true is seq = waits_at_first seq
-  asked_by First Wait false is seq = absurd (cc is)
+  asked_by (First dropped) Wait true is seq = waits_at_first dropped seq
+  asked_by (First dropped) Wait false is seq = absurd (cc is)
   asked_by (Again born left) Wait w is seq = waits_again born left w (sym is) seq
 
   may_choose : (occasion : Occasion) (answer : Lend) (reply : Reply)
       → IsAnswer (figures_at s.zone.pools q.pool) q.units answer
       → MayChoose s (plan_at occasion now (Some id) asking)
       (choices_of (asked_outcome occasion answer reply))
-  may_choose First answer reply fits = fits
+  may_choose (First dropped) answer reply fits = fits
   may_choose (Again born left) answer reply fits = fits
 
   ask_is : (occasion : Occasion)
       → ask_in_plan (plan_at occasion now (Some id) asking) ≡ Some (ask_of q)
-  ask_is First = refl
+  ask_is (First dropped) = refl
   ask_is (Again born left) = refl
 
   lasts_are : (occasion : Occasion) (answer : Lend)
       → (asked_zone occasion answer).lasts ≡ lasts_after lasts (Some (ask_of q)) (Some answer)
-  lasts_are First answer = refl
+  lasts_are (First dropped) answer = refl
   lasts_are (Again born left) answer = refl
 
   pools_are : (occasion : Occasion) (answer : Lend)
       → (asked_zone occasion answer).zone.pools ≡ pools_after_answer s.zone.pools q.pool answer
-  pools_are First answer = refl
+  pools_are (First dropped) answer = refl
   pools_are (Again born left) answer = refl
-
-  born : (occasion : Occasion) (w : Bool) (reply : Reply) → AreBornBefore s.steps s.kept
-      → AreBornBefore (s.steps + 1) (asked_kept occasion w reply)
-  born occasion true reply before =
-      born_with_request s.kept s.steps before key occasion dropped request reply
-      (now + s.zone.config.delay) s.zone.config.retries
-  born occasion false reply before =
-      born_with_reply s.kept s.steps before key occasion dropped reply (now + s.zone.config.window)
 
   pub does_asked : (occasion : Occasion) (answer : Lend) (w : Bool)
       (plan : Plan) → Asks s.zone plan q
       → w ≡ waits occasion answer → seq_of request ≡ q.seq
       → IsAnswer (figures_at s.zone.pools q.pool) q.units answer
-      → IsTimely s now dropped occasion → AreBornBefore s.steps s.kept
+      → IsTimely s now occasion → AreBornBefore s.steps s.kept
       → length (encoding_of (reply_of q answer w s.zone.config.delay)) ≤ 20000
       → Does (record { state = s; lasts = lasts }) now (Serving (record {
         job = record { key = key; occasion = occasion };
-        dropped = dropped;
         request = request;
         plan = plan_at occasion now (Some id) plan;
       })) (asked_outcome occasion answer (reply_of q answer w s.zone.config.delay))
@@ -189,7 +180,6 @@ module _ (s : State) (lasts : List Last) (now : ℕ) (key : KeptKey) (request : 
       let reply = reply_of q answer w s.zone.config.delay in
       subst (λ (p : Plan). Does (record { state = s; lasts = lasts }) now (Serving (record {
         job = record { key = key; occasion = occasion };
-        dropped = dropped;
         request = request;
         plan = plan_at occasion now (Some id) p;
       })) (asked_outcome occasion answer reply) (asked_running occasion answer w reply))
@@ -201,19 +191,18 @@ module _ (s : State) (lasts : List Last) (now : ℕ) (key : KeptKey) (request : 
         counts = λ most h. subst (λ (pools : List Figures). All (HasCounts (most + 1)) pools)
             (sym (pools_are occasion answer))
             (All-answer most s.zone.pools q.pool answer h (asks.may).pool);
-        births = λ h. born occasion w reply before;
+        births = λ h. born_kept_with s.kept s.steps before key occasion
+            (state_after request reply w (term_of s.zone.config now));
         few = few;
       })
 
 -- the same, of what the code has
 pub does_answered : (old : Running) (now : ℕ) (job : Job) (id : List ℕ)
-    (request : Request) (q : Question)
-    (dropped : Option ℕ) (answer : Lend) (w : Bool) (reply : Reply)
+    (request : Request) (q : Question) (answer : Lend) (w : Bool) (reply : Reply)
     (services : RunningZone) (kept : KeptReplies)
     → w ≡ waits job.occasion answer → seq_of request ≡ q.seq
     → IsAnswer (figures_at old.state.zone.pools q.pool) q.units answer
-    → IsJob old.state now job → AreBornBefore old.state.steps old.state.kept
-    → IfSome dropped (Passes (is_over now) old.state.kept)
+    → IsTimely old.state now job.occasion → AreBornBefore old.state.steps old.state.kept
     → reply ≡ reply_of q answer w old.state.zone.config.delay → length (encoding_of reply) ≤ 20000
     → services ≡ heard_at (record {
       zone = record old.state.zone {
@@ -222,57 +211,53 @@ pub does_answered : (old : Running) (now : ℕ) (job : Job) (id : List ℕ)
       };
       lasts = lasts_after old.lasts (Some (ask_of q)) (Some answer);
     }) job.occasion now (Some id)
-    → kept ≡ kept_as old.state.kept job.key job.occasion dropped old.state.steps request reply w
-    (term_of old.state.zone.config now)
+    → kept ≡ kept_with old.state.kept job.key job.occasion old.state.steps
+    (state_after request reply w (term_of old.state.zone.config now))
     → (plan : Plan) → Asks old.state.zone plan q
     → Does old now (Serving (record {
       job = job;
-      dropped = dropped;
       request = request;
       plan = plan_at job.occasion now (Some id) plan;
     })) (record {
       answer = Some answer;
       output = Some (record { to = job.key.source; bytes = encoding_of reply });
       note = note_at job.occasion;
-      dropped = dropped;
+      dropped = dropped_for job.occasion;
       given = None;
     }) (record {
       state = record old.state { zone = services.zone; kept = kept };
       lasts = services.lasts;
     })
-does_answered old now job id request q dropped answer w reply services kept w_is seq fits may before
-    over reply_is few services_is kept_is plan asks =
+does_answered old now job id request q answer w reply services kept w_is seq fits timely before
+    reply_is few services_is kept_is plan asks =
     let s = old.state in
-    let due = asked_running s old.lasts now job.key request dropped id q job.occasion answer w in
+    let due = asked_running s old.lasts now job.key request id q job.occasion answer w in
     let told = reply_of q answer w s.zone.config.delay in
-    let does = does_asked s old.lasts now job.key request dropped id q job.occasion answer
-    w plan asks w_is seq fits
-    (timely_of s now job.key job.occasion dropped may over) before
+    let does = does_asked s old.lasts now job.key request id q job.occasion answer
+    w plan asks w_is seq fits timely before
     (subst (λ (r : Reply). length (encoding_of r) ≤ 20000) reply_is few) in
     let course = Serving (record {
       job = job;
-      dropped = dropped;
       request = request;
       plan = plan_at job.occasion now (Some id) plan;
     }) in
-    let kept_so = kept_is ∙ ap (λ (r : Reply). kept_as s.kept job.key job.occasion dropped s.steps
-    request r w (term_of s.zone.config now)) reply_is in
+    let kept_so = kept_is ∙ ap (λ (r : Reply). kept_with s.kept job.key job.occasion s.steps
+    (state_after request r w (term_of s.zone.config now))) reply_is in
     subst (λ (r : Reply). Does old now course
-    (asked_outcome s old.lasts now job.key request dropped id q job.occasion answer r) (record {
+    (asked_outcome s old.lasts now job.key request id q job.occasion answer r) (record {
       state = record s { zone = services.zone; kept = kept };
       lasts = services.lasts;
     })) (sym reply_is)
     (subst (λ (z : RunningZone). Does old now course (asked_outcome s old.lasts now job.key request
-    dropped id q job.occasion answer told) (record {
+    id q job.occasion answer told) (record {
       state = record s { zone = z.zone; kept = kept };
       lasts = z.lasts;
     })) (sym services_is)
     (subst (λ (k : KeptReplies). Does old now course (asked_outcome s old.lasts now job.key request
-    dropped id q job.occasion answer told) (record {
+    id q job.occasion answer told) (record {
       state = record s {
-        zone = (asked_zone s old.lasts now job.key request dropped id q
-            job.occasion answer).zone;
+        zone = (asked_zone s old.lasts now job.key request id q job.occasion answer).zone;
         kept = k;
       };
-      lasts = (asked_zone s old.lasts now job.key request dropped id q job.occasion answer).lasts;
+      lasts = (asked_zone s old.lasts now job.key request id q job.occasion answer).lasts;
     })) (sym kept_so) does))

@@ -2,68 +2,46 @@
 -- what it comes to.
 use Rattle.std.proofs.Common.{◌≡◌, ◌≤◌, ◌+◌, ℕ, length, List, refl, sym, ◌∙◌, ap, subst, Some, None}
 use Rattle.std.specs.Prelude.{Option, IfSome}
-use Rattle.std.specs.Option.{IsSomeAnd}
-use Rattle.std.specs.FinMap as fin
 use Rattle.keyed.proofs.Decide.{same_some}
 use Rattle.ras_module.specs.declared.reply.Reply.{Reply}
 use Rattle.ras_module.specs.declared.request.Request.{Request}
 use Rattle.ras_codec.specs.Replies.{encoding_of}
 use Rattle.kept_replies.specs.declared.key.KeptKey.{KeptKey}
-use Rattle.kept_replies.specs.Kept.{KeptReplies, KeptTable, NonePasses, Passes, is_over, left_in}
+use Rattle.kept_replies.specs.Kept.{KeptReplies}
+use Rattle.kept_replies.specs.declared.entry.KeptState.TheVariants.{Done}
 use Rattle.zone_services.specs.declared.change.Change.{Change}
 use Rattle.zone_services.specs.declared.change.Decision.{Decision}
 use Rattle.ras_core.specs.declared.job.Job.{Job}
 use Rattle.ras_core.specs.declared.job.Occasion.{Occasion}
 use Rattle.ras_core.specs.declared.job.Occasion.TheVariants.{First, Again}
-use Rattle.ras_core.specs.declared.outcome.Outcome.{Outcome}
+use Rattle.zone_events.specs.declared.outcome.Outcome.{Outcome}
 use Rattle.zone_services.specs.Zone.{Zone, Last}
 use Rattle.ras_core.specs.State.{State, Running}
 use Rattle.zone_services.specs.inside.Parts.{RunningZone}
 use Rattle.zone_services.specs.Plans.{Served, Plan, Settled, Naming, Asking, with_heard}
-use Rattle.ras_core.specs.Keeping.{Task, answered, plan_at, with_reply}
+use Rattle.ras_core.specs.Keeping.{Task, answered, dropped_for, kept_with, plan_at}
 use Rattle.ras_core.specs.Machine.{Serving, ended, note_at, plan_ending}
 use Rattle.pools.specs.declared.interface.Figures.{Figures}
-use Rattle.zone_services.specs.inside.Decisions.{Decides, resolved}
+use Rattle.zone_services.specs.inside.Decisions.{served}
 use Rattle.zone_services.specs.inside.Changes.{after_change, changed}
-use Rattle.ras_core.specs.inside.Serving.{heard_at, Does, IsJob, IsOccasion}
-use Rattle.ras_core.specs.inside.Room.{IsPlaced}
+use Rattle.ras_core.specs.inside.Courses.{heard_at, resolved, Does}
 use Rattle.ras_core.specs.Soundness.{AreBornBefore}
 use Rattle.zone_services.specs.Soundness.{CountsOneMore}
 use Rattle.ras_core.specs.Steps.{IsUnusedIn, IsTimely, MayChoose, ask_in_plan, choices_of}
 use Rattle.zone_services.specs.Pools.{lasts_after}
 use Rattle.zone_services.proofs.ButLent.{counts_same, same_after_change}
-use Rattle.ras_core.proofs.Dropping.{born_with_reply}
+use Rattle.ras_core.proofs.Dropping.{born_kept_with}
 
 -- the zone after a change, in which the endpoint was heard
 abbrev pub zone_after : Zone → List Last → ℕ → Occasion → Option (List ℕ) → Change → RunningZone
 zone_after z lasts now occasion endpoint change =
     heard_at (changed (record { zone = z; lasts = lasts }) now change) occasion now endpoint
 
--- the time at which a request is served
-pub timely_of : (s : State) (now : ℕ) (key : KeptKey) (occasion : Occasion) (dropped : Option ℕ)
-    → IsOccasion s now key occasion → IfSome dropped (Passes (is_over now) s.kept)
-    → IsTimely s now dropped occasion
-timely_of s now key First dropped may over = over
-timely_of s now key (Again born left) dropped may over = may.due
-
--- and where its entry finds a place
-pub placed_of : (s : State) (t : KeptTable) (now : ℕ) (key : KeptKey) (occasion : Occasion)
-    → t.kept ≡ s.kept → t.most ≡ s.zone.config.kept → IsOccasion s now key occasion
-    → IsPlaced t now key occasion
-placed_of s t now key First kept most may = λ absent busy.
-    may.place (ap (λ k. fin.get k key) (sym kept)
-    ∙ absent) (ap fin.len (sym kept) ∙ (busy.full ∙ most))
-    (subst (NonePasses (is_over now)) kept busy.none_over)
-placed_of s t now key (Again born left) kept most may =
-    subst (λ k. IsSomeAnd (fin.get k key)
-    (λ entry. left_in entry.state ≡ left)) (sym kept) may.there
-
 module _ (s : State) (lasts : List Last) (now : ℕ) (key : KeptKey) (request : Request)
-    (dropped : Option ℕ) (reply : Reply) (change : Change) where
+    (reply : Reply) (change : Change) where
   abbrev pub task_by : Occasion → Plan → Task
   task_by occasion plan = record {
     job = record { key = key; occasion = occasion };
-    dropped = dropped;
     request = request;
     plan = plan;
   }
@@ -73,14 +51,14 @@ module _ (s : State) (lasts : List Last) (now : ℕ) (key : KeptKey) (request : 
     answer = None;
     output = Some (record { to = key.source; bytes = encoding_of reply });
     note = note_at occasion;
-    dropped = dropped;
+    dropped = dropped_for occasion;
     given = given;
   }
 
   abbrev pub state_by : Occasion → Option (List ℕ) → State
   state_by occasion endpoint = record s {
     zone = (zone_after s.zone lasts now occasion endpoint change).zone;
-    kept = with_reply s.kept key occasion dropped s.steps reply (now + s.zone.config.window);
+    kept = kept_with s.kept key occasion s.steps (Done reply (now + s.zone.config.window));
   }
 
   abbrev pub served_by : Served
@@ -92,16 +70,16 @@ module _ (s : State) (lasts : List Last) (now : ℕ) (key : KeptKey) (request : 
       → plan_ending s now (task_by occasion (plan_at occasion now endpoint plan))
       (plan_at occasion now endpoint plan) (choices_of (outcome_by occasion given))
       ≡ Some (outcome_by occasion given, state_by occasion endpoint)
-  answer_by First None (Settled served) None is =
-      subst (λ (v : Served). plan_ending s now (task_by First (plan_at First now None (Settled v)))
-      (plan_at First now None (Settled v)) (choices_of (outcome_by First None))
-      ≡ Some (outcome_by First None, state_by First None))
+  answer_by (First dropped) None (Settled served) None is =
+      subst (λ (v : Served). plan_ending s now (task_by (First dropped) (plan_at (First dropped) now None (Settled v)))
+      (plan_at (First dropped) now None (Settled v)) (choices_of (outcome_by (First dropped) None))
+      ≡ Some (outcome_by (First dropped) None, state_by (First dropped) None))
       (sym (same_some served served_by is)) refl
-  answer_by First (Some id) (Settled served) None is =
+  answer_by (First dropped) (Some id) (Settled served) None is =
       subst (λ (v : Served). plan_ending s now
-      (task_by First (plan_at First now (Some id) (Settled v)))
-      (plan_at First now (Some id) (Settled v)) (choices_of (outcome_by First None))
-      ≡ Some (outcome_by First None, state_by First (Some id)))
+      (task_by (First dropped) (plan_at (First dropped) now (Some id) (Settled v)))
+      (plan_at (First dropped) now (Some id) (Settled v)) (choices_of (outcome_by (First dropped) None))
+      ≡ Some (outcome_by (First dropped) None, state_by (First dropped) (Some id)))
       (sym (same_some served served_by is)) refl
   answer_by (Again born left) endpoint (Settled served) None is =
       subst (λ (v : Served). plan_ending s now (task_by (Again born left) (Settled v)) (Settled v)
@@ -110,13 +88,13 @@ module _ (s : State) (lasts : List Last) (now : ℕ) (key : KeptKey) (request : 
       (sym (same_some served served_by is)) refl
   answer_by occasion endpoint (Settled served) (Some id) is = absurd (cc is)
   answer_by occasion endpoint (Naming named) None is = absurd (cc is)
-  answer_by First None (Naming named) (Some id) is =
+  answer_by (First dropped) None (Naming named) (Some id) is =
       ap (λ (v : Served). ended s now
-      (task_by First (plan_at First now None (Naming named))) (Some id) None
+      (task_by (First dropped) (plan_at (First dropped) now None (Naming named))) (Some id) None
       (answered v)) (same_some (named id) served_by is)
-  answer_by First (Some endpoint) (Naming named) (Some id) is =
+  answer_by (First dropped) (Some endpoint) (Naming named) (Some id) is =
       ap (λ (v : Served). ended s now
-      (task_by First (plan_at First now (Some endpoint) (Naming named))) (Some id) None
+      (task_by (First dropped) (plan_at (First dropped) now (Some endpoint) (Naming named))) (Some id) None
       (answered (with_heard now (Some endpoint) v))) (same_some (named id) served_by is)
   answer_by (Again born left) endpoint (Naming named) (Some id) is =
       ap (λ (v : Served). ended s now (task_by (Again born left) (Naming named)) (Some id) None
@@ -127,9 +105,9 @@ module _ (s : State) (lasts : List Last) (now : ℕ) (key : KeptKey) (request : 
       (given : Option (List ℕ))
       → resolved plan given ≡ Some served_by → IfSome given (IsUnusedIn s)
       → MayChoose s (plan_at occasion now endpoint plan) (choices_of (outcome_by occasion given))
-  may_choose First endpoint (Settled served) given is unused = tt
+  may_choose (First dropped) endpoint (Settled served) given is unused = tt
   may_choose (Again born left) endpoint (Settled served) given is unused = tt
-  may_choose First endpoint (Naming named) given is unused = unused
+  may_choose (First dropped) endpoint (Naming named) given is unused = unused
   may_choose (Again born left) endpoint (Naming named) given is unused = unused
   may_choose occasion endpoint (Asking ask lent refused) given is unused = absurd (cc is)
 
@@ -137,23 +115,23 @@ module _ (s : State) (lasts : List Last) (now : ℕ) (key : KeptKey) (request : 
       (given : Option (List ℕ))
       → resolved plan given ≡ Some served_by
       → ask_in_plan (plan_at occasion now endpoint plan) ≡ None
-  nothing_asked First endpoint (Settled served) given is = refl
+  nothing_asked (First dropped) endpoint (Settled served) given is = refl
   nothing_asked (Again born left) endpoint (Settled served) given is = refl
-  nothing_asked First endpoint (Naming named) given is = refl
+  nothing_asked (First dropped) endpoint (Naming named) given is = refl
   nothing_asked (Again born left) endpoint (Naming named) given is = refl
   nothing_asked occasion endpoint (Asking ask lent refused) given is = absurd (cc is)
 
   lasts_stay : (occasion : Occasion) (endpoint : Option (List ℕ))
       → (zone_after s.zone lasts now occasion endpoint change).lasts ≡ lasts
-  lasts_stay First None = refl
-  lasts_stay First (Some id) = refl
+  lasts_stay (First dropped) None = refl
+  lasts_stay (First dropped) (Some id) = refl
   lasts_stay (Again born left) endpoint = refl
 
   pools_are : (occasion : Occasion) (endpoint : Option (List ℕ))
       → (zone_after s.zone lasts now occasion endpoint change).zone.pools
       ≡ (after_change now change s.zone).pools
-  pools_are First None = refl
-  pools_are First (Some id) = refl
+  pools_are (First dropped) None = refl
+  pools_are (First dropped) (Some id) = refl
   pools_are (Again born left) endpoint = refl
 
   abbrev pub running_by : Occasion → Option (List ℕ) → Running
@@ -165,7 +143,7 @@ module _ (s : State) (lasts : List Last) (now : ℕ) (key : KeptKey) (request : 
   pub does_by : (occasion : Occasion) (endpoint : Option (List ℕ)) (plan : Plan)
       (given : Option (List ℕ))
       → resolved plan given ≡ Some served_by → IfSome given (IsUnusedIn s)
-      → IsTimely s now dropped occasion
+      → IsTimely s now occasion
       → AreBornBefore s.steps s.kept → length (encoding_of reply) ≤ 20000
       → Does (record { state = s; lasts = lasts }) now
       (Serving (task_by occasion (plan_at occasion now endpoint plan)))
@@ -180,59 +158,53 @@ module _ (s : State) (lasts : List Last) (now : ℕ) (key : KeptKey) (request : 
         (sym (pools_are occasion endpoint))
         (counts_same s.zone.pools (after_change now change s.zone).pools
         (same_after_change now change s.zone));
-    births = λ h. born_with_reply s.kept s.steps before key occasion dropped reply
-        (now + s.zone.config.window);
+    births = λ h. born_kept_with s.kept s.steps before key occasion
+        (Done reply (now + s.zone.config.window));
     few = few;
   }
 
 -- The same, of what the code has.
 pub does_carried : (old : Running) (now : ℕ) (job : Job) (endpoint : Option (List ℕ)) (d : Decision)
-    (dropped : Option ℕ) (services : RunningZone) (kept : KeptReplies)
-    → IfSome d.given (IsUnusedIn old.state) → IsJob old.state now job
-    → AreBornBefore old.state.steps old.state.kept
-    → IfSome dropped (Passes (is_over now) old.state.kept) → length (encoding_of d.reply) ≤ 20000
+    (given : Option (List ℕ)) (services : RunningZone) (kept : KeptReplies)
+    → IfSome given (IsUnusedIn old.state) → IsTimely old.state now job.occasion
+    → AreBornBefore old.state.steps old.state.kept → length (encoding_of d.reply) ≤ 20000
     → services ≡ zone_after old.state.zone old.lasts now job.occasion endpoint d.change
-    → kept ≡ with_reply old.state.kept job.key job.occasion dropped old.state.steps d.reply
-    (now + old.state.zone.config.window)
-    → (plan : Plan) (request : Request) → Decides old.state.zone now plan d
+    → kept ≡ kept_with old.state.kept job.key job.occasion old.state.steps
+    (Done d.reply (now + old.state.zone.config.window))
+    → (plan : Plan) (request : Request) → resolved plan given ≡ Some (served old.state.zone now d)
     → Does old now (Serving (record {
       job = job;
-      dropped = dropped;
       request = request;
       plan = plan_at job.occasion now endpoint plan;
     })) (record {
       answer = None;
       output = Some (record { to = job.key.source; bytes = encoding_of d.reply });
       note = note_at job.occasion;
-      dropped = dropped;
-      given = d.given;
+      dropped = dropped_for job.occasion;
+      given = given;
     }) (record {
       state = record old.state { zone = services.zone; kept = kept };
       lasts = services.lasts;
     })
-does_carried old now job endpoint d dropped services kept unused may before over few services_is
-    kept_is plan request decides =
+does_carried old now job endpoint d given services kept unused timely before few services_is kept_is
+    plan request is =
     let s = old.state in
     let course = Serving (record {
       job = job;
-      dropped = dropped;
       request = request;
       plan = plan_at job.occasion now endpoint plan;
     }) in
-    let outcome =
-    outcome_by s old.lasts now job.key request dropped d.reply d.change job.occasion d.given in
+    let outcome = outcome_by s old.lasts now job.key request d.reply d.change job.occasion given in
     subst (λ (z : RunningZone). Does old now course outcome (record {
       state = record s { zone = z.zone; kept = kept };
       lasts = z.lasts;
     })) (sym services_is)
     (subst (λ (k : KeptReplies). Does old now course outcome (record {
       state = record s {
-        zone = (zone_after s.zone old.lasts now job.occasion endpoint
-            d.change).zone;
+        zone = (zone_after s.zone old.lasts now job.occasion endpoint d.change).zone;
         kept = k;
       };
       lasts = (zone_after s.zone old.lasts now job.occasion endpoint d.change).lasts;
     })) (sym kept_is)
-    (does_by s old.lasts now job.key request dropped d.reply d.change
-    job.occasion endpoint plan d.given
-    decides.is unused (timely_of s now job.key job.occasion dropped may over) before few))
+    (does_by s old.lasts now job.key request d.reply d.change
+    job.occasion endpoint plan given is unused timely before few))

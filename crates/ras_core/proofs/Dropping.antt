@@ -1,26 +1,28 @@
 -- What the kept replies are after one was dropped, and after one was added.
 use Rattle.std.proofs.Common.{Bor, ◌≡◌, ◌<◌, ◌+◌, ℕ, Bool, true, false, refl, sym, ◌∙◌, ap, subst}
 use Rattle.std.proofs.Common.{Some, None, arith}
-use Rattle.std.specs.Prelude.{Option, IfSome, is_some}
+use Rattle.std.specs.Prelude.{Option, IfSome, IsTrue, is_some}
 use Rattle.std.specs.Option.{IsSomeAnd, option_copied, option_map}
 use Rattle.std.specs.FinMap as fin
 use Rattle.keyed.specs.Maps.{update}
 use Rattle.keyed.proofs.Decide.{same_some, some_none}
 use Rattle.kept_replies.specs.Keys.{key_cmp}
 use Rattle.keyed.proofs.Maps.{by_key, Changed-insert, Changed-remove, Changed-update, len_less}
-use Rattle.ras_module.specs.declared.reply.Reply.{Reply}
-use Rattle.ras_module.specs.declared.request.Request.{Request}
 use Rattle.kept_replies.specs.declared.key.KeptKey.{KeptKey}
 use Rattle.kept_replies.specs.declared.entry.KeptEntry.{KeptEntry}
+use Rattle.kept_replies.specs.declared.entry.KeptState.{KeptState}
+use Rattle.kept_replies.specs.declared.entry.KeptState.TheVariants.{Done, Pending}
 use Rattle.kept_replies.specs.Kept.{KeptReplies, AreBornApart, IsFreeBirth, KeptTable}
 use Rattle.kept_replies.specs.Kept.{Becomes, NonePasses, Passes, births, without, without_birth}
-use Rattle.kept_replies.specs.Kept.{done, pending, finished, postponed, is_over}
+use Rattle.kept_replies.specs.Kept.{is_over, left_in}
 use Rattle.kept_replies.proofs.Births.{births-has}
 use Rattle.kept_replies.proofs.KeyOrder.{key_cmp_total, key_cmp-IsAntisymmetric}
 use Rattle.ras_core.specs.declared.job.Occasion.{Occasion}
 use Rattle.ras_core.specs.declared.job.Occasion.TheVariants.{First, Again}
-use Rattle.ras_core.specs.inside.Room.{HasPlaceIn}
-use Rattle.ras_core.specs.Keeping.{after_drop, with_reply, with_request}
+use Rattle.ras_core.specs.inside.Room.{FitsIn, HasPlaceIn, IsPlaced}
+use Rattle.ras_core.specs.State.{State}
+use Rattle.ras_core.specs.Steps.{IsTimely}
+use Rattle.ras_core.specs.Keeping.{after_drop, dropped_for, kept_with, served_again}
 use Rattle.ras_core.specs.Soundness.{AreBornBefore}
 
 get_without : (kept : KeptReplies)
@@ -103,22 +105,14 @@ module _ (kept : KeptReplies) (steps : ℕ) (before : AreBornBefore steps kept) 
   pub born_same : AreBornBefore (steps + 1) kept
   born_same = born_later
 
-  pub born_with_reply : (key : KeptKey) (occasion : Occasion) (dropped : Option ℕ)
-      (reply : Reply) (until : ℕ)
-      → AreBornBefore (steps + 1) (with_reply kept key occasion dropped steps reply until)
-  born_with_reply key First dropped reply until =
-      born_inserted dropped key (done steps reply until) refl
-  born_with_reply key (Again first left) dropped reply until =
-      born_updated key (finished reply until) (λ e. refl)
-
-  pub born_with_request : (key : KeptKey) (occasion : Occasion) (dropped : Option ℕ)
-      (request : Request) (reply : Reply) (retry times : ℕ)
-      → AreBornBefore (steps + 1)
-      (with_request kept key occasion dropped steps request reply retry times)
-  born_with_request key First dropped request reply retry times =
-      born_inserted dropped key (pending steps request reply retry times) refl
-  born_with_request key (Again first left) dropped request reply retry times =
-      born_updated key (postponed retry) (λ e. refl)
+  pub born_kept_with : (key : KeptKey) (occasion : Occasion) (state : KeptState)
+      → AreBornBefore (steps + 1) (kept_with kept key occasion steps state)
+  born_kept_with key (First dropped) state =
+      born_inserted dropped key (record { born = steps; state = state }) refl
+  born_kept_with key (Again first left) (Done reply until) =
+      born_updated key (served_again (Done reply until)) (λ e. refl)
+  born_kept_with key (Again first left) (Pending request reply retry more) =
+      born_updated key (served_again (Pending request reply retry more)) (λ e. refl)
 
 -- a look-up that finds nothing
 pub not_found : {A : Type 0} {v : Option A} (w : Option (Bor A)) → option_copied w ≡ v
@@ -126,23 +120,42 @@ pub not_found : {A : Type 0} {v : Option A} (w : Option (Bor A)) → option_copi
 not_found None is none = sym is
 not_found (Some x) is none = absurd (cc none)
 
--- where there is no place, one becomes free
-pub has_place : (t new : KeptTable) (now : ℕ) (key : KeptKey)
-    (dropped : Option ℕ) → AreBornApart t.kept
-    → fin.len t.kept ≡ t.most → fin.get t.kept key ≡ None → HasPlaceIn t now key
-    → IfSome dropped (Passes (is_over now) t.kept)
-    → IfSome dropped (λ born. Becomes t new (without_birth t.kept born))
-    → (dropped ≡ None → NonePasses (is_over now) t.kept) → fin.len new.kept < new.most
-has_place t new now key None apart full absent place over becomes none =
-    absurd (place absent (record { full = full; none_over = none refl }))
-has_place t new now key (Some born) apart full absent place over becomes none =
-    omega (
-      arith,
-      ap fin.len becomes.rows,
-      becomes.most,
-      full,
-      fewer t.kept apart (is_over now) born over,
-    )
+-- where there is no place, one becomes free once an entry that is over is dropped
+pub fits_of : (t : KeptTable) (now : ℕ) (key : KeptKey) (born : ℕ) → AreBornApart t.kept
+    → fin.len t.kept ≡ t.most → fin.get t.kept key ≡ None
+    → Passes (is_over now) t.kept born → FitsIn t key (Some born)
+fits_of t now key born apart full absent over = (
+  absent,
+  omega (arith, full, fewer t.kept apart (is_over now) born over),
+)
+
+-- and where one that is over is dropped, there is a place
+pub place_of : (t : KeptTable) (now : ℕ) (key : KeptKey) (dropped : Option ℕ) → AreBornApart t.kept
+    → FitsIn t key dropped → IfSome dropped (Passes (is_over now) t.kept) → HasPlaceIn t now key
+place_of t now key None apart fits over absent busy = omega (arith, fits absent, busy.full)
+place_of t now key (Some born) apart fits over absent busy =
+    none_passes (fin.get (births t.kept) born) refl over where
+      none_passes : (w : Option (KeptKey × KeptEntry)) → fin.get (births t.kept) born ≡ w
+          → IsSomeAnd w (λ row. IsTrue (is_over now row.1)) → ⊥
+      none_passes None is h = h
+      none_passes (Some row) is h =
+          let there = births-has t.kept apart born row is in
+          absurd (cc (sym h ∙ busy.none_over row.0 row.1 there.0))
+
+-- a request that finds a place is not turned away
+pub placed_in : (t : KeptTable) (now : ℕ) (key : KeptKey) (occasion : Occasion)
+    → AreBornApart t.kept → IsPlaced t key occasion
+    → IfSome (dropped_for occasion) (Passes (is_over now) t.kept) → HasPlaceIn t now key
+placed_in t now key (First dropped) apart fits over absent busy =
+    place_of t now key dropped apart fits over absent busy
+placed_in t now key (Again born left) apart there over absent busy =
+    subst (λ (w : Option KeptEntry). IsSomeAnd w (λ entry. left_in entry.state ≡ left)) absent there
+
+-- the entry that is dropped for it is over
+pub over_of : (s : State) (now : ℕ) (occasion : Occasion) → IsTimely s now occasion
+    → IfSome (dropped_for occasion) (Passes (is_over now) s.kept)
+over_of s now (First dropped) timely = timely
+over_of s now (Again born left) timely = tt
 
 -- nothing that is kept was born
 pub born_nothing : (steps : ℕ) → AreBornBefore steps fin.empty

@@ -12,20 +12,21 @@ use Rattle.ras_codec.specs.Replies.{encoding_of}
 use Rattle.kept_replies.specs.declared.key.KeptKey.{KeptKey}
 use Rattle.kept_replies.specs.declared.entry.KeptEntry.{KeptEntry}
 use Rattle.kept_replies.specs.Kept.{reply_in}
-use Rattle.ras_core.specs.declared.event.Event.{Event}
-use Rattle.ras_core.specs.declared.event.Event.TheVariants as event
-use Rattle.ras_core.specs.declared.outcome.IgnoredCause.TheVariants.{TooLong}
-use Rattle.ras_core.specs.declared.outcome.Note.{Note}
-use Rattle.ras_core.specs.declared.outcome.Note.TheVariants as note
-use Rattle.ras_core.specs.declared.outcome.Outcome.{Outcome}
+use Rattle.zone_events.specs.declared.event.Event.{Event}
+use Rattle.zone_events.specs.declared.event.Event.TheVariants as event
+use Rattle.ras_core.specs.declared.prepared.Message.TheVariants.{TooLong}
+use Rattle.ras_core.specs.Prepared.{message_by}
+use Rattle.zone_events.specs.declared.outcome.Note.{Note}
+use Rattle.zone_events.specs.declared.outcome.Note.TheVariants as note
+use Rattle.zone_events.specs.declared.outcome.Outcome.{Outcome}
 use Rattle.ras_core.specs.State.{State, Running}
 use Rattle.zone_services.specs.Plans.{Plan}
 use Rattle.zone_services.specs.Requests.{plan_of, HasReply}
 use Rattle.ras_core.specs.Keeping.{is_repeat}
 use Rattle.ras_core.specs.Turns.{IsNothingDueIn}
-use Rattle.ras_core.specs.Machine.{Ending, Course, Ignoring, Repeating, at_moment, course}
+use Rattle.ras_core.specs.Machine.{Ending, Course, Repeating, at_moment, course}
 use Rattle.ras_core.specs.Machine.{course_ending, datagram_course, first, keyed_course, most_steps}
-use Rattle.ras_core.specs.Machine.{planned_course, read_course, serving, turn_course}
+use Rattle.ras_core.specs.Machine.{message_course, planned_course, serving, turn_course}
 use Rattle.ras_core.specs.Steps.{EachState, IsAllowed, IsWithinLimit, RunningRun, Step, choices_of}
 use Rattle.ras_core.specs.Steps.{item_of}
 use Rattle.ras_core.proofs.Retrying.{plan_there}
@@ -53,19 +54,16 @@ module _ (s : State) (source : Address) (bytes : List ℕ) (now : ℕ)
   plan = plan_there s.zone now request served
 
   course_is : datagram_course s now (record { source = source; bytes = bytes }) dropped
-      ≡ Repeating source (reply_in entry.state)
+      ≡ Repeating (record { to = source; bytes = encoding_of (reply_in entry.state) })
   course_is =
-      ap (λ b. if b then Ignoring TooLong else read_course s now
-      (record { source = source; bytes = bytes }) dropped (message_reading bytes))
-      (not_above (length bytes) 4096 few)
-      ∙ (ap (read_course s now (record { source = source; bytes = bytes }) dropped) read
-      ∙ (ap (planned_course s now
-      (record { source = source; bytes = bytes }) request dropped) plan.1
-      ∙ (ap (keyed_course s now
-      (record { source = source; bytes = bytes }) request plan.0 dropped) there
-      ∙ ap (λ b. if b then Repeating source (reply_in entry.state)
-      else serving (first (record { source = source; bytes = bytes })) None now request plan.0)
-      repeat)))
+      ap (message_course s now (record { source = source; bytes = bytes }) dropped)
+      (ap (λ b. if b then TooLong else message_by (message_reading bytes))
+      (not_above (length bytes) 4096 few) ∙ ap message_by read)
+      ∙ (ap (planned_course s now (record { source = source; bytes = bytes }) request dropped) plan.1
+      ∙ (ap (keyed_course s now (record { source = source; bytes = bytes }) request plan.0 dropped) there
+      ∙ ap (λ b. if b
+      then Repeating (record { to = source; bytes = encoding_of (reply_in entry.state) })
+      else serving (first (record { source = source; bytes = bytes }) None) now request plan.0) repeat))
 
 pub repeated : (s : State) (source : Address) (bytes : List ℕ) (moment : ℕ)
     (request : Request) (entry : KeptEntry)

@@ -6,35 +6,26 @@ use Rattle.std.specs.Option.{IsSomeAnd, option_copied}
 use Rattle.std.proofs.lemmas.Bool.Decides.{nat_tests}
 use Rattle.std.specs.FinMap as fin
 use Rattle.registrations.specs.declared.registration.Registration.{Registration}
-use Rattle.expiry.specs.declared.due_item.DueItem.{DueItem}
+use Rattle.zone_events.specs.declared.due_item.DueItem.{DueItem}
 use Rattle.expiry.specs.declared.times.Times.{Times}
 use Rattle.expiry.specs.Due.{is_to_be_asked}
-use Rattle.ras_core.specs.declared.job.Occasion.TheVariants.{First}
-use Rattle.ras_core.specs.declared.outcome.Datagram.{Datagram}
-use Rattle.ras_core.specs.declared.outcome.IgnoredCause.TheVariants.{UnknownEndpoint}
-use Rattle.ras_core.specs.declared.outcome.Note.{Note}
-use Rattle.ras_core.specs.declared.outcome.Note.TheVariants as note
-use Rattle.ras_core.specs.declared.outcome.Outcome.{Outcome}
+use Rattle.zone_events.specs.declared.outcome.Datagram.{Datagram}
+use Rattle.zone_events.specs.declared.outcome.Note.{Note}
+use Rattle.zone_events.specs.declared.outcome.Note.TheVariants as note
+use Rattle.zone_events.specs.declared.outcome.Outcome.{Outcome}
+use Rattle.zone_events.specs.Events.{noted_outcome}
 use Rattle.ras_core.specs.State.{Running}
 use Rattle.zone_services.specs.inside.Parts.{RunningZone}
 use Rattle.ras_core.specs.Turns.{IsDueIn, effect}
-use Rattle.ras_core.specs.Machine.{Hearing, Doing, Ignoring, response_course}
-use Rattle.ras_core.specs.inside.Serving.{heard_at, Does}
+use Rattle.ras_core.specs.Machine.{Course, Hearing, Doing, course_ending}
+use Rattle.zone_services.specs.Pools.{lasts_after}
+use Rattle.zone_services.specs.inside.Changes.{heard}
+use Rattle.ras_core.specs.inside.Courses.{Does}
 use Rattle.zone_services.specs.inside.Leaving.{AreSameButLent}
 use Rattle.ras_core.specs.Soundness.{AreBornBefore}
-use Rattle.ras_core.specs.Steps.{HasFewOctets}
+use Rattle.ras_core.specs.Steps.{HasFewOctets, IsAllowed, ask_in, choices_of}
 use Rattle.zone_services.proofs.ButLent.{counts_same, same_after_end}
 use Rattle.ras_core.proofs.Dropping.{born_same}
-
--- what is noted
-abbrev pub noted_outcome : Note → Option Datagram → Outcome
-noted_outcome what output = record {
-  answer = None;
-  output = output;
-  note = what;
-  dropped = None;
-  given = None;
-}
 
 -- An item is done: what is noted and what is left are as the machine has it. The machine is seen by
 -- its parts, `old`, and by its value.
@@ -61,23 +52,16 @@ module _ (old value : Running) (is : old ≡ value) (now : ℕ) (item : DueItem)
 
 -- an endpoint gave a sign of life
 pub does_hear : (old : Running) (now : ℕ) (id : List ℕ) (services : RunningZone)
-    → is_some (fin.get old.state.zone.live id) ≡ true
-    → services ≡ heard_at (record { zone = old.state.zone; lasts = old.lasts }) First now (Some id)
-    → Does old now (response_course old.state (Some id)) (noted_outcome note.Served None) (record {
+    → services ≡ heard (record { zone = old.state.zone; lasts = old.lasts }) now (Some id)
+    → Does old now (Hearing id) (noted_outcome note.Served None) (record {
       state = record old.state { zone = services.zone };
       lasts = services.lasts;
     })
-does_hear old now id services there is =
-    subst (λ (z : RunningZone). Does old now (response_course old.state (Some id))
-    (noted_outcome note.Served None) (record {
+does_hear old now id services is =
+    subst (λ (z : RunningZone). Does old now (Hearing id) (noted_outcome note.Served None) (record {
       state = record old.state { zone = z.zone };
       lasts = z.lasts;
-    })) (sym is)
-    (subst (λ (b : Bool). Does old now (if b then Hearing id else Ignoring UnknownEndpoint)
-    (noted_outcome note.Served None) (record {
-      state = record old.state { zone = heard_zone.zone };
-      lasts = heard_zone.lasts;
-    })) (sym there) (record {
+    })) (sym is) (record {
       allowed = tt;
       makes = refl;
       lasts = refl;
@@ -85,10 +69,24 @@ does_hear old now id services there is =
           (same_after_end old.state.zone.pools None);
       births = λ before. born_same old.state.kept old.state.steps before;
       few = tt;
-    })) where
-      heard_zone : RunningZone
-      heard_zone =
-          heard_at (record { zone = old.state.zone; lasts = old.lasts }) First now (Some id)
+    })
+
+-- nothing changes
+pub does_nothing : (old : Running) (now : ℕ) (c : Course) (what : Note) (output : Option Datagram)
+    → IsAllowed old.state now c (choices_of (noted_outcome what output))
+    → course_ending old.state now c (choices_of (noted_outcome what output))
+    ≡ Some (noted_outcome what output, old.state)
+    → ask_in c ≡ None → HasFewOctets output
+    → Does old now c (noted_outcome what output) old
+does_nothing old now c what output allowed makes asks few = record {
+  allowed = allowed;
+  makes = makes;
+  lasts = ap (λ ask. lasts_after old.lasts ask None) (sym asks);
+  counts = counts_same old.state.zone.pools old.state.zone.pools
+      (same_after_end old.state.zone.pools None);
+  births = λ before. born_same old.state.kept old.state.steps before;
+  few = few;
+}
 
 -- who is asked was asked less than so often
 pub tries_few : (times : Times) (now : ℕ) (r : Registration) → IsTrue (is_to_be_asked times now r)

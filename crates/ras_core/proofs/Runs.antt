@@ -3,8 +3,8 @@ use Rattle.std.proofs.Common.{◌≡◌, ℕ, ◌+◌, ◌<◌, List, [], ◌∷
 use Rattle.std.proofs.Common.{sym, ◌∙◌, ap, subst, append_assoc, arith, length-append}
 use Rattle.std.proofs.lemmas.List.{take_more}
 use Rattle.std.specs.List.{zip}
-use Rattle.ras_core.specs.declared.event.Event.{Event}
-use Rattle.ras_core.specs.declared.outcome.Outcome.{Outcome}
+use Rattle.zone_events.specs.declared.event.Event.{Event}
+use Rattle.zone_events.specs.declared.outcome.Outcome.{Outcome}
 use Rattle.ras_core.specs.State.{State, Running}
 use Rattle.ras_core.specs.Steps.{Step, Run, RunsOn, RunningStep, RunningRun}
 

@@ -9,8 +9,10 @@ use Rattle.ras_module.specs.declared.reply.Reply.TheVariants.{Rip}
 use Rattle.ras_module.specs.declared.request.Request.{Request}
 use Rattle.registrations.specs.Registry.{Live}
 use Rattle.kept_replies.specs.declared.entry.KeptEntry.{KeptEntry}
+use Rattle.kept_replies.specs.declared.entry.KeptState.{KeptState}
+use Rattle.kept_replies.specs.declared.entry.KeptState.TheVariants.{Done, Pending}
 use Rattle.kept_replies.specs.declared.key.KeptKey.{KeptKey}
-use Rattle.kept_replies.specs.Kept.{KeptReplies, done, pending, finished, postponed, identifier_in}
+use Rattle.kept_replies.specs.Kept.{KeptReplies, finished, postponed, identifier_in}
 use Rattle.kept_replies.specs.Kept.{is_over, reply_in, without_birth}
 use Rattle.pools.specs.declared.interface.Lend.{Lend}
 use Rattle.pools.specs.declared.interface.Lend.TheVariants.{Lent, Refused, Wait}
@@ -37,17 +39,21 @@ is_repeat s now entry =
     not (is_over now entry)
     && is_registered_still s.zone.live (identifier_in (reply_in entry.state))
 
--- A request that is served: its datagram, and whether it is served first or again; the birth of the
--- entry that is dropped for it; and what it comes to.
+-- A request that is served: its datagram, with the occasion on which it is served; and what it
+-- comes to.
 pub record Task : Type 0 where
   pub job : Job
-  pub dropped : Option ℕ
   pub request : Request
   pub plan : Plan
 
+-- the entry that is dropped for its reply
+abbrev pub dropped_for : Occasion → Option ℕ
+dropped_for (First dropped) = dropped
+dropped_for (Again born left) = None
+
 -- the endpoint that a request names was heard as it came, and isn't as it is served again
 abbrev pub plan_at : Occasion → ℕ → Option (List ℕ) → Plan → Plan
-plan_at First now endpoint plan = hearing now endpoint plan
+plan_at (First dropped) now endpoint plan = hearing now endpoint plan
 plan_at (Again born left) now endpoint plan = plan
 
 -- how far a request is after it was served: it was answered, or it is to wait
@@ -67,7 +73,7 @@ in_progress delay request refused = record {
 
 -- it is served once more at least, where its pool makes it wait
 abbrev pub may_wait : Occasion → Bool
-may_wait First = true
+may_wait (First dropped) = true
 may_wait (Again born left) = nat_lt 1 left
 
 abbrev pub waits : Occasion → Lend → Bool
@@ -102,32 +108,26 @@ abbrev pub after_drop : KeptReplies → Option ℕ → KeptReplies
 after_drop kept None = kept
 after_drop kept (Some born) = without_birth kept born
 
--- the reply is kept from this step on, or in place of a RequestInProgress
-abbrev pub with_reply : KeptReplies → KeptKey → Occasion → Option ℕ → ℕ → Reply → ℕ → KeptReplies
-with_reply kept key First dropped born reply until =
-    insert (after_drop kept dropped) key (done born reply until)
-with_reply kept key (Again birth left) dropped born reply until =
-    update kept key (finished reply until)
+-- what becomes of an entry whose request was served again: it is answered, or is to wait once more
+abbrev pub served_again : KeptState → KeptEntry → KeptEntry
+served_again (Done reply until) entry = finished reply until entry
+served_again (Pending request reply retry left) entry = postponed retry entry
 
--- the request is kept, to be served again at this moment and so many times; or
--- once less than before
-abbrev pub with_request : KeptReplies → KeptKey → Occasion → Option ℕ → ℕ → Request → Reply → ℕ → ℕ
-    → KeptReplies
-with_request kept key First dropped born request reply retry times =
-    insert (after_drop kept dropped) key (pending born request reply retry times)
-with_request kept key (Again birth left) dropped born request reply retry times =
-    update kept key (postponed retry)
+-- What is kept where a request was served: an entry from this step on, for which another may have
+-- been dropped; or the entry that waited goes on.
+abbrev pub kept_with : KeptReplies → KeptKey → Occasion → ℕ → KeptState → KeptReplies
+kept_with kept key (First dropped) born state =
+    insert (after_drop kept dropped) key (record { born = born; state = state })
+kept_with kept key (Again birth left) born state = update kept key (served_again state)
 
--- either, for these times
-abbrev pub kept_as : KeptReplies → KeptKey → Occasion → Option ℕ → ℕ → Request → Reply → Bool → Term
-    → KeptReplies
-kept_as kept key occasion dropped born request reply waits term =
+-- how far the request is then: it waits for the delay, or its reply is kept for the window
+abbrev pub state_after : Request → Reply → Bool → Term → KeptState
+state_after request reply waits term =
     if waits
-    then with_request kept key occasion dropped born request reply term.retry term.times
-    else with_reply kept key occasion dropped born reply term.until
+    then Pending request reply term.retry term.times
+    else Done reply term.until
 
--- what is kept then: a reply for the window, a request that waits for the delay
 abbrev pub kept_after : State → ℕ → Task → Progress → KeptReplies
 kept_after s now task p =
-    kept_as s.kept task.job.key task.job.occasion task.dropped s.steps task.request p.served.reply
-    p.waits (term_of s.zone.config now)
+    kept_with s.kept task.job.key task.job.occasion s.steps
+    (state_after task.request p.served.reply p.waits (term_of s.zone.config now))

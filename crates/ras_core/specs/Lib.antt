@@ -1,3 +1,5 @@
+pub mod Prepared
+pub mod Unused
 pub mod State
 pub mod Keeping
 pub mod Turns

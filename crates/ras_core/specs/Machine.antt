@@ -1,39 +1,39 @@
 -- The gatekeeper as a machine: what each event is answered, and what it leaves.
-use Rattle.std.specs.Prelude.{ℕ, ◌+◌, ◌^◌, ◌==◌, nat_lt, max, is_some, List, length, Option, None}
-use Rattle.std.specs.Prelude.{Some, Result, Ok, Err, if◌then◌else◌}
+use Rattle.std.specs.Prelude.{ℕ, ◌+◌, ◌^◌, ◌==◌, nat_lt, max, is_some, List, Option, None}
+use Rattle.std.specs.Prelude.{Some, if◌then◌else◌}
 use Rattle.std.specs.FinMap.{get, len}
-use Rattle.ras_module.specs.declared.address.Address.{Address}
-use Rattle.ras_module.specs.declared.reply.Reply.{Reply}
 use Rattle.ras_module.specs.declared.request.Request.{Request}
-use Rattle.ras_codec.specs.Messages.{message_reading}
 use Rattle.ras_codec.specs.Replies.{encoding_of}
-use Rattle.ras_codec.specs.declared.fault.ReadFault.{ReadFault}
 use Rattle.pools.specs.declared.interface.Lend.{Lend}
 use Rattle.kept_replies.specs.declared.key.KeptKey.{KeptKey}
 use Rattle.kept_replies.specs.declared.entry.KeptEntry.{KeptEntry}
 use Rattle.kept_replies.specs.declared.entry.KeptState.{KeptState}
 use Rattle.kept_replies.specs.declared.entry.KeptState.TheVariants.{Done, Pending}
 use Rattle.kept_replies.specs.Kept.{births, reply_in}
-use Rattle.expiry.specs.declared.due_item.DueItem.{DueItem}
-use Rattle.expiry.specs.declared.due_item.DueItem.TheVariants.{Retry}
-use Rattle.ras_core.specs.declared.event.Event.{Event}
-use Rattle.ras_core.specs.declared.event.Event.TheVariants as event
+use Rattle.zone_events.specs.declared.due_item.DueItem.{DueItem}
+use Rattle.zone_events.specs.declared.due_item.DueItem.TheVariants.{Retry}
+use Rattle.zone_events.specs.declared.event.Event.{Event}
+use Rattle.zone_events.specs.declared.event.Event.TheVariants as event
 use Rattle.ras_core.specs.declared.job.Job.{Job}
 use Rattle.ras_core.specs.declared.job.Occasion.{Occasion}
 use Rattle.ras_core.specs.declared.job.Occasion.TheVariants.{First, Again}
-use Rattle.ras_core.specs.declared.outcome.Datagram.{Datagram}
-use Rattle.ras_core.specs.declared.outcome.IgnoredCause.{IgnoredCause}
-use Rattle.ras_core.specs.declared.outcome.IgnoredCause.TheVariants.{TooLong, Unreadable, NotServed}
-use Rattle.ras_core.specs.declared.outcome.IgnoredCause.TheVariants.{Busy, UnknownEndpoint}
-use Rattle.ras_core.specs.declared.outcome.Note.{Note}
-use Rattle.ras_core.specs.declared.outcome.Note.TheVariants as note
-use Rattle.ras_core.specs.declared.outcome.Outcome.{Outcome}
+use Rattle.zone_events.specs.declared.outcome.Datagram.{Datagram}
+use Rattle.zone_events.specs.declared.outcome.IgnoredCause.{IgnoredCause}
+use Rattle.zone_events.specs.declared.outcome.IgnoredCause.TheVariants.{TooLong, Unreadable, NotServed}
+use Rattle.zone_events.specs.declared.outcome.IgnoredCause.TheVariants.{Busy, UnknownEndpoint}
+use Rattle.zone_events.specs.declared.outcome.Note.{Note}
+use Rattle.zone_events.specs.declared.outcome.Note.TheVariants as note
+use Rattle.zone_events.specs.declared.outcome.Outcome.{Outcome}
+use Rattle.zone_events.specs.Events.{moment_in, noted_outcome}
+use Rattle.ras_core.specs.declared.prepared.Message.{Message}
+use Rattle.ras_core.specs.declared.prepared.Message.TheVariants as message
+use Rattle.ras_core.specs.Prepared.{message_in}
 use Rattle.ras_core.specs.State.{State}
 use Rattle.zone_services.specs.Zone.{with_live, heard_now}
 use Rattle.zone_services.specs.Plans.{Served, Ask, Plan, Settled, Naming, Asking}
 use Rattle.zone_services.specs.Requests.{endpoint_of, plan_of}
 use Rattle.ras_core.specs.Keeping.{Task, Progress, answered, by_answer, is_repeat, kept_after}
-use Rattle.ras_core.specs.Keeping.{plan_at, with_answered_pool}
+use Rattle.ras_core.specs.Keeping.{dropped_for, plan_at, with_answered_pool}
 use Rattle.ras_core.specs.Turns.{effect}
 
 -- What was chosen in a step: the identifier that was handed out, the answer of the pool that
@@ -46,31 +46,30 @@ pub record Choices : Type 0 where
   pub item : Option DueItem
 
 -- What an event calls for: nothing is done; an endpoint gave a sign of life; a kept reply is sent
--- there again; a request is served; something else that is due is done; or nothing is due.
+-- again; a request is served; something else that is due is done; or nothing is due.
 pub data Course : Type 0 where
   Ignoring : IgnoredCause → Course
   Hearing : List ℕ → Course
-  Repeating : Address → Reply → Course
+  Repeating : Datagram → Course
   Serving : Task → Course
   Doing : DueItem → Course
   Idle : Course
 
 -- the request is served so, by this plan
-abbrev pub serving : Job → Option ℕ → ℕ → Request → Plan → Course
-serving job dropped now request plan = Serving (record {
+abbrev pub serving : Job → ℕ → Request → Plan → Course
+serving job now request plan = Serving (record {
   job = job;
-  dropped = dropped;
   request = request;
   plan = plan_at job.occasion now (endpoint_of request) plan;
 })
 
-abbrev pub first : KeptKey → Job
-first key = record { key = key; occasion = First }
+abbrev pub first : KeptKey → Option ℕ → Job
+first key dropped = record { key = key; occasion = First dropped }
 
 -- where as many replies are kept as may be, one that is over is dropped to make a place
 abbrev pub full_course : ℕ → KeptKey → Request → Plan → Option ℕ → Course
 full_course now key request plan None = Ignoring Busy
-full_course now key request plan (Some born) = serving (first key) (Some born) now request plan
+full_course now key request plan (Some born) = serving (first key (Some born)) now request plan
 
 -- A datagram that came before is answered by what is kept. One whose entry is over, or confirms a
 -- registration that has gone, is served anew, and its reply takes the entry's place; so it needs no
@@ -79,12 +78,12 @@ abbrev pub keyed_course : State → ℕ → KeptKey → Request → Plan → Opt
     → Option KeptEntry → Course
 keyed_course s now key request plan dropped (Some entry) =
     if is_repeat s now entry
-    then Repeating key.source (reply_in entry.state)
-    else serving (first key) None now request plan
+    then Repeating (record { to = key.source; bytes = encoding_of (reply_in entry.state) })
+    else serving (first key None) now request plan
 keyed_course s now key request plan dropped None =
     if len s.kept == s.zone.config.kept
     then full_course now key request plan dropped
-    else serving (first key) None now request plan
+    else serving (first key None) now request plan
 
 -- an InfoRequestResponse of an endpoint that is registered is a sign of life
 abbrev pub response_course : State → Option (List ℕ) → Course
@@ -103,18 +102,17 @@ abbrev pub request_course : State → ℕ → KeptKey → Option ℕ → Request
 request_course s now key dropped request =
     planned_course s now key request dropped (plan_of s.zone now request)
 
-abbrev pub read_course : State → ℕ → KeptKey → Option ℕ → Result (Option Request) ReadFault → Course
-read_course s now key dropped (Err fault) = Ignoring Unreadable
-read_course s now key dropped (Ok None) = Ignoring NotServed
-read_course s now key dropped (Ok (Some request)) = request_course s now key dropped request
-
 -- A datagram falls under the first that applies: it is too long, unreadable, not served, a sign of
 -- life, answered by what is kept, without a place for its reply, or served.
+abbrev pub message_course : State → ℕ → KeptKey → Option ℕ → Message → Course
+message_course s now key dropped message.TooLong = Ignoring TooLong
+message_course s now key dropped message.Unreadable = Ignoring Unreadable
+message_course s now key dropped message.NotServed = Ignoring NotServed
+message_course s now key dropped (message.Request request) =
+    request_course s now key dropped request
+
 abbrev pub datagram_course : State → ℕ → KeptKey → Option ℕ → Course
-datagram_course s now key dropped =
-    if nat_lt 4096 (length key.bytes)
-    then Ignoring TooLong
-    else read_course s now key dropped (message_reading key.bytes)
+datagram_course s now key dropped = message_course s now key dropped (message_in key.bytes)
 
 -- A request that waits is served again. (The cases in which nothing is done are those of an
 -- entry that isn't there, doesn't wait, or has a request without a plan; no run from the opening
@@ -125,7 +123,7 @@ again key born left = record { key = key; occasion = Again born left }
 abbrev pub again_course : ℕ → KeptKey → ℕ → Request → ℕ → Option Plan → Course
 again_course now key born request left None = Doing (Retry born)
 again_course now key born request left (Some plan) =
-    serving (again key born left) None now request plan
+    serving (again key born left) now request plan
 
 abbrev pub retry_in_course : State → ℕ → KeptKey → ℕ → KeptState → Course
 retry_in_course s now key born (Done reply until) = Doing (Retry born)
@@ -141,10 +139,6 @@ abbrev pub turn_course : State → ℕ → Option DueItem → Course
 turn_course s now None = Idle
 turn_course s now (Some (Retry born)) = retry_course s now born (get (births s.kept) born)
 turn_course s now (Some other) = Doing other
-
-abbrev pub moment_in : Event → ℕ
-moment_in (event.Datagram source bytes moment) = moment
-moment_in (event.Turn moment) = moment
 
 -- the clock never goes back
 abbrev pub moment_of : State → Event → ℕ
@@ -164,14 +158,11 @@ Ending = Option (Outcome × State)
 
 -- where no request is served: nothing was chosen, and this is the note
 abbrev pub noted : Note → Option Datagram → State → Ending
-noted what output s = Some (
-  record { output = output; note = what; given = None; answer = None; dropped = None },
-  s,
-)
+noted what output s = Some (noted_outcome what output, s)
 
 -- what happened in a step in which a request was served
 abbrev pub note_at : Occasion → Note
-note_at First = note.Served
+note_at (First dropped) = note.Served
 note_at (Again born left) = note.Done (Retry born)
 
 -- a reply goes to where the datagram came from, and is kept
@@ -182,7 +173,7 @@ ended s now task given answer p = Some (
     note = note_at task.job.occasion;
     given = given;
     answer = answer;
-    dropped = task.dropped;
+    dropped = dropped_for task.job.occasion;
   },
   record s { zone = p.served.zone; kept = kept_after s now task p },
 )
@@ -209,8 +200,7 @@ abbrev pub course_ending : State → ℕ → Course → Choices → Ending
 course_ending s now (Ignoring cause) choices = noted (note.Ignored cause) None s
 course_ending s now (Hearing endpoint) choices = noted note.Served None
     (record s { zone = with_live s.zone (heard_now now endpoint s.zone.live) })
-course_ending s now (Repeating source reply) choices =
-    noted note.Kept (Some (record { to = source; bytes = encoding_of reply })) s
+course_ending s now (Repeating datagram) choices = noted note.Kept (Some datagram) s
 course_ending s now (Serving task) choices = plan_ending s now task task.plan choices
 course_ending s now (Doing item) choices =
     noted (note.Done item) (effect s now item).output (effect s now item).state

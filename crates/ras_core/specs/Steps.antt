@@ -4,22 +4,22 @@ use Rattle.std.specs.List.{zip}
 use Rattle.admission.specs.Calls.{in_use}
 use Rattle.pools.specs.Account.{IsAnswer}
 use Rattle.kept_replies.specs.Kept.{NonePasses, Passes, is_over}
-use Rattle.expiry.specs.declared.due_item.DueItem.{DueItem}
-use Rattle.expiry.specs.declared.due_item.DueItem.TheVariants.{Retry}
-use Rattle.ras_core.specs.declared.event.Event.{Event}
+use Rattle.zone_events.specs.declared.due_item.DueItem.{DueItem}
+use Rattle.zone_events.specs.declared.due_item.DueItem.TheVariants.{Retry}
+use Rattle.zone_events.specs.declared.event.Event.{Event}
 use Rattle.ras_core.specs.declared.job.Occasion.{Occasion}
 use Rattle.ras_core.specs.declared.job.Occasion.TheVariants.{First, Again}
-use Rattle.ras_core.specs.declared.outcome.Datagram.{Datagram}
-use Rattle.ras_core.specs.declared.outcome.IgnoredCause.TheVariants.{Busy}
-use Rattle.ras_core.specs.declared.outcome.Note.{Note}
-use Rattle.ras_core.specs.declared.outcome.Note.TheVariants as note
-use Rattle.ras_core.specs.declared.outcome.Outcome.{Outcome}
+use Rattle.zone_events.specs.declared.outcome.Datagram.{Datagram}
+use Rattle.zone_events.specs.declared.outcome.IgnoredCause.TheVariants.{Busy}
+use Rattle.zone_events.specs.declared.outcome.Note.{Note}
+use Rattle.zone_events.specs.declared.outcome.Note.TheVariants as note
+use Rattle.zone_events.specs.declared.outcome.Outcome.{Outcome}
 use Rattle.ras_core.specs.State.{State, Running}
 use Rattle.zone_services.specs.Soundness.{IsLentTo}
 use Rattle.ras_core.specs.Soundness.{Sound}
 use Rattle.zone_services.specs.Pools.{figures_at, lasts_after}
 use Rattle.zone_services.specs.Plans.{Ask, Plan, Settled, Naming, Asking}
-use Rattle.zone_services.specs.Unused.{IsUnusedFor}
+use Rattle.ras_core.specs.Unused.{IsUnusedFor}
 use Rattle.ras_core.specs.Turns.{IsDueIn, IsNothingDueIn}
 use Rattle.ras_core.specs.Machine.{Choices, Course, Ignoring, Hearing, Repeating, Serving, Doing}
 use Rattle.ras_core.specs.Machine.{Idle, course, machine, moment_of}
@@ -51,9 +51,9 @@ MayChoose s (Asking ask lent refused) choices =
 
 -- the entry that is dropped for a request that comes is over; a request is served
 -- again when that is due
-abbrev pub IsTimely : State → ℕ → Option ℕ → Occasion → Type 0
-IsTimely s now dropped First = IfSome dropped (Passes (is_over now) s.kept)
-IsTimely s now dropped (Again born left) = IsDueIn s now (Retry born)
+abbrev pub IsTimely : State → ℕ → Occasion → Type 0
+IsTimely s now (First dropped) = IfSome dropped (Passes (is_over now) s.kept)
+IsTimely s now (Again born left) = IsDueIn s now (Retry born)
 
 -- What may be chosen: no place is found for a reply only where nothing that is kept is over; what
 -- is done is due; and only where nothing is due, nothing is done.
@@ -61,9 +61,9 @@ abbrev pub IsAllowed : State → ℕ → Course → Choices → Type 0
 IsAllowed s now (Ignoring Busy) choices = NonePasses (is_over now) s.kept
 IsAllowed s now (Ignoring other) choices = Unit {0}
 IsAllowed s now (Hearing endpoint) choices = Unit {0}
-IsAllowed s now (Repeating source reply) choices = Unit {0}
+IsAllowed s now (Repeating datagram) choices = Unit {0}
 IsAllowed s now (Serving task) choices =
-    IsTimely s now task.dropped task.job.occasion × MayChoose s task.plan choices
+    IsTimely s now task.job.occasion × MayChoose s task.plan choices
 IsAllowed s now (Doing item) choices = IsDueIn s now item
 IsAllowed s now Idle choices = IsNothingDueIn s now
 

@@ -8,14 +8,24 @@ use Rattle.ras_codec.specs.Replies.{encoding_of}
 use Rattle.registrations.specs.declared.registration.Registration.{Registration}
 use Rattle.registrations.specs.Registry.{after_ask}
 use Rattle.kept_replies.specs.Kept.{without_birth}
-use Rattle.expiry.specs.declared.due_item.DueItem.{DueItem}
-use Rattle.expiry.specs.declared.due_item.DueItem.TheVariants.{RegistrationOver, Interrogate}
-use Rattle.expiry.specs.declared.due_item.DueItem.TheVariants.{Silent, Retry, KeptOver, PoolTurn}
+use Rattle.zone_events.specs.declared.due_item.DueItem.{DueItem}
+use Rattle.zone_events.specs.declared.due_item.DueItem.TheVariants.{RegistrationOver, Interrogate}
+use Rattle.zone_events.specs.declared.due_item.DueItem.TheVariants.{Silent, Retry, KeptOver, PoolTurn}
 use Rattle.expiry.specs.Due.{IsDue, IsNothingDue}
-use Rattle.ras_core.specs.declared.outcome.Datagram.{Datagram}
-use Rattle.zone_services.specs.Zone.{with_live, times_of}
+use Rattle.zone_events.specs.declared.outcome.Datagram.{Datagram}
+use Rattle.zone_services.specs.Zone.{with_live}
+use Rattle.zone_config.specs.declared.config.ConfigParts.{ConfigParts}
+use Rattle.expiry.specs.declared.times.Times.{Times}
 use Rattle.ras_core.specs.State.{State}
 use Rattle.zone_services.specs.Disengaging.{without_endpoint, without_silent}
+
+-- how long an endpoint in a call may be silent
+abbrev pub times_of : ConfigParts → Times
+times_of config = record {
+  silence = config.silence;
+  asks = config.asks;
+  ask_wait = config.ask_wait;
+}
 
 -- the item is due in this state, or nothing is
 abbrev pub IsDueIn : State → ℕ → DueItem → Type 0

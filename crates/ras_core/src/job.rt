@@ -1,13 +1,12 @@
 //! Requests that are being served.
 
 ghost use Rattle.std.specs.Prelude.{◌≡◌};
-ghost use Rattle.ras_core.specs.Keeping.{waits};
+ghost use Rattle.ras_core.specs.Keeping.{dropped_for, waits};
 ghost use Rattle.ras_core.specs.Machine.{note_at};
 
-use crate::outcome::Note;
-use expiry::DueItem;
 use kept_replies::KeptKey;
 use pools::Lend;
+use zone_events::{DueItem, Note};
 
 /// A request that is being served, by the datagram that it came in.
 #[derive(Drop)]
@@ -19,9 +18,9 @@ pub struct Job {
 /// When a request is served.
 #[derive(Clone, Copy)]
 pub enum Occasion {
-    /// As it comes.
-    First,
-    /// After a wait: its kept entry has this birth, and so many times are left.
+    /// As it comes. If its reply finds no place else, the kept entry with this birth is dropped.
+    First { dropped: Option<u64> },
+    /// After a wait: its kept entry has this birth, and it is served `left` times more at most.
     Again { born: u64, left: u64 },
 }
 
@@ -31,18 +30,27 @@ impl Occasion {
         ensures { result ≡ note_at self }
     {
         match self {
-            Occasion::First => Note::Served,
+            Occasion::First { .. } => Note::Served,
             Occasion::Again { born, .. } => Note::Done(DueItem::Retry(born)),
         }
     }
 
-    /// Whether a request with this answer of its pool is to wait: not where it waited for the last
-    /// time.
+    /// The birth of the kept entry that is dropped.
+    pub fn dropped(self) -> Option<u64>
+        ensures { result ≡ dropped_for self }
+    {
+        match self {
+            Occasion::First { dropped } => dropped,
+            Occasion::Again { .. } => None,
+        }
+    }
+
+    /// Whether a request with this answer of its pool is to wait: not if it waited for the last time.
     pub fn waits(self, answer: Lend) -> bool
         ensures { result ≡ waits self answer }
     {
         match (answer, self) {
-            (Lend::Wait, Occasion::First) => true,
+            (Lend::Wait, Occasion::First { .. }) => true,
             (Lend::Wait, Occasion::Again { left, .. }) => 1 < left,
             _ => false,
         }

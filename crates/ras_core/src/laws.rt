@@ -8,15 +8,15 @@ ghost use Rattle.ras_codec.specs.Messages.{message_reading};
 ghost use Rattle.ras_codec.specs.Replies.{encoding_of};
 ghost use Rattle.kept_replies.specs.declared.entry.KeptEntry.{KeptEntry};
 ghost use Rattle.kept_replies.specs.Kept.{reply_in};
-ghost use Rattle.ras_core.specs.declared.outcome.Outcome.{Outcome};
+ghost use Rattle.zone_events.specs.declared.outcome.Outcome.{Outcome};
 ghost use Rattle.ras_core.specs.State.{Running, State};
 ghost use Rattle.ras_core.specs.Keeping.{is_repeat};
 ghost use Rattle.ras_core.specs.Turns.{IsNothingDueIn};
 ghost use Rattle.ras_core.specs.Steps.{EachState, IsWithinLimit, RunningRun, Step};
 ghost use Rattle.zone_services.specs.Requests.{HasReply};
 
-use crate::event::Event;
-use crate::outcome::Note;
+use zone_events::Event;
+use zone_events::Note;
 
 /// A datagram that came before, from the same address with the same octets, gets the reply that is
 /// kept for it, and nothing changes but the clock and the number of steps: while its window isn't

@@ -12,16 +12,16 @@ ghost use Rattle.ras_core.specs.Steps.{HasFewOctets, RunsOn, Step, ask_in, choic
 ghost use Rattle.zone_services.specs.Pools.{lasts_after};
 ghost use Rattle.ras_core.specs.Soundness.{Sound};
 
-use crate::event::Event;
 use crate::fault::{NewFault, StepFault};
 use crate::machine::Machine;
-use crate::outcome::Outcome;
+use crate::prepared::{Prepared, prepare};
 use admission::CallList;
 use pools::{Pool, PoolSet};
 use registrations::RegistrationList;
 use std::alloc::{AllocError, Global};
 use std::marker::Model;
 use zone_config::{Config, Moment};
+use zone_events::{Event, Outcome};
 
 /// The zone of one gatekeeper, with the pools from which its calls have their bandwidth. Contracts see
 /// its state, which is always sound, and each pool's last request with its answer.
@@ -82,9 +82,30 @@ impl<P: Pool> Zone<P> {
         ensures err { OnErr result (self.new ≡ self.old) }
         ensures sound { Sound self.new.state }
     {
-        self.step_at(&event)
+        if self.is_closed() {
+            return Err(StepFault::Closed);
+        }
+        let prepared = prepare(self.machine.allocator(), event)?;
+        self.step_prepared(prepared)
     }
 
+    /// One step, as `step` makes it, of an event whose datagram was read before.
+    pub fn step_prepared(&mut self, prepared: Prepared) -> Result<Outcome, StepFault>
+        ensures step { IfOk result (λ outcome.
+            Step self.old.state prepared outcome self.new.state) }
+        ensures lasts { IfOk result (λ outcome. self.new.lasts ≡ lasts_after self.old.lasts
+            (ask_in (course self.old.state prepared (choices_of outcome))) outcome.answer) }
+        ensures few { IfOk result (λ outcome. HasFewOctets outcome.output) }
+        ensures closed { (result ≡ Err StepFault.Closed) ↔ (self.old.state.steps ≡ most_steps) }
+        ensures err { OnErr result (self.new ≡ self.old) }
+        ensures sound { Sound self.new.state }
+    {
+        let outcome = self.machine.step(prepared);
+        let _sound = self.machine.len();
+        outcome
+    }
+
+    /// A step of an event that stays with the caller.
     fn step_at(&mut self, event: &Event) -> Result<Outcome, StepFault>
         ensures step { IfOk result (λ outcome.
             Step self.old.state event.now outcome self.new.state) }
@@ -95,9 +116,11 @@ impl<P: Pool> Zone<P> {
         ensures err { OnErr result (self.new ≡ self.old) }
         ensures sound { Sound self.new.state }
     {
-        let outcome = self.machine.step(event);
-        let _sound = self.machine.len();
-        outcome
+        if self.machine.is_closed() {
+            return Err(StepFault::Closed);
+        }
+        let event = event.copy()?;
+        self.step(event)
     }
 
     /// The endpoints that are registered, by rising identifier: character by character, a prefix

@@ -5,7 +5,7 @@ use Rattle.std.proofs.Common.{length, refl, subst, map, arith, nat_lt}
 use Rattle.std.proofs.lemmas.Bool.Decides.{nat_tests}
 use Rattle.std.specs.Io.KnownBytes.{Consumes, IsAtEnd}
 use Rattle.ras_module.specs.declared.address.Address.{Address}
-use Rattle.ras_core.specs.declared.event.Event.{Event}
+use Rattle.zone_events.specs.declared.event.Event.{Event}
 use Rattle.zone_config.specs.Networks.{has_default}
 use Rattle.script.specs.declared.fault.ScriptFault.{ScriptFault}
 use Rattle.script.specs.declared.fault.ScriptFault.TheVariants.{TooLong, BadLine, NoZone}

@@ -5,7 +5,7 @@ use Rattle.std.proofs.Common.{length-take-le, arith}
 use Rattle.std.proofs.lemmas.List.{take_more, map_more}
 use Rattle.std.specs.Prelude.{encode_utf8, encode_utf8_all, map}
 use Rattle.hex.specs.Hex.{encode_with}
-use Rattle.ras_core.specs.declared.outcome.Outcome.{Outcome}
+use Rattle.zone_events.specs.declared.outcome.Outcome.{Outcome}
 use Rattle.script.specs.Prints.{character_of, identifier_text, outcome_line, outcome_lines}
 use Rattle.script.specs.Prints.{outcome_lines_from}
 

@@ -1,6 +1,6 @@
 -- What a run that stops at an event answers.
 use Rattle.std.proofs.Common.{◌≡◌, ℕ, ◌+◌, ◌<◌, List, take, length, Option, Err, add-one}
-use Rattle.ras_core.specs.declared.event.Event.{Event}
+use Rattle.zone_events.specs.declared.event.Event.{Event}
 use Rattle.ras_core.specs.State.{Running}
 use Rattle.ras_core.specs.Machine.{most_steps}
 use Rattle.script.specs.declared.fault.RunFault.TheVariants.{Memory, Closed}

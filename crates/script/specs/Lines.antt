@@ -1,7 +1,7 @@
 -- What a line of a script says; none where it is not understood.
 use Rattle.std.specs.Prelude.{ℕ, ◌-◌, ◌^◌, List, [], ◌∷◌, Option, Some, None, codes, if◌then◌else◌}
 use Rattle.std.specs.Str.{bytes_eq}
-use Rattle.ras_core.specs.declared.event.Event.TheVariants.{Datagram, Turn}
+use Rattle.zone_events.specs.declared.event.Event.TheVariants.{Datagram, Turn}
 use Rattle.script.specs.declared.line.Line.{Line}
 use Rattle.script.specs.declared.line.Line.TheVariants.{Blank, Zone, Set, Pool, At}
 use Rattle.script.specs.Words.{words_of}

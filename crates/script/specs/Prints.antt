@@ -3,20 +3,20 @@ use Rattle.std.specs.Prelude.{ℕ, ◌+◌, List, [], ◌∷◌, ◌++◌, map, 
 use Rattle.std.specs.Prelude.{Option, Some, None, codes, if◌then◌else◌}
 use Rattle.std.specs.Fmt.{decimal}
 use Rattle.std.specs.Int.{is_in_range}
-use Rattle.expiry.specs.declared.due_item.DueItem.{DueItem}
-use Rattle.expiry.specs.declared.due_item.DueItem.TheVariants.{RegistrationOver, Interrogate}
-use Rattle.expiry.specs.declared.due_item.DueItem.TheVariants.{Silent, Retry, KeptOver, PoolTurn}
+use Rattle.zone_events.specs.declared.due_item.DueItem.{DueItem}
+use Rattle.zone_events.specs.declared.due_item.DueItem.TheVariants.{RegistrationOver, Interrogate}
+use Rattle.zone_events.specs.declared.due_item.DueItem.TheVariants.{Silent, Retry, KeptOver, PoolTurn}
 use Rattle.hex.specs.Hex.{encode_upper}
 use Rattle.pools.specs.declared.interface.Lend.{Lend}
 use Rattle.pools.specs.declared.interface.Lend.TheVariants.{Lent, Refused, Wait}
 use Rattle.ras_module.specs.declared.address.Address.{Address}
-use Rattle.ras_core.specs.declared.outcome.Datagram.{Datagram}
-use Rattle.ras_core.specs.declared.outcome.IgnoredCause.{IgnoredCause}
-use Rattle.ras_core.specs.declared.outcome.IgnoredCause.TheVariants.{TooLong, Unreadable, NotServed}
-use Rattle.ras_core.specs.declared.outcome.IgnoredCause.TheVariants.{Busy, UnknownEndpoint}
-use Rattle.ras_core.specs.declared.outcome.Note.{Note}
-use Rattle.ras_core.specs.declared.outcome.Note.TheVariants.{Served, Kept, Ignored, Done, Idle}
-use Rattle.ras_core.specs.declared.outcome.Outcome.{Outcome}
+use Rattle.zone_events.specs.declared.outcome.Datagram.{Datagram}
+use Rattle.zone_events.specs.declared.outcome.IgnoredCause.{IgnoredCause}
+use Rattle.zone_events.specs.declared.outcome.IgnoredCause.TheVariants.{TooLong, Unreadable, NotServed}
+use Rattle.zone_events.specs.declared.outcome.IgnoredCause.TheVariants.{Busy, UnknownEndpoint}
+use Rattle.zone_events.specs.declared.outcome.Note.{Note}
+use Rattle.zone_events.specs.declared.outcome.Note.TheVariants.{Served, Kept, Ignored, Done, Idle}
+use Rattle.zone_events.specs.declared.outcome.Outcome.{Outcome}
 
 -- the character with this code of 16 bits; the codes of surrogates stand for no character, and
 -- U+FFFD is written in their place

@@ -5,8 +5,8 @@ use Rattle.std.specs.Io.KnownBytes.{Keeps, Appends}
 use Rattle.pools.specs.Account.{Account}
 use Rattle.pools.specs.Accounts.{pool_fault}
 use Rattle.zone_config.specs.declared.config.ConfigParts.{ConfigParts}
-use Rattle.ras_core.specs.declared.event.Event.{Event}
-use Rattle.ras_core.specs.declared.outcome.Outcome.{Outcome}
+use Rattle.zone_events.specs.declared.event.Event.{Event}
+use Rattle.zone_events.specs.declared.outcome.Outcome.{Outcome}
 use Rattle.ras_core.specs.State.{Running, opening}
 use Rattle.zone_services.specs.Pools.{figures_of, lasts_of}
 use Rattle.ras_core.specs.Machine.{most_steps}

@@ -1,7 +1,7 @@
 -- What lines say together.
 use Rattle.std.specs.Prelude.{ℕ, ◌≡◌, ◌<◌, ◌++◌, List, [], ◌∷◌, length, Option, Some, None}
 use Rattle.ras_module.specs.declared.address.Address.{Address}
-use Rattle.ras_core.specs.declared.event.Event.{Event}
+use Rattle.zone_events.specs.declared.event.Event.{Event}
 use Rattle.script.specs.declared.key.Key.{Key}
 use Rattle.script.specs.declared.line.Line.{Line}
 use Rattle.script.specs.declared.line.Line.TheVariants.{Blank, Zone, Set, Pool, At}

@@ -5,7 +5,7 @@ use Rattle.std.specs.Prelude.{Option, Some, None, is_some, Result, Ok, Err, ifâ—
 use Rattle.std.specs.List.{position_from, last_or}
 use Rattle.ras_module.specs.declared.address.Address.{Address}
 use Rattle.zone_config.specs.declared.config.ConfigParts.{ConfigParts}
-use Rattle.ras_core.specs.declared.event.Event.{Event}
+use Rattle.zone_events.specs.declared.event.Event.{Event}
 use Rattle.zone_config.specs.declared.network.Network.{Network}
 use Rattle.zone_config.specs.Defaults.{default_parts}
 use Rattle.zone_config.specs.Networks.{has_default}

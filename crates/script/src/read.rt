@@ -23,7 +23,7 @@ pub struct Events {
 
 impl Model for Events {
     ghost use Rattle.std.specs.Prelude.{List};
-    ghost use Rattle.ras_core.specs.declared.event.Event.{Event};
+    ghost use Rattle.zone_events.specs.declared.event.Event.{Event};
 
     ghost Value = { List Event };
 

@@ -5,8 +5,8 @@ use Rattle.registrations.specs.Registry.{Live}
 use Rattle.registrations.specs.declared.registration.Registration.{Registration}
 use Rattle.expiry.specs.Due.{IsInCall, IsLiveAnd, is_to_be_asked, is_silent}
 use Rattle.expiry.specs.declared.times.Times.{Times}
-use Rattle.expiry.specs.declared.due_item.DueItem.{DueItem}
-use Rattle.expiry.specs.declared.due_item.DueItem.TheVariants.{Interrogate, Silent}
+use Rattle.zone_events.specs.declared.due_item.DueItem.{DueItem}
+use Rattle.zone_events.specs.declared.due_item.DueItem.TheVariants.{Interrogate, Silent}
 
 -- of an endpoint that takes part in a call
 abbrev pub item_in_call : ℕ → Times → Registration → Option DueItem

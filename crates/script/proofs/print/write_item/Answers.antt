@@ -1,7 +1,7 @@
 use Rattle.std.proofs.Common.{sym, subst, codes}
 use Rattle.std.specs.Prelude.{OnOk}
 use Rattle.std.specs.Io.KnownBytes.{Appends}
-use Rattle.expiry.specs.declared.due_item.DueItem.{DueItem}
+use Rattle.zone_events.specs.declared.due_item.DueItem.{DueItem}
 use Rattle.script.specs.Prints.{identifier_text, item_text}
 use Rattle.script.proofs.KnownBytes.{appends_then_on_ok}
 use Rattle.script.proofs.print.write_item.Goals as goal

@@ -1,11 +1,26 @@
-use Rattle.std.proofs.Common.{subst}
+use Rattle.std.proofs.Common.{◌≡◌, ◌∙◌, ℕ, ap, subst}
 use Rattle.std.specs.Prelude.{MatchOption}
+use Rattle.admission.specs.Calls.{OpenCalls}
+use Rattle.expiry.specs.declared.times.Times.{Times}
+use Rattle.expiry.specs.Due.{IsDue, IsNothingDue}
+use Rattle.kept_replies.specs.Kept.{KeptReplies}
+use Rattle.registrations.specs.Registry.{Live}
 use Rattle.ras_core.specs.State.{Running}
-use Rattle.ras_core.specs.Turns.{IsDueIn, IsNothingDueIn}
 use Rattle.ras_core.proofs.machine.Machine.due.Goals as goal
 
 pub returns : goal.returns
 returns g c =
-    subst (λ (m : Running). MatchOption c.due.result (IsNothingDueIn m.state c.args.now)
-    (IsDueIn m.state c.args.now))
-    c.self.view_is c.due.ensures
+    let is = c.self.view_is in
+    let live = c.registrations-registrations.ensures
+    ∙ ap (λ (m : Running). m.state.zone.live) is in
+    let calls = c.call_table-calls.ensures ∙ ap (λ (m : Running). m.state.zone.calls) is in
+    subst (λ (q : ℕ × ℕ × Times × Live × OpenCalls × KeptReplies).
+    MatchOption c.due.result (IsNothingDue q.0 q.1 q.2 q.3 q.4 q.5) (IsDue q.0 q.1 q.2 q.3 q.4 q.5))
+    (λ j. (
+      c.milliseconds-moment.ensures.same j,
+      (is j).state.next_pool_turn,
+      c.times-times.ensures.same j,
+      live j,
+      calls j,
+      (is j).state.kept,
+    )) c.due.ensures

@@ -1,5 +1,5 @@
 use Rattle.std.proofs.Common.{◌+◌, refl, ap, subst, sym, None}
-use Rattle.expiry.specs.declared.due_item.DueItem.TheVariants.{KeptOver}
+use Rattle.zone_events.specs.declared.due_item.DueItem.TheVariants.{KeptOver}
 use Rattle.ras_core.specs.State.{Running}
 use Rattle.ras_core.specs.Soundness.{AreBornBefore}
 use Rattle.ras_core.specs.inside.Parts.{running_of}
@@ -8,8 +8,8 @@ use Rattle.ras_core.proofs.Dropping.{born_dropped}
 use Rattle.ras_core.proofs.Noting.{does_item}
 use Rattle.ras_core.proofs.machine.Machine.expire.Goals as goal
 
-pub returns-clause-does : goal.returns-clause-does
-returns-clause-does g c =
+pub returns : goal.returns
+returns g c =
     let i = c.self.inside in
     let old =
     running_of i.services i.kept.kept i.clock i.interrogation_number i.next_pool_turn i.steps in

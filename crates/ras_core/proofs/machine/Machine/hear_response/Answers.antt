@@ -1,10 +1,10 @@
-use Rattle.std.proofs.Common.{subst, sym, Some}
-use Rattle.ras_core.specs.declared.outcome.Outcome.{Outcome}
+use Rattle.std.proofs.Common.{subst, sym}
+use Rattle.zone_events.specs.declared.outcome.Outcome.{Outcome}
 use Rattle.ras_core.specs.inside.Parts.{running_of}
 use Rattle.ras_core.specs.State.{Running}
-use Rattle.ras_core.specs.Machine.{response_course}
-use Rattle.ras_core.specs.inside.Serving.{Does}
-use Rattle.ras_core.proofs.Noting.{does_hear, found_some}
+use Rattle.ras_core.specs.Machine.{Hearing}
+use Rattle.ras_core.specs.inside.Courses.{Does}
+use Rattle.ras_core.proofs.Noting.{does_hear}
 use Rattle.ras_core.proofs.machine.Machine.hear_response.Goals as goal
 
 pub returns : goal.returns
@@ -12,14 +12,11 @@ returns g c =
     let i = c.self.inside in
     let old =
     running_of i.services i.kept.kept i.clock i.interrogation_number i.next_pool_turn i.steps in
-    let id = c.args.endpoint.now in
+    let id = c.args.endpoint in
     let new : Running = record {
       state = record old.state { zone = c.hear.new.self.zone };
       lasts = c.hear.new.self.lasts;
     } in
-    subst (λ (m : Running). Does m c.args.now
-    (response_course m.state (Some id)) c.noted.result new) c.self.view_is
-    (subst (λ (o : Outcome). Does old c.args.now (response_course old.state (Some id)) o new)
-    (sym c.noted.ensures)
-    (does_hear old c.args.now id c.hear.new.self
-    (found_some c.get.result c.get.ensures c.if-is_none.ensures) c.hear.ensures))
+    subst (λ (m : Running). Does m c.args.now (Hearing id) c.noted.result new) c.self.view_is
+    (subst (λ (o : Outcome). Does old c.args.now (Hearing id) o new) (sym c.noted.ensures)
+    (does_hear old c.args.now id c.hear.new.self c.hear.ensures))

@@ -2,9 +2,10 @@ use Rattle.std.proofs.Common.{◌≡◌, ◌≤◌, ◌∙◌, ap, subst, sym, S
 use Rattle.std.specs.Option.{option_copied, option_map}
 use Rattle.std.specs.FinMap as fin
 use Rattle.expiry.specs.declared.times.Times.{Times}
-use Rattle.expiry.specs.declared.due_item.DueItem.TheVariants.{Interrogate}
+use Rattle.zone_events.specs.declared.due_item.DueItem.TheVariants.{Interrogate}
 use Rattle.ras_core.specs.State.{Running}
-use Rattle.zone_services.specs.Zone.{Zone, times_of}
+use Rattle.zone_services.specs.Zone.{Zone}
+use Rattle.ras_core.specs.Turns.{times_of}
 use Rattle.ras_core.specs.Turns.{IsDueIn, inquiry}
 use Rattle.zone_services.specs.inside.Leaving.{AreSameButLent}
 use Rattle.ras_core.specs.inside.Parts.{running_of}
@@ -19,7 +20,8 @@ inquire-requires g c =
     let due = subst (λ (m : Running). IsDueIn m.state c.args.now (Interrogate c.args.id))
     (sym c.self.view_is) c.requires in
     tries_few_in (times_of z.config) c.args.now (fin.get z.live c.args.id) due.1
-    (subst (λ (t : Times). t.asks ≤ 16) c.times-few.ensures.same c.times-few.ensures.asks)
+    (subst (λ (m : Running). (times_of m.state.zone.config).asks ≤ 16) (sym c.self.view_is)
+    (subst (λ (t : Times). t.asks ≤ 16) c.times-few.ensures.same c.times-few.ensures.asks))
 
 pub returns-clause-does : goal.returns-clause-does
 returns-clause-does g c =

@@ -1,5 +1,5 @@
 use Rattle.std.proofs.Common.{◌∙◌, refl, ap, sym, None}
-use Rattle.expiry.specs.declared.due_item.DueItem.TheVariants.{RegistrationOver}
+use Rattle.zone_events.specs.declared.due_item.DueItem.TheVariants.{RegistrationOver}
 use Rattle.zone_config.specs.declared.config.ConfigParts.{ConfigParts}
 use Rattle.ras_core.specs.State.{Running}
 use Rattle.zone_services.specs.Zone.{Zone}
@@ -17,8 +17,8 @@ invariant_of-self g c = (
   c.self.invariant.1,
 )
 
-pub returns-clause-does : goal.returns-clause-does
-returns-clause-does g c =
+pub returns : goal.returns
+returns g c =
     let i = c.self.inside in
     let old =
     running_of i.services i.kept.kept i.clock i.interrogation_number i.next_pool_turn i.steps in

@@ -1,45 +1,82 @@
-use Rattle.std.proofs.Common.{ℕ, List, subst}
+use Rattle.std.proofs.Common.{◌≡◌, ◌∙◌, List, ℕ, Some, None, ap, subst, sym}
 use Rattle.std.specs.Prelude.{Option}
+use Rattle.std.specs.Option.{IsSomeAnd}
+use Rattle.zone_services.specs.declared.change.Conclusion.TheVariants as conclusion
+use Rattle.zone_services.specs.declared.change.Decision.{Decision}
+use Rattle.zone_services.specs.inside.Changes.{IsPossible}
+use Rattle.zone_services.specs.inside.Decisions.{IsConclusion, served}
 use Rattle.zone_services.proofs.Answered.{if_ok_with}
 use Rattle.ras_core.specs.Keeping.{plan_at}
 use Rattle.ras_core.specs.Machine.{Serving}
-use Rattle.ras_core.specs.inside.Serving.{Does}
-use Rattle.ras_core.proofs.Planning.{asks_of, concluded, possible_of}
+use Rattle.ras_core.specs.Steps.{IsUnusedIn}
+use Rattle.ras_core.specs.inside.Courses.{Does, MayBeGiven, resolved}
+use Rattle.ras_core.proofs.Planning.{asks_of, names_of, possible_of}
 use Rattle.ras_core.proofs.machine.Machine.serve.Goals as goal
 
 pub carry_out-requires-clause-possible : goal.carry_out-requires-clause-possible
 carry_out-requires-clause-possible g c =
-    possible_of c.args.self.now.state.zone c.args.now c.args.request c.requires.served
-    c.in-Decided.decision
-    (concluded _ _ c.self.view_is c.args.now c.args.request _ _ c.in-Decided.is
-    c.in_ok-decision.ensures.concludes)
+    let z = c.args.self.now.state.zone in
+    possible_of z c.args.now c.args.task.request c.requires.task.served c.in-Settled.decision
+    (subst (IsConclusion z c.args.now c.args.task.request) c.in-Settled.is
+    c.requires.task.concludes)
+
+pub carry_out-requires-in-Naming-clause-possible : goal.carry_out-requires-in-Naming-clause-possible
+carry_out-requires-in-Naming-clause-possible g c =
+    let z = c.args.self.now.state.zone in
+    let names = names_of z c.args.now c.args.task.request c.requires.task.served
+    c.in-Naming.newcomer (subst (IsConclusion z c.args.now c.args.task.request) c.in-Naming.is
+    c.requires.task.concludes) in
+    let unused = subst (λ (w : Option (List ℕ)). IsSomeAnd w (IsUnusedIn c.args.self.now.state))
+    c.unwrap-id.ensures
+    (subst (λ k. MayBeGiven c.args.self.now.state k c.args.given) c.in-Naming.is
+    c.requires.given) in
+    subst (λ (d : Decision). IsPossible z d.change) (sym c.under.ensures)
+    (names.possible c.unwrap-id.result unused.unused.not_live)
 
 pub ask-requires-clause-may : goal.ask-requires-clause-may
 ask-requires-clause-may g c =
-    (asks_of c.args.self.now.state.zone c.args.now c.args.request c.requires.served
-    c.in-Asked.question
-    (concluded _ _ c.self.view_is c.args.now c.args.request _ _ c.in-Asked.is
-    c.in_ok-decision.ensures.concludes)).may
+    let z = c.args.self.now.state.zone in
+    (asks_of z c.args.now c.args.task.request c.requires.task.served c.in-Asking.question
+    (subst (IsConclusion z c.args.now c.args.task.request) c.in-Asking.is
+    c.requires.task.concludes)).may
 
 pub ask-requires-clause-leg : goal.ask-requires-clause-leg
 ask-requires-clause-leg g c =
-    (asks_of c.args.self.now.state.zone c.args.now c.args.request c.requires.served
-    c.in-Asked.question
-    (concluded _ _ c.self.view_is c.args.now c.args.request _ _ c.in-Asked.is
-    c.in_ok-decision.ensures.concludes)).registered
+    let z = c.args.self.now.state.zone in
+    (asks_of z c.args.now c.args.task.request c.requires.task.served c.in-Asking.question
+    (subst (IsConclusion z c.args.now c.args.task.request) c.in-Asking.is
+    c.requires.task.concludes)).registered
 
-pub returns-in-Decided-clause-does : goal.returns-in-Decided-clause-does
-returns-in-Decided-clause-does g c =
+pub returns-in-Settled-clause-does : goal.returns-in-Settled-clause-does
+returns-in-Settled-clause-does g c =
     let now = c.args.now in
-    let request = c.args.request in
-    let concludes = concluded _ _ c.self.view_is now request _ _ c.in-Decided.is
-    c.in_ok-decision.ensures.concludes in
+    let job = c.args.task.job in
+    let request = c.args.task.request in
+    let z = c.args.self.now.state.zone in
+    let concludes = subst (IsConclusion z now request) c.in-Settled.is c.requires.task.concludes in
     if_ok_with _ _ c.carry_out.result c.carry_out.ensures.does
     (λ outcome does plan planned. subst (λ (id : Option (List ℕ)).
     Does c.args.self.now now (Serving (record {
-      job = c.args.job;
-      dropped = outcome.dropped;
+      job = job;
       request = request;
-      plan = plan_at c.args.job.occasion now id plan;
+      plan = plan_at job.occasion now id plan;
     })) outcome c.carry_out.new.self) c.endpoint_of-endpoint.ensures
-    (does plan request (concludes plan planned)))
+    (does plan request (ap (λ p. resolved p None) (concludes plan planned).is)))
+
+pub returns-in-Naming-clause-does : goal.returns-in-Naming-clause-does
+returns-in-Naming-clause-does g c =
+    let now = c.args.now in
+    let job = c.args.task.job in
+    let request = c.args.task.request in
+    let z = c.args.self.now.state.zone in
+    let id = c.unwrap-id.result in
+    let concludes = subst (IsConclusion z now request) c.in-Naming.is c.requires.task.concludes in
+    if_ok_with _ _ c.carry_out-in-Naming.result c.carry_out-in-Naming.ensures.does
+    (λ outcome does plan planned. subst (λ (endpoint : Option (List ℕ)).
+    Does c.args.self.now now (Serving (record {
+      job = job;
+      request = request;
+      plan = plan_at job.occasion now endpoint plan;
+    })) outcome c.carry_out-in-Naming.new.self) c.endpoint_of-endpoint.ensures
+    (does plan request (ap (λ p. resolved p (Some id)) (concludes plan planned).is
+    ∙ ap (λ (d : Decision). Some (served z now d)) (sym c.under.ensures))))

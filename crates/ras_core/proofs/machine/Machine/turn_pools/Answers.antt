@@ -1,5 +1,5 @@
 use Rattle.std.proofs.Common.{◌≡◌, ◌+◌, ◌∙◌, refl, ap, subst, sym, None}
-use Rattle.expiry.specs.declared.due_item.DueItem.TheVariants.{PoolTurn}
+use Rattle.zone_events.specs.declared.due_item.DueItem.TheVariants.{PoolTurn}
 use Rattle.zone_config.specs.declared.config.ConfigParts.{ConfigParts}
 use Rattle.ras_core.specs.State.{Running}
 use Rattle.zone_services.specs.inside.Parts.{RunningZone}
@@ -10,8 +10,8 @@ use Rattle.ras_core.proofs.Dropping.{born_same}
 use Rattle.ras_core.proofs.Noting.{does_item}
 use Rattle.ras_core.proofs.machine.Machine.turn_pools.Goals as goal
 
-pub returns-clause-does : goal.returns-clause-does
-returns-clause-does g c =
+pub returns : goal.returns
+returns g c =
     let i = c.self.inside in
     let old =
     running_of i.services i.kept.kept i.clock i.interrogation_number i.next_pool_turn i.steps in
@@ -26,7 +26,7 @@ returns-clause-does g c =
     } in
     let now_is = sym c.milliseconds.ensures.same in
     let turn_is =
-    sym (c.pool_turn.ensures.same ∙ ap (λ (config : ConfigParts). config.pool_turn) c.config.ensures
+    sym (c.pool_turn.ensures.same ∙ ap (λ (config : ConfigParts). config.pool_turn) c.config.ensures.same
     ∙ ap (λ (z : RunningZone). z.zone.config.pool_turn) same) in
     does_item old _ c.self.view_is c.args.now PoolTurn c.requires
     None c.noted.result c.noted.ensures new

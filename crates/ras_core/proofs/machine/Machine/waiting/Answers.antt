@@ -3,12 +3,10 @@ use Rattle.std.specs.Option.{option_map}
 use Rattle.std.specs.Map.Iter.{deref_pair}
 use Rattle.std.specs.FinMap as fin
 use Rattle.kept_replies.specs.Kept.{births}
-use Rattle.expiry.specs.declared.due_item.DueItem.TheVariants.{Retry}
 use Rattle.ras_core.specs.declared.job.Occasion.TheVariants.{Again}
 use Rattle.ras_core.specs.inside.Parts.{running_of}
 use Rattle.ras_core.specs.State.{Running}
-use Rattle.ras_core.specs.Turns.{IsDueIn}
-use Rattle.ras_core.specs.inside.Serving.{IsAgain}
+use Rattle.ras_core.specs.inside.Courses.{IsAgain}
 use Rattle.ras_core.proofs.Retrying.{is_again, is_served}
 use Rattle.ras_core.proofs.machine.Machine.waiting.Goals as goal
 
@@ -28,6 +26,4 @@ returns g c =
     (is_again s c.by_born.ensures.sound.births c.args.now c.args.born key entry found
     c.in-Pending.request c.in-Pending.reply c.in-Pending.retry c.in-Pending.left c.in-Pending.is
     c.in_ok-copy.field-0 c.in_ok-copy-2.field-0 c.in_ok-copy.ensures c.in_ok-copy-2.ensures
-    (is_served c.in-Pending.request c.in_default-request.not-Irr)
-    (subst (λ (m : Running). IsDueIn m.state c.args.now (Retry c.args.born))
-    (sym c.self.view_is) c.requires))
+    (is_served c.in-Pending.request c.in_default-request.not-Irr))

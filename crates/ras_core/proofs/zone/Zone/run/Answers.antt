@@ -1,5 +1,5 @@
 use Rattle.std.proofs.Common.{◌∷◌, ◌++◌, [], ap, sym, ◌∙◌, subst, List, take, ◌+◌}
-use Rattle.ras_core.specs.declared.outcome.Outcome.{Outcome}
+use Rattle.zone_events.specs.declared.outcome.Outcome.{Outcome}
 use Rattle.ras_core.specs.Steps.{RunsOn}
 use Rattle.ras_core.proofs.Runs.{runs_on}
 use Rattle.ras_core.proofs.zone.Zone.run.Goals as goal

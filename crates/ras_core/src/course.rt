@@ -1,0 +1,31 @@
+//! What an event calls for.
+
+use crate::job::Job;
+use ras_module::{EndpointId, Request};
+use zone_events::{Datagram, DueItem, IgnoredCause};
+use zone_services::Conclusion;
+
+/// What an event calls for, before anything is done.
+#[derive(Drop)]
+pub enum Course {
+    /// Nothing is done for a datagram.
+    Ignoring(IgnoredCause),
+    /// This endpoint gave a sign of life.
+    Hearing(EndpointId),
+    /// A kept reply is sent again.
+    Repeating(Datagram),
+    /// A request is served.
+    Serving(Task),
+    /// This is due, and is done. It is no request that is served again.
+    Doing(DueItem),
+    /// Nothing is due.
+    Idle,
+}
+
+/// A request that is to be served, and what is concluded about it.
+#[derive(Drop)]
+pub struct Task {
+    pub job: Job,
+    pub request: Request,
+    pub conclusion: Conclusion,
+}

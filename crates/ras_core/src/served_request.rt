@@ -1,0 +1,189 @@
+//! Serving requests: what was concluded is carried out, and its reply is kept.
+
+ghost use Rattle.std.specs.Prelude.{◌≡◌, ◌^◌, All, IfOk, IfSome, None, OnErr, Some};
+ghost use Rattle.ras_module.specs.declared.request.Request.{Request};
+ghost use Rattle.zone_services.specs.Plans.{Plan};
+ghost use Rattle.zone_services.specs.Requests.{endpoint_of, seq_of};
+ghost use Rattle.zone_services.specs.Soundness.{HasCounts};
+ghost use Rattle.zone_services.specs.inside.Changes.{IsPossible, IsRegistered};
+ghost use Rattle.zone_services.specs.inside.Decisions.{Asks, IsQuestion, leg_of_purpose};
+ghost use Rattle.zone_services.specs.inside.Decisions.{served};
+ghost use Rattle.zone_services.specs.inside.Parts.{usage_of};
+ghost use Rattle.ras_core.specs.Keeping.{plan_at};
+ghost use Rattle.ras_core.specs.Machine.{Serving};
+ghost use Rattle.ras_core.specs.Soundness.{AreBornBefore};
+ghost use Rattle.ras_core.specs.Steps.{IsTimely, IsUnusedIn};
+ghost use Rattle.ras_core.specs.inside.Courses.{Does, IsPlacedIn, IsTask, MayBeGiven, Serves};
+ghost use Rattle.ras_core.specs.inside.Courses.{heard_at, resolved};
+
+use crate::course::Task;
+use crate::job::{Job, Occasion};
+use crate::kept_entry::{keep, reserve, state_after};
+use crate::machine::Machine;
+use kept_replies::KeptState;
+use pools::Pool;
+use ras_codec::write_into;
+use ras_module::{EndpointId, Octets, Request};
+use std::alloc::AllocError;
+use zone_config::Moment;
+use zone_events::{Datagram, Outcome};
+use zone_services::{Conclusion, Decision, Question, Services};
+
+/// The octets that are enough for a reply to a request for which a pool is asked.
+const SHORT_REPLY: usize = 64;
+
+impl<P: Pool> Machine<P> {
+    /// Serves a request: what was concluded about it is carried out, and its reply is kept. A new
+    /// endpoint gets the identifier that is given.
+    pub(crate) fn serve(
+        &mut self,
+        now: Moment,
+        task: Task,
+        given: Option<EndpointId>,
+    ) -> Result<Outcome, AllocError>
+        requires counts { All (HasCounts (2 ^ 63)) self.old.state.zone.pools }
+        requires births { AreBornBefore self.old.state.steps self.old.state.kept }
+        requires task { IsTask self.old.state now task }
+        requires timely { IsTimely self.old.state now task.job.occasion }
+        requires given { MayBeGiven self.old.state task.conclusion given }
+        ensures does { IfOk result (λ outcome. Serves self.old now task.job task.request
+            outcome self.new) }
+        ensures err { OnErr result (self.new ≡ self.old) }
+    {
+        let Task {
+            job,
+            request,
+            conclusion,
+        } = task;
+        let endpoint = endpoint_of(&request);
+        match conclusion {
+            Conclusion::Settled(decision) => self.carry_out(now, job, endpoint, decision, None),
+            Conclusion::Naming(newcomer) => {
+                let id = given.unwrap();
+                self.carry_out(now, job, endpoint, newcomer.under(id), Some(id))
+            }
+            Conclusion::Asking(question) => self.ask(now, job, request, question),
+        }
+    }
+
+    /// Does what was decided about a request that names this endpoint, and keeps the reply. All that
+    /// may want memory comes before the first change.
+    fn carry_out(
+        &mut self,
+        now: Moment,
+        job: Job,
+        endpoint: Option<EndpointId>,
+        decision: Decision,
+        given: Option<EndpointId>,
+    ) -> Result<Outcome, AllocError>
+        requires possible { IsPossible self.old.state.zone decision.change }
+        requires unused { IfSome given (IsUnusedIn self.old.state) }
+        requires placed { IsPlacedIn self.old.state job }
+        requires timely { IsTimely self.old.state now job.occasion }
+        requires births { AreBornBefore self.old.state.steps self.old.state.kept }
+        ensures does { IfOk result (λ outcome. (plan : Plan) (request : Request)
+            → resolved plan given ≡ Some (served self.old.state.zone now decision)
+            → Does self.old now (Serving (record {
+              job = job;
+              request = request;
+              plan = plan_at job.occasion now endpoint plan;
+            })) outcome self.new) }
+        ensures err { OnErr result (self.new ≡ self.old) }
+    {
+        let Decision { reply, change } = decision;
+        let output = self.datagram(job.key.source, &reply)?;
+        let term = self.services.config().term(now);
+        let occasion = job.occasion;
+        reserve(&mut self.kept, now.milliseconds(), &job)?;
+        self.services.apply(now, change)?;
+        hear(&mut self.services, occasion, now, endpoint);
+        let until = term.until;
+        keep(&mut self.kept, job, self.steps, KeptState::Done { reply, until });
+        Ok(Outcome {
+            answer: None,
+            output: Some(output),
+            note: occasion.note(),
+            dropped: occasion.dropped(),
+            given,
+        })
+    }
+
+    /// Asks a pool, and does what follows from its answer about a request. The memory is there before
+    /// the pool is asked.
+    fn ask(
+        &mut self,
+        now: Moment,
+        job: Job,
+        request: Request,
+        question: Question,
+    ) -> Result<Outcome, AllocError>
+        requires may { IsQuestion (usage_of self.old.state.zone) question }
+        requires leg { IfSome (leg_of_purpose question.purpose) (IsRegistered self.old.state.zone.live) }
+        requires seq { seq_of request ≡ question.seq }
+        requires counts { All (HasCounts (2 ^ 63)) self.old.state.zone.pools }
+        requires placed { IsPlacedIn self.old.state job }
+        requires timely { IsTimely self.old.state now job.occasion }
+        requires births { AreBornBefore self.old.state.steps self.old.state.kept }
+        ensures does { IfOk result (λ outcome. (plan : Plan)
+            → Asks self.old.state.zone plan question
+            → Does self.old now (Serving (record {
+              job = job;
+              request = request;
+              plan = plan_at job.occasion now (Some question.endpoint) plan;
+            })) outcome self.new) }
+        ensures err { OnErr result (self.new ≡ self.old) }
+    {
+        let config = self.services.config();
+        let _small = config.call_limit();
+        let delay = config.delay();
+        let term = config.term(now);
+        let to = job.key.source;
+        let occasion = job.occasion;
+        let mut bytes = Vec::with_capacity(self.alloc, SHORT_REPLY)?;
+        reserve(&mut self.kept, now.milliseconds(), &job)?;
+        let answer = self.services.ask(&question)?;
+        let heard = Some(question.endpoint);
+        hear(&mut self.services, occasion, now, heard);
+        let waits = occasion.waits(answer);
+        let reply = question.reply(answer, waits, delay);
+        write_into(&reply, &mut bytes).unwrap();
+        let state = state_after(request, reply, waits, term);
+        keep(&mut self.kept, job, self.steps, state);
+        let bytes = Octets::from_vec(bytes);
+        Ok(Outcome {
+            answer: Some(answer),
+            output: Some(Datagram { to, bytes }),
+            note: occasion.note(),
+            dropped: occasion.dropped(),
+            given: None,
+        })
+    }
+}
+
+/// The endpointIdentifier of a request, where it has one.
+fn endpoint_of(request: &Request) -> Option<EndpointId>
+    ensures { result ≡ endpoint_of request.now }
+{
+    match request {
+        Request::Grq { .. } => None,
+        Request::Rrq { endpoint, .. } | Request::Urq { endpoint, .. } => *endpoint,
+        Request::Arq { endpoint, .. }
+        | Request::Brq { endpoint, .. }
+        | Request::Drq { endpoint, .. }
+        | Request::Irr { endpoint, .. } => Some(*endpoint),
+    }
+}
+
+/// Notes that the endpoint was heard that a request names as it comes, if it is registered.
+fn hear<P: Pool>(
+    services: &mut Services<P>,
+    occasion: Occasion,
+    now: Moment,
+    endpoint: Option<EndpointId>,
+)
+    ensures { services.new ≡ heard_at services.old occasion now endpoint }
+{
+    if let Occasion::First { .. } = occasion {
+        services.hear(now, endpoint);
+    }
+}

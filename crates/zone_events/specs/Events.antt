@@ -1,0 +1,22 @@
+-- Events and outcomes.
+use Rattle.std.specs.Prelude.{ℕ, Option, None}
+use Rattle.zone_events.specs.declared.event.Event.{Event}
+use Rattle.zone_events.specs.declared.event.Event.TheVariants as event
+use Rattle.zone_events.specs.declared.outcome.Datagram.{Datagram}
+use Rattle.zone_events.specs.declared.outcome.Note.{Note}
+use Rattle.zone_events.specs.declared.outcome.Outcome.{Outcome}
+
+-- the moment at which it came
+abbrev pub moment_in : Event → ℕ
+moment_in (event.Datagram source bytes moment) = moment
+moment_in (event.Turn moment) = moment
+
+-- what is sent and what happened in a step in which nothing was chosen but, in a turn, the item
+abbrev pub noted_outcome : Note → Option Datagram → Outcome
+noted_outcome what output = record {
+  answer = None;
+  output = output;
+  note = what;
+  dropped = None;
+  given = None;
+}

@@ -1,0 +1,11 @@
+//! What comes to a gatekeeper and what it does in return, as values: events, outcomes, and what can be due.
+//! Whoever only carries them, such as a script or a queue of replies, needs to know no machine.
+#![tactic(auto)]
+
+mod due_item;
+mod event;
+mod outcome;
+
+pub use due_item::DueItem;
+pub use event::Event;
+pub use outcome::{Datagram, IgnoredCause, Note, Outcome};

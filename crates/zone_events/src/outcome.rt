@@ -1,0 +1,80 @@
+//! What a step answers.
+
+ghost use Rattle.std.specs.Prelude.{◌≡◌, None};
+ghost use Rattle.zone_events.specs.Events.{noted_outcome};
+
+use crate::due_item::DueItem;
+use pools::Lend;
+use ras_module::{EndpointId, Octets, Source};
+
+/// Octets that go to an address.
+#[derive(PartialEq, Eq, Debug, Drop)]
+pub struct Datagram {
+    pub to: Source,
+    pub bytes: Octets,
+}
+
+/// Why a datagram was ignored: nothing is sent for it, and nothing but the clock and the number of
+/// steps changes.
+#[derive(Clone, Copy, Debug, PartialEq, Eq)]
+pub enum IgnoredCause {
+    /// It has more than 4,096 octets.
+    TooLong = 1,
+    /// Its octets are no RAS message of the profile.
+    Unreadable = 2,
+    /// It is a message that the gatekeeper doesn't serve.
+    NotServed = 3,
+    /// As many replies are kept as may be, and none of them is over.
+    Busy = 4,
+    /// It is a sign of life of an endpoint that isn't registered.
+    UnknownEndpoint = 5,
+}
+
+/// What happened in a step.
+#[derive(Clone, Copy, PartialEq, Eq)]
+pub enum Note {
+    /// The datagram's request was served, or the endpoint's sign of life was heard.
+    Served,
+    /// The datagram came before: its kept reply was sent again.
+    Kept,
+    /// The datagram was ignored.
+    Ignored(IgnoredCause),
+    /// This was due, and was done.
+    Done(DueItem),
+    /// Nothing was due.
+    Idle,
+}
+
+/// What a step did: what the pool answered that was asked, what is sent, what happened, the birth of
+/// the kept entry that was dropped for a reply, and the identifier that was handed out to a new
+/// endpoint.
+#[derive(PartialEq, Eq, Drop)]
+pub struct Outcome {
+    pub answer: Option<Lend>,
+    pub output: Option<Datagram>,
+    pub note: Note,
+    pub dropped: Option<u64>,
+    pub given: Option<EndpointId>,
+}
+
+impl Outcome {
+    /// The outcome of a step in which no request was served.
+    pub fn noted(note: Note, output: Option<Datagram>) -> Self
+        ensures { result ≡ noted_outcome note output }
+    {
+        Outcome {
+            answer: None,
+            output,
+            note,
+            dropped: None,
+            given: None,
+        }
+    }
+
+    /// The outcome of a step in which a datagram was ignored.
+    pub fn ignored(cause: IgnoredCause) -> Self
+        ensures { result ≡ noted_outcome (Note.Ignored cause) None }
+    {
+        Outcome::noted(Note::Ignored(cause), None)
+    }
+}
