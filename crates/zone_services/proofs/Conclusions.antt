@@ -1,23 +1,20 @@
 -- Decisions about requests.
 use Rattle.std.proofs.Common.{◌≡◌, ◌≤◌, ℕ, Bool, true, false, cond, List, [], ◌∷◌, length, sym, ◌∙◌}
-use Rattle.std.proofs.Common.{ap, refl, Some, None, arith}
+use Rattle.std.proofs.Common.{ap, refl, Some, arith}
 use Rattle.std.specs.Prelude.{Result, Ok, Err, IsOk, MatchResult, ◌<◌, filter, if◌then◌else◌}
-use Rattle.std.specs.Prelude.{Contains, ◌↔◌}
 use Rattle.std.specs.FinMap as fin
 use Rattle.ras_module.specs.declared.alias.Alias.{Alias}
 use Rattle.ras_module.specs.declared.reply.Reply.{Reply}
 use Rattle.ras_module.specs.declared.reason.RegistrationRejectReason.TheVariants as reject
 use reject.{FullRegistrationRequired}
 use Rattle.registrations.specs.declared.registration.Registration.{Registration}
-use Rattle.registrations.specs.Registry.{Live, IsConsistent, IsUnused}
-use Rattle.kept_replies.specs.Kept.{KeptReplies, IsNamed}
-use Rattle.zone_services.specs.Unused.{IsUnusedFor}
+use Rattle.registrations.specs.Registry.{IsConsistent}
 use Rattle.zone_services.specs.declared.change.Change.TheVariants.{Endpoint}
 use Rattle.zone_services.specs.declared.change.EndpointChange.TheVariants.{Renewal}
 use Rattle.zone_services.specs.Zone.{Zone}
 use Rattle.zone_services.specs.Registering.{keep_alive, named, has_moved, confirmation, deadline}
 use Rattle.zone_services.specs.Registering.{RegistrationRequest, rejection}
-use Rattle.zone_services.specs.inside.Decisions.{Decides, resolved, served}
+use Rattle.zone_services.specs.inside.Decisions.{Decides, served}
 use Rattle.zone_services.specs.Plans.{Settled}
 use Rattle.zone_services.proofs.Answered.{is_there}
 
@@ -42,36 +39,21 @@ pub Decides-renewal : (z : Zone) (now : ℕ) (q : RegistrationRequest) (id : Lis
     → q.endpoint ≡ Some id → fin.get z.live id ≡ Some r → has_moved r q.ras ≡ false
     → reply ≡ confirmation z q r.call_signal r.aliases r.identifier → until ≡ deadline z now q
     → Decides z now (keep_alive z now q (named z q.endpoint))
-    (record { reply = reply; given = None; change = Endpoint (Renewal r.identifier until) })
+    (record { reply = reply; change = Endpoint (Renewal r.identifier until) })
 Decides-renewal z now q id r reply until sound names there stays reply_is until_is = record {
   possible = (
     is_there (fin.get z.live r.identifier) r
         (ap (fin.get z.live) (sound.own id r there) ∙ there),
     tt,
   );
-  is = ap (λ plan. resolved plan None) (ap (keep_alive z now q) (ap (named z) names ∙ there)
+  is = ap (keep_alive z now q) (ap (named z) names ∙ there)
       ∙ ap (λ b. if b then rejection z q FullRegistrationRequired else Settled
       (served z now (record {
         reply = confirmation z q r.call_signal r.aliases r.identifier;
-        given = None;
         change = Endpoint (Renewal r.identifier (deadline z now q));
-      }))) stays)
-      ∙ (λ i. Some (served z now (record {
+      }))) stays
+      ∙ (λ i. Settled (served z now (record {
         reply = sym reply_is i;
-        given = None;
         change = Endpoint (Renewal r.identifier (sym until_is i));
       })));
-}
-
--- an identifier that no endpoint has, and none of those that are named, is unused
-pub unused_for : (live : Live) (kept : KeptReplies) (named : List (List ℕ)) (id : List ℕ)
-    → ((id : List ℕ) → Contains named id ↔ IsNamed kept id) → IsUnused live named id
-    → IsUnusedFor live kept id
-unused_for live kept named id iff unused = record {
-  unused = record {
-    not_live = unused.not_live;
-    not_taken = λ none. absurd (omega (arith, none.1));
-    text = unused.text;
-  };
-  unnamed = λ is. unused.not_taken ((iff id).1 is);
 }

@@ -8,6 +8,5 @@ pub mod Admission
 pub mod Bandwidth
 pub mod Disengaging
 pub mod Requests
-pub mod Unused
 pub mod Soundness
 pub mod inside

@@ -4,7 +4,6 @@ use Rattle.std.specs.FinMap.{empty}
 use Rattle.keyed.specs.Maps.{update}
 use Rattle.registrations.specs.Registry.{Live, after_hear}
 use Rattle.admission.specs.Calls.{OpenCalls}
-use Rattle.expiry.specs.declared.times.Times.{Times}
 use Rattle.pools.specs.declared.interface.Figures.{Figures}
 use Rattle.pools.specs.declared.interface.Lend.{Lend}
 use Rattle.zone_config.specs.declared.config.ConfigParts.{ConfigParts}
@@ -40,11 +39,3 @@ heard_now now id live = update live id (after_hear now)
 -- what a pool was asked for last, with its answer
 abbrev pub Last : Type 0
 Last = Option (ℕ × Lend)
-
--- how long an endpoint in a call may be silent
-abbrev pub times_of : ConfigParts → Times
-times_of config = record {
-  silence = config.silence;
-  asks = config.asks;
-  ask_wait = config.ask_wait;
-}

@@ -49,7 +49,6 @@ impl<P: Pool> Services<P> {
         requires call { fin.get self.now.zone.calls q.now.call ≡ Some call.now }
         requires leg { leg_of call.now.legs q.now.endpoint ≡ None }
         ensures decides { Decides self.now.zone now (joining self.now.zone q.now call.now told) result }
-        ensures given { result.given ≡ None }
     {
         if call.legs.are_two() {
             return denial(q, AdmissionRejectReason::ResourceUnavailable);
@@ -75,17 +74,17 @@ impl<P: Pool> Services<P> {
     {
         if self.bandwidth.len() == self.config.calls() {
             let denial = denial(q, AdmissionRejectReason::ResourceUnavailable);
-            return Conclusion::Decided(denial);
+            return Conclusion::Settled(denial);
         }
         let wanted = self.wanted(q.asked);
         if wanted == 0 {
-            return Conclusion::Decided(opening_without_units(q, pool, told));
+            return Conclusion::Settled(opening_without_units(q, pool, told));
         }
         let room = self.room();
         if room == 0 {
-            return Conclusion::Decided(denial(q, AdmissionRejectReason::RequestDenied));
+            return Conclusion::Settled(denial(q, AdmissionRejectReason::RequestDenied));
         }
-        Conclusion::Asked(Question {
+        Conclusion::Asking(Question {
             seq: q.seq,
             endpoint: q.endpoint,
             call: q.call,
@@ -108,7 +107,6 @@ impl<P: Pool> Services<P> {
         ensures decides { Decides self.now.zone now
             (taking_part self.now.zone q.now caller.now call.now
             (leg_of call.now.legs q.now.endpoint)) result }
-        ensures given { result.given ≡ None }
     {
         if let Some(leg) = call.legs.get(&q.endpoint) {
             return Decision::reply(Reply::Acf {
@@ -132,7 +130,7 @@ impl<P: Pool> Services<P> {
         ensures about { IsFor q.now.seq (Some q.now.endpoint) result }
     {
         match self.destination(q, caller) {
-            None => Conclusion::Decided(denial(q, AdmissionRejectReason::CalledPartyNotRegistered)),
+            None => Conclusion::Settled(denial(q, AdmissionRejectReason::CalledPartyNotRegistered)),
             Some(told) => self.make(now, q, self.pool_of(caller.call_signal), told),
         }
     }
@@ -152,10 +150,10 @@ impl<P: Pool> Services<P> {
     {
         let Some(caller) = self.endpoints.get(&q.endpoint) else {
             let denial = denial(q, AdmissionRejectReason::InvalidEndpointIdentifier);
-            return Conclusion::Decided(denial);
+            return Conclusion::Settled(denial);
         };
         match self.bandwidth.get(&q.call) {
-            Some(call) => Conclusion::Decided(self.enter_call(now, q, caller, call)),
+            Some(call) => Conclusion::Settled(self.enter_call(now, q, caller, call)),
             None => self.make_call(now, q, caller),
         }
     }
@@ -165,7 +163,6 @@ impl<P: Pool> Services<P> {
 fn denial(q: &Admission<'_>, reason: AdmissionRejectReason) -> Decision
     ensures { result ≡ record {
       reply = Reply.Arj q.now.seq reason;
-      given = None;
       change = Change.Nothing;
     } }
 {
@@ -186,7 +183,6 @@ fn leg_told(q: &Admission<'_>, told: Address) -> Leg
 fn opening_without_units(q: &Admission<'_>, pool: usize, told: Address) -> Decision
     ensures { result ≡ record {
       reply = Reply.Acf q.now.seq 0 told;
-      given = None;
       change = Change.Calls (CallChange.Opening q.now.call pool (leg_told q.now told));
     } }
 {

@@ -24,14 +24,14 @@ impl<P: Pool> Services<P> {
         let _backed = self.bandwidth.len();
         let wanted = self.wanted(q.asked);
         if wanted <= call.units {
-            return Conclusion::Decided(lowering(q, call, wanted));
+            return Conclusion::Settled(lowering(q, call, wanted));
         }
         let room = self.room();
         if room == 0 {
             let reason = BandRejectReason::InsufficientResources;
-            return Conclusion::Decided(rejection(q, reason, call.units));
+            return Conclusion::Settled(rejection(q, reason, call.units));
         }
-        Conclusion::Asked(Question {
+        Conclusion::Asking(Question {
             seq: q.seq,
             endpoint: q.endpoint,
             call: q.call,
@@ -47,13 +47,13 @@ impl<P: Pool> Services<P> {
         ensures about { IsFor q.now.seq (Some q.now.endpoint) result }
     {
         if self.endpoints.get(&q.endpoint).is_none() {
-            return Conclusion::Decided(rejection(q, BandRejectReason::NotBound, 0));
+            return Conclusion::Settled(rejection(q, BandRejectReason::NotBound, 0));
         }
         let Some(call) = self.bandwidth.get(&q.call) else {
-            return Conclusion::Decided(rejection(q, BandRejectReason::InvalidConferenceId, 0));
+            return Conclusion::Settled(rejection(q, BandRejectReason::InvalidConferenceId, 0));
         };
         if call.legs.get(&q.endpoint).is_none() {
-            return Conclusion::Decided(rejection(q, BandRejectReason::InvalidConferenceId, 0));
+            return Conclusion::Settled(rejection(q, BandRejectReason::InvalidConferenceId, 0));
         }
         self.resize(now, q, call)
     }
@@ -63,7 +63,6 @@ impl<P: Pool> Services<P> {
 fn rejection(q: &BandwidthChange, reason: BandRejectReason, allowed: u32) -> Decision
     ensures { result ≡ record {
       reply = Reply.Brj q.now.seq reason allowed;
-      given = None;
       change = Change.Nothing;
     } }
 {
@@ -79,7 +78,6 @@ fn lowering(q: &BandwidthChange, call: &Call, units: u32) -> Decision
     requires { units ≤ call.now.units }
     ensures { result ≡ record {
       reply = Reply.Bcf q.now.seq units;
-      given = None;
       change = Change.Calls
           (CallChange.Lowering q.now.call units call.now.pool (call.now.units - units));
     } }

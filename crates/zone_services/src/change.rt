@@ -1,15 +1,18 @@
 //! What is decided about a request, before anything changes.
 
-ghost use Rattle.std.specs.Prelude.{◌≡◌, None};
-ghost use Rattle.zone_services.specs.inside.Decisions.{granted_reply, refused_reply, reply_of, IsAnswered, IsBandWidth};
+ghost use Rattle.std.specs.Prelude.{◌≡◌};
+ghost use Rattle.zone_services.specs.inside.Decisions.{decision_under, granted_reply, refused_reply, reply_of};
+ghost use Rattle.zone_services.specs.inside.Decisions.{IsAnswered, IsBandWidth};
 
 use crate::registering::Entry;
 use admission::Leg;
 use pools::Lend;
 use ras_module::{
-    AdmissionRejectReason, BandRejectReason, CallKey, Delay, EndpointId, Reply, RequestSeqNum,
+    AdmissionRejectReason, BandRejectReason, CallKey, Delay, EndpointId, Name, Reply, ReplyAliases,
+    RequestSeqNum, TimeToLive,
 };
 use registrations::Registration;
+use zone_config::Moment;
 
 /// What a request changes among the endpoints.
 #[derive(Drop)]
@@ -43,34 +46,78 @@ pub enum Change {
     Calls(CallChange),
 }
 
-/// What a request is answered and changes, and the new identifier that is handed out for it.
+/// The reply to a request, and what it changes.
 #[derive(Drop)]
 pub struct Decision {
     pub reply: Reply,
-    pub given: Option<EndpointId>,
     pub change: Change,
 }
 
 impl Decision {
     /// A reply, and nothing changes.
     pub fn reply(reply: Reply) -> Self
-        ensures { result ≡ record { reply = reply; given = None; change = Change.Nothing } }
+        ensures { result ≡ record { reply = reply; change = Change.Nothing } }
     {
         Decision {
             reply,
-            given: None,
             change: Change::Nothing,
         }
     }
 
     /// A reply to a request that changes the calls.
     pub fn calls(reply: Reply, change: CallChange) -> Self
-        ensures { result ≡ record { reply = reply; given = None; change = Change.Calls change } }
+        ensures { result ≡ record { reply = reply; change = Change.Calls change } }
     {
         Decision {
             reply,
-            given: None,
             change: Change::Calls(change),
+        }
+    }
+}
+
+/// A new endpoint: what its registration and its RegistrationConfirm need, but for the identifier.
+#[derive(Drop)]
+pub struct Newcomer {
+    pub seq: RequestSeqNum,
+    pub entry: Entry,
+    /// The aliases that the RegistrationConfirm tells.
+    pub told: ReplyAliases,
+    pub gatekeeper: Name,
+    pub granted: TimeToLive,
+    /// When the registration ends, in milliseconds.
+    pub deadline: u64,
+    pub heard: Moment,
+}
+
+impl Newcomer {
+    /// The registration under this identifier, with its RegistrationConfirm.
+    pub fn under(self, identifier: EndpointId) -> Decision
+        ensures { result ≡ decision_under self identifier }
+    {
+        let Entry {
+            call_signal,
+            ras,
+            aliases,
+        } = self.entry;
+        Decision {
+            reply: Reply::Rcf {
+                seq: self.seq,
+                call_signal,
+                aliases: self.told,
+                gatekeeper: self.gatekeeper,
+                endpoint: identifier,
+                granted: self.granted,
+            },
+            change: Change::Endpoint(EndpointChange::Addition(Registration {
+                identifier,
+                call_signal,
+                ras,
+                aliases,
+                deadline: self.deadline,
+                heard: self.heard.milliseconds(),
+                tries: 0,
+                asked: 0,
+            })),
         }
     }
 }
@@ -151,9 +198,11 @@ impl Question {
     }
 }
 
-/// How a request goes on: it is decided, or a pool is asked first.
+/// How a request goes on: it is settled; or an unused identifier is chosen for a new endpoint; or a
+/// pool is asked for units.
 #[derive(Drop)]
 pub enum Conclusion {
-    Decided(Decision),
-    Asked(Question),
+    Settled(Decision),
+    Naming(Newcomer),
+    Asking(Question),
 }

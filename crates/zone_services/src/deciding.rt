@@ -2,35 +2,29 @@
 
 ghost use Rattle.std.specs.Prelude.{IfOk};
 ghost use Rattle.zone_services.specs.Requests.{HasReply, endpoint_of, seq_of};
-ghost use Rattle.zone_services.specs.inside.Decisions.{IsAbout, IsAboutCalls, IsConclusion, IsFor};
+ghost use Rattle.zone_services.specs.inside.Decisions.{IsAboutCalls, IsConclusion, IsFor};
 
 use crate::calling::{Admission, BandwidthChange, Disengagement};
 use crate::change::{Conclusion, Decision};
 use crate::registering::{Registering, Unregistering};
 use crate::services::Services;
-use kept_replies::Kept;
 use pools::Pool;
 use ras_module::Request;
 use std::alloc::AllocError;
 use zone_config::Moment;
 
 impl<P: Pool> Services<P> {
-    /// What is decided about a request, where these replies are kept: by look-ups alone, so that
-    /// nothing has changed yet. An InfoRequestResponse is no request that is answered.
-    pub fn decide(
-        &self,
-        now: Moment,
-        request: &Request,
-        kept: &Kept,
-    ) -> Result<Conclusion, AllocError>
+    /// What is concluded about a request, without changing anything. An InfoRequestResponse is no
+    /// request that has a reply.
+    pub fn decide(&self, now: Moment, request: &Request) -> Result<Conclusion, AllocError>
         requires { HasReply request.now }
         ensures concludes { IfOk result (IsConclusion self.now.zone now request.now) }
-        ensures about { IfOk result (IsAbout self.now.zone.live kept.now.kept request.now) }
+        ensures about { IfOk result (IsFor (seq_of request.now) (endpoint_of request.now)) }
     {
         match request {
             Request::Grq { seq, gatekeeper } => {
                 let decision = Decision::reply(self.discover(*seq, gatekeeper));
-                Ok(Conclusion::Decided(decision))
+                Ok(Conclusion::Settled(decision))
             }
             Request::Rrq {
                 seq,
@@ -52,7 +46,7 @@ impl<P: Pool> Services<P> {
                     keep_alive: *keep_alive,
                     endpoint: *endpoint,
                 };
-                Ok(Conclusion::Decided(self.register(now, &q, kept)?))
+                self.register(now, &q)
             }
             Request::Urq {
                 seq,
@@ -64,7 +58,7 @@ impl<P: Pool> Services<P> {
                     call_signal: *call_signal,
                     endpoint: *endpoint,
                 };
-                Ok(Conclusion::Decided(self.unregister(now, &q)))
+                Ok(Conclusion::Settled(self.unregister(now, &q)))
             }
             _ => Ok(self.decide_call(now, request)),
         }
@@ -121,7 +115,7 @@ impl<P: Pool> Services<P> {
                     endpoint: *endpoint,
                     call: *call,
                 };
-                Conclusion::Decided(self.disengage(now, &q))
+                Conclusion::Settled(self.disengage(now, &q))
             }
             _ => unreachable!(),
         }

@@ -15,7 +15,6 @@ impl<P: Pool> Services<P> {
     /// What is decided about a DisengageRequest.
     pub(crate) fn disengage(&self, now: Moment, q: &Disengagement) -> Decision
         ensures decides { Decides self.now.zone now (disengagement self.now.zone q.now) result }
-        ensures given { result.given ≡ None }
     {
         if self.endpoints.get(&q.endpoint).is_none() {
             return rejection(q, DisengageRejectReason::NotRegistered);
@@ -34,7 +33,6 @@ impl<P: Pool> Services<P> {
 fn rejection(q: &Disengagement, reason: DisengageRejectReason) -> Decision
     ensures { result ≡ record {
       reply = Reply.Drj q.now.seq reason;
-      given = None;
       change = Change.Nothing;
     } }
 {

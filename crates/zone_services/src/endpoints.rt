@@ -4,10 +4,9 @@ ghost use Rattle.std.specs.Prelude.{◌≡◌, ◌≤◌, ◌<◌, [], IsSome, I
 ghost use Rattle.std.specs.Option.{option_copied, IsSomeAnd};
 ghost use Rattle.std.specs.FinMap as map;
 ghost use Rattle.keyed.specs.Maps.{update};
-ghost use Rattle.registrations.specs.Registry.{at_address, IsConsistent, IsListOf, after_ask, after_calm, with_deadline};
+ghost use Rattle.registrations.specs.Registry.{at_address, IsConsistent, IsListOf, IsUnused, after_ask, after_calm, with_deadline};
 ghost use Rattle.registrations.specs.Agreement.{registered_elsewhere};
 ghost use Rattle.zone_services.specs.Zone.{heard_now};
-ghost use Rattle.zone_services.specs.Unused.{IsUnusedFor};
 ghost use Rattle.zone_services.specs.Admission.{registered_with, translation};
 ghost use Rattle.zone_services.specs.inside.Changes.{IsAddable, IsEndpointChange, IsRewritable, after_endpoint_change};
 ghost use Rattle.zone_services.specs.Soundness.{HaveAliasesApart};
@@ -15,7 +14,6 @@ ghost use Rattle.zone_services.specs.Soundness.{HaveAliasesApart};
 use crate::change::EndpointChange;
 use crate::registering::Entry;
 use aliases::AliasTable;
-use kept_replies::Kept;
 use ras_module::{Address, Alias, AliasList, EndpointId};
 use registrations::{Registration, RegistrationList, Registrations};
 use std::alloc::{AllocError, Global};
@@ -109,12 +107,11 @@ impl Endpoints {
         self.registrations.get(self.aliases.holder(alias)?)
     }
 
-    /// An identifier that may be handed out, where these replies are kept.
-    pub fn unused(&self, kept: &Kept) -> Result<EndpointId, AllocError>
-        ensures { IfOk result (IsUnusedFor self.now.live kept.now.kept) }
+    /// An identifier that no endpoint has, and that is not taken: any such one.
+    pub fn unused(&self, taken: &[EndpointId]) -> EndpointId
+        ensures { IsUnused self.now.live taken.now result }
     {
-        let named = kept.identifiers()?;
-        Ok(self.registrations.unused(&named))
+        self.registrations.unused(taken)
     }
 
     /// Copies, by rising identifier.

@@ -17,6 +17,8 @@ mod registration;
 mod services;
 mod unregistration;
 
-pub use change::{CallChange, Change, Conclusion, Decision, EndpointChange, Purpose, Question};
+pub use change::{
+    CallChange, Change, Conclusion, Decision, EndpointChange, Newcomer, Purpose, Question,
+};
 pub use registering::Entry;
 pub use services::Services;

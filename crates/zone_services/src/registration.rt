@@ -1,18 +1,16 @@
 //! Registration of endpoints.
 
-ghost use Rattle.std.specs.Prelude.{◌≡◌, IfOk, IfSome, None, []};
+ghost use Rattle.std.specs.Prelude.{◌≡◌, IfOk, []};
 ghost use Rattle.ras_module.specs.Aliases.{without_doubles};
 ghost use Rattle.registrations.specs.Registry.{at_address};
 ghost use Rattle.registrations.specs.Agreement.{registered_elsewhere};
 ghost use Rattle.zone_services.specs.Registering.{confirmation, deadline, granted, has_moved};
 ghost use Rattle.zone_services.specs.Registering.{entering, full_registration, keep_alive, named, registration};
-ghost use Rattle.zone_services.specs.inside.Decisions.{Decides};
-ghost use Rattle.zone_services.specs.Unused.{IsUnusedFor};
+ghost use Rattle.zone_services.specs.inside.Decisions.{Concludes, Decides, IsFor};
 
-use crate::change::{Change, Decision, EndpointChange};
+use crate::change::{Change, Conclusion, Decision, EndpointChange, Newcomer};
 use crate::registering::{Entry, Registering};
 use crate::services::Services;
-use kept_replies::Kept;
 use pools::Pool;
 use ras_module::{Address, EndpointId, RegistrationRejectReason, Reply, ReplyAliases, TimeToLive};
 use registrations::Registration;
@@ -60,8 +58,7 @@ impl<P: Pool> Services<P> {
 
     /// A registration is kept alive where it is known and the endpoint hasn't moved.
     fn keep_alive(&self, now: Moment, q: &Registering<'_>) -> Result<Decision, AllocError>
-        ensures given { IfOk result (λ d. d.given ≡ None) }
-        ensures decides { IfOk result (Decides self.now.zone now
+        ensures { IfOk result (Decides self.now.zone now
             (keep_alive self.now.zone now q.now (named self.now.zone q.now.endpoint))) }
     {
         let Some(id) = q.endpoint else {
@@ -75,43 +72,36 @@ impl<P: Pool> Services<P> {
         }
         Ok(Decision {
             reply: self.confirmation(q, r.call_signal, r.aliases.copy()?, r.identifier),
-            given: None,
             change: Change::Endpoint(EndpointChange::Renewal(r.identifier, self.deadline(now, q))),
         })
     }
 
     /// A full registration.
-    fn register_fully(
-        &self,
-        now: Moment,
-        q: &Registering<'_>,
-        kept: &Kept,
-    ) -> Result<Decision, AllocError>
-        ensures decides { IfOk result (Decides self.now.zone now
+    fn register_fully(&self, now: Moment, q: &Registering<'_>) -> Result<Conclusion, AllocError>
+        ensures concludes { IfOk result (Concludes self.now.zone now
             (full_registration self.now.zone now q.now q.now.call_signal q.now.ras
             (without_doubles q.now.aliases))) }
-        ensures unused { IfOk result (λ d.
-            IfSome d.given (IsUnusedFor self.now.zone.live kept.now.kept)) }
+        ensures about { IfOk result (IsFor q.now.seq q.now.endpoint) }
     {
         let Some(call_signal) = q.call_signal else {
-            return Ok(rejection(q, RegistrationRejectReason::InvalidCallSignalAddress));
+            return Ok(rejected(q, RegistrationRejectReason::InvalidCallSignalAddress));
         };
         let Some(ras) = q.ras else {
-            return Ok(rejection(q, RegistrationRejectReason::InvalidRasAddress));
+            return Ok(rejected(q, RegistrationRejectReason::InvalidRasAddress));
         };
         let Ok(aliases) = ReplyAliases::new(q.aliases.distinct()?) else {
-            return Ok(rejection(q, RegistrationRejectReason::ResourceUnavailable));
+            return Ok(rejected(q, RegistrationRejectReason::ResourceUnavailable));
         };
         let held = self.conflicts(&aliases, call_signal)?;
         if !held.as_slice().is_empty() {
-            return Ok(rejection(q, RegistrationRejectReason::DuplicateAlias(held)));
+            return Ok(rejected(q, RegistrationRejectReason::DuplicateAlias(held)));
         }
         let entry = Entry {
             call_signal,
             ras,
             aliases,
         };
-        self.enter(now, q, entry, kept)
+        self.enter(now, q, entry)
     }
 
     /// Those of the aliases that endpoints with another call signal address hold.
@@ -133,55 +123,52 @@ impl<P: Pool> Services<P> {
         now: Moment,
         q: &Registering<'_>,
         entry: Entry,
-        kept: &Kept,
-    ) -> Result<Decision, AllocError>
+    ) -> Result<Conclusion, AllocError>
         requires { registered_elsewhere self.now.zone.live entry.call_signal entry.aliases ≡ [] }
-        ensures decides { IfOk result (Decides self.now.zone now (entering self.now.zone now q.now entry
+        ensures concludes { IfOk result (Concludes self.now.zone now
+            (entering self.now.zone now q.now entry
             (at_address self.now.zone.live entry.call_signal))) }
-        ensures unused { IfOk result (λ d.
-            IfSome d.given (IsUnusedFor self.now.zone.live kept.now.kept)) }
+        ensures about { IfOk result (IsFor q.now.seq q.now.endpoint) }
     {
         let told = entry.aliases.copy()?;
         let deadline = self.deadline(now, q);
         if let Some(r) = self.endpoints.by_address(entry.call_signal) {
-            return Ok(Decision {
+            return Ok(Conclusion::Settled(Decision {
                 reply: self.confirmation(q, entry.call_signal, told, r.identifier),
-                given: None,
                 change: Change::Endpoint(EndpointChange::Rewriting(r.identifier, entry, deadline)),
-            });
+            }));
         }
         if self.endpoints.len() == self.config.endpoints() {
-            return Ok(rejection(q, RegistrationRejectReason::ResourceUnavailable));
+            return Ok(rejected(q, RegistrationRejectReason::ResourceUnavailable));
         }
-        let identifier = self.endpoints.unused(kept)?;
-        Ok(Decision {
-            reply: self.confirmation(q, entry.call_signal, told, identifier),
-            given: Some(identifier),
-            change: Change::Endpoint(EndpointChange::Addition(new_registration(
-                now, entry, identifier, deadline,
-            ))),
-        })
+        Ok(Conclusion::Naming(Newcomer {
+            seq: q.seq,
+            entry,
+            told,
+            gatekeeper: self.config.parts().identifier,
+            granted: self.granted(q.time_to_live),
+            deadline,
+            heard: now,
+        }))
     }
 
-    /// What is decided about a RegistrationRequest, where these replies are kept.
+    /// What is concluded about a RegistrationRequest.
     pub(crate) fn register(
         &self,
         now: Moment,
         q: &Registering<'_>,
-        kept: &Kept,
-    ) -> Result<Decision, AllocError>
-        ensures decides { IfOk result (Decides self.now.zone now
+    ) -> Result<Conclusion, AllocError>
+        ensures concludes { IfOk result (Concludes self.now.zone now
             (registration self.now.zone now q.now)) }
-        ensures unused { IfOk result (λ d.
-            IfSome d.given (IsUnusedFor self.now.zone.live kept.now.kept)) }
+        ensures about { IfOk result (IsFor q.now.seq q.now.endpoint) }
     {
         if self.is_foreign(&q.gatekeeper) {
-            return Ok(rejection(q, RegistrationRejectReason::DiscoveryRequired));
+            return Ok(rejected(q, RegistrationRejectReason::DiscoveryRequired));
         }
         if q.keep_alive {
-            self.keep_alive(now, q)
+            Ok(Conclusion::Settled(self.keep_alive(now, q)?))
         } else {
-            self.register_fully(now, q, kept)
+            self.register_fully(now, q)
         }
     }
 }
@@ -190,11 +177,20 @@ impl<P: Pool> Services<P> {
 fn rejection(q: &Registering<'_>, reason: RegistrationRejectReason) -> Decision
     ensures { result ≡ record {
       reply = Reply.Rrj q.now.seq reason;
-      given = None;
       change = Change.Nothing;
     } }
 {
     Decision::reply(Reply::Rrj { seq: q.seq, reason })
+}
+
+/// A request that is settled by a RegistrationReject.
+fn rejected(q: &Registering<'_>, reason: RegistrationRejectReason) -> Conclusion
+    ensures { result ≡ Conclusion.Settled (record {
+      reply = Reply.Rrj q.now.seq reason;
+      change = Change.Nothing;
+    }) }
+{
+    Conclusion::Settled(rejection(q, reason))
 }
 
 /// Whether an address was given that is not the endpoint's.
@@ -204,35 +200,5 @@ fn has_moved(r: &Registration, ras: Option<Address>) -> bool
     match ras {
         None => false,
         Some(ras) => ras != r.ras,
-    }
-}
-
-/// The registration of an endpoint that is new, and was heard now.
-fn new_registration(
-    now: Moment,
-    entry: Entry,
-    identifier: EndpointId,
-    deadline: u64,
-) -> Registration
-    ensures { result ≡ record {
-      identifier = identifier;
-      call_signal = entry.call_signal;
-      ras = entry.ras;
-      aliases = entry.aliases;
-      deadline = deadline;
-      heard = now;
-      tries = 0;
-      asked = 0;
-    } }
-{
-    Registration {
-        identifier,
-        call_signal: entry.call_signal,
-        ras: entry.ras,
-        aliases: entry.aliases,
-        deadline,
-        heard: now.milliseconds(),
-        tries: 0,
-        asked: 0,
     }
 }

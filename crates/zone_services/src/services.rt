@@ -1,16 +1,14 @@
 //! The zone: its endpoints and its calls, under its settings.
 
-ghost use Rattle.std.specs.Prelude.{◌≡◌, ◌<◌, ◌≤◌, ◌^◌, All, IfOk, IfSome, IsTrue, MatchOption, OnErr, OnOk, Some, length, map};
+ghost use Rattle.std.specs.Prelude.{◌≡◌, ◌<◌, ◌≤◌, ◌^◌, All, IfOk, IfSome, IsTrue, OnErr, OnOk, Some, length, map};
 ghost use Rattle.std.specs.Option.{IsSomeAnd, option_copied};
 ghost use Rattle.std.specs.FinMap as fin;
 ghost use Rattle.keyed.specs.Maps.{update};
-ghost use Rattle.registrations.specs.Registry.{IsListOf, after_ask};
+ghost use Rattle.registrations.specs.Registry.{IsListOf, IsUnused, after_ask};
 ghost use Rattle.admission.specs.Calls.{EachLeg, in_use};
 ghost use Rattle.zone_services.specs.inside.Leaving.{AreSameButLent, IsOther};
 ghost use Rattle.pools.specs.Account.{IsAnswer, is_idle};
-ghost use Rattle.expiry.specs.Due.{IsDue, IsNothingDue};
 ghost use Rattle.zone_services.specs.Zone.{empty_zone, with_live};
-ghost use Rattle.zone_services.specs.Zone.{times_of};
 ghost use Rattle.zone_services.specs.Disengaging.{without_endpoint, without_legs_of, without_silent};
 ghost use Rattle.zone_services.specs.Pools.{figures_at, figures_of, figures_without_loans, lasts_of};
 ghost use Rattle.zone_services.specs.Pools.{pools_after_answer};
@@ -25,12 +23,10 @@ ghost use Rattle.zone_services.specs.Soundness.{HasCounts, SoundZone};
 use crate::bandwidth::Bandwidth;
 use crate::change::{Change, Question};
 use crate::endpoints::Endpoints;
-use admission::CallList;
-use expiry::{DueItem, Times, due};
-use kept_replies::Kept;
+use admission::{CallList, Calls};
 use pools::{Lend, Pool, PoolSet};
 use ras_module::EndpointId;
-use registrations::{Registration, RegistrationList};
+use registrations::{Registration, RegistrationList, Registrations};
 use std::alloc::{AllocError, Global};
 use std::marker::Model;
 use zone_config::{Config, Moment};
@@ -39,7 +35,6 @@ use zone_config::{Config, Moment};
 /// endpoint is registered.
 #[derive(Drop)]
 pub struct Services<P: Pool> {
-    alloc: Global,
     pub(crate) config: Config,
     pub(crate) endpoints: Endpoints,
     pub(crate) bandwidth: Bandwidth<P>,
@@ -80,7 +75,6 @@ impl<P: Pool> Services<P> {
         let endpoints = Endpoints::new(alloc, config.endpoints());
         let bandwidth = Bandwidth::new(alloc, &config, pools);
         Services {
-            alloc,
             config,
             endpoints,
             bandwidth,
@@ -97,29 +91,34 @@ impl<P: Pool> Services<P> {
         self.endpoints.len()
     }
 
-    /// Where what the zone keeps has its memory from.
-    pub fn allocator(&self) -> Global {
-        self.alloc
-    }
-
     /// The settings.
     pub fn config(&self) -> &Config
-        ensures { result.now ≡ self.now.zone.config }
+        ensures same { result.now ≡ self.now.zone.config }
+        ensures asks { self.now.zone.config.asks ≤ 16 }
     {
+        let _ranges = self.config.parts();
         &self.config
     }
 
-    /// How long an endpoint in a call may be silent.
-    pub fn times(&self) -> Times
-        ensures same { result ≡ times_of self.now.zone.config }
-        ensures asks { result.asks ≤ 16 }
+    /// The table of the registrations.
+    pub fn registrations(&self) -> &Registrations
+        ensures { result.now.live ≡ self.now.zone.live }
     {
-        let parts = self.config.parts();
-        Times {
-            silence: parts.silence,
-            asks: parts.asks as u8,
-            ask_wait: parts.ask_wait,
-        }
+        self.endpoints.table()
+    }
+
+    /// The table of the calls.
+    pub fn call_table(&self) -> &Calls
+        ensures { result.now.calls ≡ self.now.zone.calls }
+    {
+        self.bandwidth.table()
+    }
+
+    /// An identifier that no endpoint has, and that is not taken: any such one.
+    pub fn unused(&self, taken: &[EndpointId]) -> EndpointId
+        ensures { IsUnused self.now.zone.live taken.now result }
+    {
+        self.endpoints.unused(taken)
     }
 
     /// The endpoint that is registered under this identifier.
@@ -200,28 +199,6 @@ impl<P: Pool> Services<P> {
     {
         self.bandwidth.reserve()?;
         Ok(self.bandwidth.ask(question))
-    }
-
-    /// Something that is due, where these replies are kept and the pools' next turn is at this
-    /// moment.
-    pub fn due(&self, kept: &Kept, now: Moment, next_pool_turn: u64) -> Option<DueItem>
-        ensures { MatchOption result
-            (IsNothingDue now next_pool_turn (times_of self.now.zone.config) self.now.zone.live
-            self.now.zone.calls kept.now.kept)
-            (IsDue now next_pool_turn (times_of self.now.zone.config) self.now.zone.live
-            self.now.zone.calls kept.now.kept) }
-    {
-        let endpoints = self.endpoints.table();
-        let calls = self.bandwidth.table();
-        let times = self.times();
-        due(
-            endpoints,
-            calls,
-            kept,
-            now.milliseconds(),
-            next_pool_turn,
-            &times,
-        )
     }
 
     /// An endpoint leaves all its calls.

@@ -29,7 +29,6 @@ impl<P: Pool> Services<P> {
     /// What is decided about an UnregistrationRequest.
     pub(crate) fn unregister(&self, now: Moment, q: &Unregistering) -> Decision
         ensures decides { Decides self.now.zone now (unregistration self.now.zone q.now) result }
-        ensures given { result.given ≡ None }
     {
         let Some(id) = self.leaving(q) else {
             return rejection(q, UnregRejectReason::NotCurrentlyRegistered);
@@ -39,7 +38,6 @@ impl<P: Pool> Services<P> {
         }
         Decision {
             reply: Reply::Ucf { seq: q.seq },
-            given: None,
             change: Change::Endpoint(EndpointChange::Removal(id)),
         }
     }
@@ -49,7 +47,6 @@ impl<P: Pool> Services<P> {
 fn rejection(q: &Unregistering, reason: UnregRejectReason) -> Decision
     ensures { result ≡ record {
       reply = Reply.Urj q.now.seq reason;
-      given = None;
       change = Change.Nothing;
     } }
 {

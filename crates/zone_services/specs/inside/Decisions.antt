@@ -6,15 +6,17 @@ use Rattle.keyed.specs.Maps.{update}
 use Rattle.ras_module.specs.declared.reason.AdmissionRejectReason.TheVariants.{RequestDenied}
 use Rattle.ras_module.specs.declared.reason.BandRejectReason.TheVariants.{InsufficientResources}
 use Rattle.ras_module.specs.declared.reply.Reply.{Reply}
-use Rattle.ras_module.specs.declared.reply.Reply.TheVariants.{Acf, Arj, Bcf, Brj, Rip}
+use Rattle.ras_module.specs.declared.reply.Reply.TheVariants.{Acf, Arj, Bcf, Brj, Rcf, Rip}
 use Rattle.ras_module.specs.declared.request.Request.{Request}
 use Rattle.ras_module.specs.declared.request.Request.TheVariants.{Arq, Brq, Drq}
-use Rattle.registrations.specs.Registry.{Live}
-use Rattle.kept_replies.specs.Kept.{KeptReplies}
+use Rattle.registrations.specs.declared.registration.Registration.{Registration}
 use Rattle.admission.specs.declared.call.Call.{Call}
 use Rattle.admission.specs.declared.leg.Leg.{Leg}
 use Rattle.admission.specs.Calls.{CallTable, OpenCalls, in_use, new_call, with_units}
+use Rattle.zone_services.specs.declared.change.Change.TheVariants.{Endpoint}
+use Rattle.zone_services.specs.declared.change.EndpointChange.TheVariants.{Addition}
 use Rattle.zone_services.specs.declared.change.Decision.{Decision}
+use Rattle.zone_services.specs.declared.change.Newcomer.{Newcomer}
 use Rattle.zone_services.specs.declared.change.Purpose.{Purpose}
 use Rattle.zone_services.specs.declared.change.Purpose.TheVariants as purpose
 use Rattle.zone_services.specs.declared.change.Question.{Question}
@@ -23,8 +25,7 @@ use Rattle.zone_services.specs.declared.change.Conclusion.TheVariants as conclus
 use Rattle.pools.specs.declared.interface.Lend.{Lend}
 use Rattle.pools.specs.declared.interface.Lend.TheVariants.{Lent, Refused, Wait}
 use Rattle.zone_services.specs.Zone.{Zone, with_calls}
-use Rattle.zone_services.specs.Requests.{endpoint_of, plan_of, seq_of}
-use Rattle.zone_services.specs.Unused.{IsUnusedFor}
+use Rattle.zone_services.specs.Requests.{plan_of}
 use Rattle.zone_services.specs.inside.Parts.{Usage, usage_of}
 use Rattle.zone_services.specs.Plans.{Served, Ask, Plan, Settled, Naming, Asking, unchanged}
 use Rattle.zone_services.specs.inside.Changes.{after_change, IsOpenable, IsRegistered, IsPossible}
@@ -33,19 +34,37 @@ use Rattle.zone_services.specs.inside.Changes.{after_change, IsOpenable, IsRegis
 abbrev pub served : Zone → ℕ → Decision → Served
 served z now d = record { reply = d.reply; zone = after_change now d.change z }
 
--- the way in which a request is served, where no pool is asked and the identifier is handed out
--- that is called for
-abbrev pub resolved : Plan → Option (List ℕ) → Option Served
-resolved (Settled served) None = Some served
-resolved (Settled served) (Some id) = None
-resolved (Naming named) None = None
-resolved (Naming named) (Some id) = Some (named id)
-resolved (Asking ask lent refused) given = None
-
 -- It decides so, and its change can be made.
 pub record Decides (z : Zone) (now : ℕ) (plan : Plan) (d : Decision) : Type 0 where
   pub possible : IsPossible z d.change
-  pub is : resolved plan d.given ≡ Some (served z now d)
+  pub is : plan ≡ Settled (served z now d)
+
+-- a new endpoint's registration under an identifier, and what it is told
+abbrev pub registration_under : Newcomer → List ℕ → Registration
+registration_under n id = record {
+  identifier = id;
+  call_signal = n.entry.call_signal;
+  ras = n.entry.ras;
+  aliases = n.entry.aliases;
+  deadline = n.deadline;
+  heard = n.heard;
+  tries = 0;
+  asked = 0;
+}
+
+abbrev pub decision_under : Newcomer → List ℕ → Decision
+decision_under n id = record {
+  reply = Rcf n.seq n.entry.call_signal n.told n.gatekeeper id n.granted;
+  change = Endpoint (Addition (registration_under n id));
+}
+
+abbrev pub named_by : Zone → ℕ → Newcomer → List ℕ → Served
+named_by z now n id = served z now (decision_under n id)
+
+-- It is a new endpoint, which can be added under any identifier that is not registered.
+pub record Names (z : Zone) (now : ℕ) (plan : Plan) (n : Newcomer) : Type 0 where
+  pub possible : (id : List ℕ) → get z.live id ≡ None → IsPossible z (decision_under n id).change
+  pub is : plan ≡ Naming (named_by z now n)
 
 -- what a question asks of which pool
 abbrev pub ask_of : Question → Ask
@@ -127,19 +146,14 @@ pub record Asks (z : Zone) (plan : Plan) (q : Question) : Type 0 where
   pub is : plan ≡ Asking (ask_of q) (granted_by z q) (refused_by z q)
 
 abbrev pub Concludes : Zone → ℕ → Plan → Conclusion → Type 0
-Concludes z now plan (conclusion.Decided d) = Decides z now plan d
-Concludes z now plan (conclusion.Asked q) = Asks z plan q
+Concludes z now plan (conclusion.Settled d) = Decides z now plan d
+Concludes z now plan (conclusion.Naming n) = Names z now plan n
+Concludes z now plan (conclusion.Asking q) = Asks z plan q
 
 -- what is concluded about a request is what it comes to
 abbrev pub IsConclusion : Zone → ℕ → Request → Conclusion → Type 0
 IsConclusion z now request c =
     (plan : Plan) → plan_of z now request ≡ Some plan → Concludes z now plan c
-
--- the identifier that is handed out for it is unused, and a pool is asked for this request
-abbrev pub IsAbout : Live → KeptReplies → Request → Conclusion → Type 0
-IsAbout live kept request (conclusion.Decided d) = IfSome d.given (IsUnusedFor live kept)
-IsAbout live kept request (conclusion.Asked q) =
-    (seq_of request ≡ q.seq) × (endpoint_of request ≡ Some q.endpoint)
 
 -- a request about a call
 abbrev pub IsAboutCalls : Request → Type 0
@@ -148,10 +162,11 @@ IsAboutCalls (Brq seq endpoint call asked) = Unit {0}
 IsAboutCalls (Drq seq endpoint call) = Unit {0}
 IsAboutCalls other = ⊥
 
--- what a decision hands out no identifier for, and what a question is put for
+-- a question is put for this requestSeqNum and this endpoint
 abbrev pub IsFor : ℕ → Option (List ℕ) → Conclusion → Type 0
-IsFor seq endpoint (conclusion.Decided d) = d.given ≡ None
-IsFor seq endpoint (conclusion.Asked q) = (seq ≡ q.seq) × (endpoint ≡ Some q.endpoint)
+IsFor seq endpoint (conclusion.Settled d) = Unit {0}
+IsFor seq endpoint (conclusion.Naming n) = Unit {0}
+IsFor seq endpoint (conclusion.Asking q) = (seq ≡ q.seq) × (endpoint ≡ Some q.endpoint)
 
 -- the reply after a pool's answer: to wait no longer is to be refused
 abbrev pub reply_after : Question → Lend → Reply

@@ -6,8 +6,8 @@ use Rattle.zone_services.specs.Registering.{RegistrationRequest, confirmation, h
 use Rattle.zone_services.proofs.Conclusions.{Decides-renewal}
 use Rattle.zone_services.proofs.services.Services.keep_alive.Goals as goal
 
-pub returns-clause-decides : goal.returns-clause-decides
-returns-clause-decides g c =
+pub returns : goal.returns
+returns g c =
     let z = c.args.self.now.zone in
     let q = c.args.q.now in
     let r = c.in-Some-get.r.now in
