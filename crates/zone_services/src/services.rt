@@ -108,7 +108,7 @@ impl<P: Pool> Services<P> {
     }
 
     /// The table of the calls.
-    pub fn call_table(&self) -> &Calls
+    pub fn calls_table(&self) -> &Calls
         ensures { result.now.calls ≡ self.now.zone.calls }
     {
         self.bandwidth.table()
