@@ -16,9 +16,9 @@ use Rattle.registrations.specs.declared.registration.Registration.{Registration}
 use Rattle.admission.specs.declared.call.Call.{Call}
 use Rattle.admission.specs.declared.leg.Leg.{Leg}
 use Rattle.admission.specs.Calls.{new_call, with_leg}
-use Rattle.admission.specs.Legs.{leg_of}
 use Rattle.zone_tables.specs.Tables.{Tables, with_calls}
 use Rattle.zone_config.specs.Networks.{pool_of}
+use Rattle.ras_requests.specs.Standing.{Standing, NoCall, NoLeg, HasLeg, standing}
 use Rattle.ras_requests.specs.Brq.{room, wanted}
 use Rattle.ras_requests.specs.Plans.{Served, Plan, Settled, Asking, unchanged}
 
@@ -34,8 +34,9 @@ pub record AdmissionRequest : Type 0 where
 
 -- address translation: who answers a call is told its own address; who makes one is told that of
 -- the first alias that is registered, else the address that it gave
-abbrev pub destination : Tables → AdmissionRequest → Registration → Option Address
-destination z q r =
+abbrev pub destination : Tables → AdmissionRequest → Option Registration → Option Address
+destination z q None = None
+destination z q (Some r) =
     if q.answer then Some r.call_signal else translation z.live q.dest q.dest_address
 
 abbrev pub denial : Tables → AdmissionRequest → AdmissionRejectReason → Served
@@ -72,28 +73,21 @@ joining z q call told =
     })
     else Settled (denial z q ResourceUnavailable)
 
--- somebody has to be called
-abbrev pub calling : Tables → AdmissionRequest → Option Address → (Address → Plan) → Plan
-calling z q None next = Settled (denial z q CalledPartyNotRegistered)
-calling z q (Some told) next = next told
-
--- an endpoint that takes part already is told its leg's address again, and the units that it asks
--- for, but no more than the call's
-abbrev pub taking_part : Tables → AdmissionRequest → Registration → Call → Option Leg → Plan
-taking_part z q r call (Some leg) =
+-- An ARQ: of this endpoint if it is registered, with its standing to the call, and with the address
+-- that it is told to call, if there is one. An endpoint that has a leg is told that leg's address
+-- again, and the units that it asks for, but no more than the call's.
+abbrev pub admission_of : Tables → AdmissionRequest → Option Registration → Standing
+    → Option Address → Plan
+admission_of z q None standing told = Settled (denial z q InvalidEndpointIdentifier)
+admission_of z q (Some r) (HasLeg call leg) told =
     Settled (unchanged z (Acf q.seq (min q.asked call.units) leg.told))
-taking_part z q r call None = calling z q (destination z q r) (joining z q call)
-
--- the call is there, or it is new
-abbrev pub entering_call : Tables → AdmissionRequest → Registration → Option Call → Plan
-entering_call z q r (Some call) = taking_part z q r call (leg_of call.legs q.endpoint)
-entering_call z q r None =
-    calling z q (destination z q r) (making z q (pool_of z.config.networks r.call_signal.ip))
-
--- an ARQ, of this endpoint where it is registered
-abbrev pub admission_for : Tables → AdmissionRequest → Option Registration → Plan
-admission_for z q None = Settled (denial z q InvalidEndpointIdentifier)
-admission_for z q (Some r) = entering_call z q r (get z.calls q.call)
+admission_of z q (Some r) (NoLeg call) None = Settled (denial z q CalledPartyNotRegistered)
+admission_of z q (Some r) NoCall None = Settled (denial z q CalledPartyNotRegistered)
+admission_of z q (Some r) (NoLeg call) (Some told) = joining z q call told
+admission_of z q (Some r) NoCall (Some told) =
+    making z q (pool_of z.config.networks r.call_signal.ip) told
 
 abbrev pub admission : Tables → AdmissionRequest → Plan
-admission z q = admission_for z q (get z.live q.endpoint)
+admission z q =
+    let caller = get z.live q.endpoint in
+    admission_of z q caller (standing (get z.calls q.call) q.endpoint) (destination z q caller)

@@ -9,12 +9,11 @@ use Rattle.ras_module.specs.declared.reason.BandRejectReason.TheVariants.{Insuff
 use Rattle.ras_module.specs.declared.reply.Reply.TheVariants.{Bcf, Brj}
 use Rattle.registrations.specs.declared.registration.Registration.{Registration}
 use Rattle.admission.specs.declared.call.Call.{Call}
-use Rattle.admission.specs.declared.leg.Leg.{Leg}
 use Rattle.admission.specs.Calls.{in_use, with_units}
-use Rattle.admission.specs.Legs.{leg_of}
 use Rattle.ras_requests.specs.declared.brq.BandwidthRequest.{BandwidthRequest}
 use Rattle.zone_tables.specs.Tables.{Tables, with_calls}
 use Rattle.zone_tables.specs.Pools.{pools_after_return}
+use Rattle.ras_requests.specs.Standing.{Standing, NoCall, NoLeg, HasLeg, standing}
 use Rattle.ras_requests.specs.Plans.{Served, Plan, Settled, Asking, unchanged}
 
 -- the units that the zone has left
@@ -55,19 +54,13 @@ resizing z q call =
     else Asking (record { pool = call.pool; units = min (wanted z q.asked - call.units) (room z) })
     (raising z q call) (staying z q call)
 
--- the endpoint asks for a call in which it has a leg
-abbrev pub bandwidth_of_leg : Tables → BandwidthRequest → Call → Option Leg → Plan
-bandwidth_of_leg z q call None = Settled (unchanged z (Brj q.seq InvalidConferenceId 0))
-bandwidth_of_leg z q call (Some leg) = resizing z q call
-
-abbrev pub bandwidth_in : Tables → BandwidthRequest → Option Call → Plan
-bandwidth_in z q None = Settled (unchanged z (Brj q.seq InvalidConferenceId 0))
-bandwidth_in z q (Some call) = bandwidth_of_leg z q call (leg_of call.legs q.endpoint)
-
--- a BRQ, of this endpoint where it is registered
-abbrev pub bandwidth_for : Tables → BandwidthRequest → Option Registration → Plan
-bandwidth_for z q None = Settled (unchanged z (Brj q.seq NotBound 0))
-bandwidth_for z q (Some r) = bandwidth_in z q (get z.calls q.call)
+-- A BRQ: of this endpoint if it is registered, with its standing to the call.
+abbrev pub bandwidth_of : Tables → BandwidthRequest → Option Registration → Standing → Plan
+bandwidth_of z q None standing = Settled (unchanged z (Brj q.seq NotBound 0))
+bandwidth_of z q (Some r) NoCall = Settled (unchanged z (Brj q.seq InvalidConferenceId 0))
+bandwidth_of z q (Some r) (NoLeg call) = Settled (unchanged z (Brj q.seq InvalidConferenceId 0))
+bandwidth_of z q (Some r) (HasLeg call leg) = resizing z q call
 
 abbrev pub bandwidth : Tables → BandwidthRequest → Plan
-bandwidth z q = bandwidth_for z q (get z.live q.endpoint)
+bandwidth z q =
+    bandwidth_of z q (get z.live q.endpoint) (standing (get z.calls q.call) q.endpoint)

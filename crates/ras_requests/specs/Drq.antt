@@ -13,16 +13,13 @@ use Rattle.zone_tables.specs.Tables.{Tables}
 use Rattle.zone_tables.specs.Disengaging.{without_leg_of}
 use Rattle.ras_requests.specs.Plans.{Plan, Settled, unchanged}
 
--- an endpoint leaves a call, in which it has to have a leg
-abbrev pub leaving_call : Tables → DisengageRequest → Option Leg → Plan
-leaving_call z q None = Settled (unchanged z (Drj q.seq RequestToDropOther))
-leaving_call z q (Some leg) =
+-- A DRQ: of this endpoint if it is registered, with its leg in the call if it has one.
+abbrev pub disengagement_of : Tables → DisengageRequest → Option Registration → Option Leg → Plan
+disengagement_of z q None leg = Settled (unchanged z (Drj q.seq NotRegistered))
+disengagement_of z q (Some r) None = Settled (unchanged z (Drj q.seq RequestToDropOther))
+disengagement_of z q (Some r) (Some leg) =
     Settled (record { reply = Dcf q.seq; zone = without_leg_of z q.call q.endpoint })
 
--- a DRQ, of this endpoint where it is registered
-abbrev pub disengagement_for : Tables → DisengageRequest → Option Registration → Plan
-disengagement_for z q None = Settled (unchanged z (Drj q.seq NotRegistered))
-disengagement_for z q (Some r) = leaving_call z q (leg_at z.calls q.call q.endpoint)
-
 abbrev pub disengagement : Tables → DisengageRequest → Plan
-disengagement z q = disengagement_for z q (get z.live q.endpoint)
+disengagement z q =
+    disengagement_of z q (get z.live q.endpoint) (leg_at z.calls q.call q.endpoint)

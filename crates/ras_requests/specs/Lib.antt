@@ -1,4 +1,5 @@
 pub mod Plans
+pub mod Standing
 pub mod Grq
 pub mod Rrq
 pub mod Urq

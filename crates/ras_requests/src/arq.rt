@@ -3,8 +3,8 @@
 ghost use Rattle.std.specs.Prelude.{◌≡◌, ◌<◌, length, None, Some, IsSome};
 ghost use Rattle.std.specs.FinMap as fin;
 ghost use Rattle.admission.specs.Legs.{leg_of};
-ghost use Rattle.ras_requests.specs.Arq.{admission, destination, entering_call, joining, leg_told, making};
-ghost use Rattle.ras_requests.specs.Arq.{taking_part};
+ghost use Rattle.ras_requests.specs.Arq.{admission, admission_of, destination, joining, leg_told, making};
+ghost use Rattle.ras_requests.specs.Standing.{NoCall, standing_in};
 ghost use Rattle.zone_config.specs.Networks.{pool_of};
 ghost use Rattle.ras_requests.specs.Conclusions.{Concludes, Decides, IsFor};
 
@@ -54,7 +54,7 @@ fn destination<P: Pool>(
     q: &AdmissionRequest<'_>,
     caller: &Registration,
 ) -> Option<Address>
-    ensures { result ≡ destination tables.now.zone q.now caller.now }
+    ensures { result ≡ destination tables.now.zone q.now (Some caller.now) }
 {
     if q.answer {
         return Some(caller.call_signal);
@@ -136,8 +136,9 @@ fn enter_call<P: Pool>(
     requires endpoint { fin.get tables.now.zone.live q.now.endpoint ≡ Some caller.now }
     requires call { fin.get tables.now.zone.calls q.now.call ≡ Some call.now }
     ensures decides { Decides tables.now.zone now
-        (taking_part tables.now.zone q.now caller.now call.now
-        (leg_of call.now.legs q.now.endpoint)) result }
+        (admission_of tables.now.zone q.now (Some caller.now)
+        (standing_in call.now (leg_of call.now.legs q.now.endpoint))
+        (destination tables.now.zone q.now (Some caller.now))) result }
 {
     if let Some(leg) = call.legs.get(&q.endpoint) {
         return Decision::reply(Reply::Acf {
@@ -162,7 +163,8 @@ fn make_call<P: Pool>(
     requires endpoint { fin.get tables.now.zone.live q.now.endpoint ≡ Some caller.now }
     requires call { fin.get tables.now.zone.calls q.now.call ≡ None }
     ensures concludes { Concludes tables.now.zone now
-        (entering_call tables.now.zone q.now caller.now None) result }
+        (admission_of tables.now.zone q.now (Some caller.now) NoCall
+        (destination tables.now.zone q.now (Some caller.now))) result }
     ensures about { IsFor q.now.seq (Some q.now.endpoint) result }
 {
     match destination(tables, q, caller) {
