@@ -1,0 +1,61 @@
+-- A call for which its pool is asked for more.
+use Rattle.std.proofs.Common.{◌≡◌, ◌<◌, ◌≤◌, ◌-◌, ◌==◌, ℕ, Bool, false, min, length, refl, sym, ◌∙◌}
+use Rattle.std.proofs.Common.{ap, Some, arith}
+use Rattle.std.specs.Prelude.{nat_le, if◌then◌else◌}
+use Rattle.std.specs.FinMap as fin
+use Rattle.std.proofs.lemmas.Bool.Decides.{nat_tests}
+use Rattle.admission.specs.declared.call.Call.{Call}
+use Rattle.admission.specs.Calls.{in_use}
+use Rattle.ras_requests.specs.declared.brq.BandwidthRequest.{BandwidthRequest}
+use Rattle.zone_tables.specs.declared.unit_request.Purpose.TheVariants.{Raising}
+use Rattle.zone_tables.specs.Tables.{Tables}
+use Rattle.ras_requests.specs.Brq.{lowering, raising, resizing, room, staying, wanted}
+use Rattle.ras_requests.specs.Plans.{Settled, Asking}
+use Rattle.ras_requests.specs.Conclusions.{RequestsUnits}
+
+module _ (z : Tables) (q : BandwidthRequest) (call : Call) (w r n : ℕ) where
+  pub RequestsUnits-resizing : fin.get z.calls q.call ≡ Some call → call.pool < length z.pools
+      → in_use z.calls ≤ z.config.limit → w ≡ wanted z q.asked → call.units < w → r ≡ room z
+      → 0 < r → n ≡ min (w - call.units) r
+      → RequestsUnits z (resizing z q call) (record {
+        seq = q.seq;
+        endpoint = q.endpoint;
+        call = q.call;
+        pool = call.pool;
+        units = n;
+        purpose = Raising call.units;
+      })
+  RequestsUnits-resizing there below within w_is more r_is some n_is =
+      let wants : nat_le (wanted z q.asked) call.units ≡ false =
+      grind (arith, nat_tests, w_is, more) in
+      let has : (room z == 0) ≡ false = grind (arith, nat_tests, r_is, some) in
+      let units : min (wanted z q.asked - call.units) (room z) ≡ n =
+      ap (λ x. min (x - call.units) (room z)) (sym w_is)
+      ∙ (ap (λ x. min (w - call.units) x) (sym r_is) ∙ sym n_is) in
+      record {
+        may = record {
+          some = omega (arith, n_is, more, some);
+          room = omega (arith, n_is, r_is, some, within);
+          pool = below;
+          purpose = record {
+            call = call;
+            there = there;
+            pool_is = refl;
+            units_are = refl;
+            limit = omega (arith, n_is, w_is, more);
+          };
+        };
+        registered = tt;
+        is =
+            ap (λ (b : Bool). if b then Settled (lowering z q call (wanted z q.asked))
+            else if room z == 0 then Settled (staying z q call)
+            else Asking
+            (record { pool = call.pool; units = min (wanted z q.asked - call.units) (room z) })
+            (raising z q call) (staying z q call)) wants
+            ∙ (ap (λ (b : Bool). if b then Settled (staying z q call)
+            else Asking
+            (record { pool = call.pool; units = min (wanted z q.asked - call.units) (room z) })
+            (raising z q call) (staying z q call)) has
+            ∙ ap (λ (x : ℕ). Asking (record { pool = call.pool; units = x }) (raising z q call)
+            (staying z q call)) units);
+      }

@@ -1,0 +1,10 @@
+pub mod Plans
+pub mod Standing
+pub mod Grq
+pub mod Rrq
+pub mod Urq
+pub mod Brq
+pub mod Arq
+pub mod Drq
+pub mod Requests
+pub mod Conclusions

@@ -1,0 +1,238 @@
+//! Admission of calls.
+
+ghost use Rattle.std.specs.Prelude.{◌≡◌, ◌<◌, length, None, Some, IsSome};
+ghost use Rattle.std.specs.FinMap as fin;
+ghost use Rattle.admission.specs.Legs.{leg_of};
+ghost use Rattle.ras_requests.specs.Arq.{admission, admission_of, destination, joining, leg_told, making};
+ghost use Rattle.ras_requests.specs.Standing.{NoCall, standing_in};
+ghost use Rattle.zone_config.specs.Networks.{pool_of};
+ghost use Rattle.ras_requests.specs.Conclusions.{Concludes, Decides, IsFor};
+
+use crate::brq::{room, wanted};
+use crate::conclusion::{Conclusion, Decision};
+use admission::{Call, Leg};
+use pools::Pool;
+use ras_module::{
+    Address, AdmissionRejectReason, AliasList, CallKey, EndpointId, Reply, RequestSeqNum,
+};
+use registrations::Registration;
+use std::marker::Model;
+use zone_config::Moment;
+use zone_tables::{CallChange, Change, Purpose, UnitRequest, ZoneTables};
+
+/// An AdmissionRequest (H.225.0, ARQ). The aliases that it calls stay where they were read.
+#[derive(Drop)]
+pub struct AdmissionRequest<'a> {
+    pub seq: RequestSeqNum,
+    pub endpoint: EndpointId,
+    pub dest: &'a AliasList,
+    pub dest_address: Option<Address>,
+    pub asked: u32,
+    pub call: CallKey,
+    pub answer: bool,
+}
+
+impl<'a> Model for AdmissionRequest<'a> {
+    ghost use Rattle.ras_requests.specs.Arq as arq;
+
+    ghost Value = { arq.AdmissionRequest };
+
+    ghost view = { λ q. record {
+      seq = q.seq;
+      endpoint = q.endpoint;
+      dest = q.dest.now;
+      dest_address = q.dest_address;
+      asked = q.asked;
+      call = q.call;
+      answer = q.answer;
+    } };
+}
+
+/// The address that an endpoint is told to call.
+fn destination<P: Pool>(
+    tables: &ZoneTables<P>,
+    q: &AdmissionRequest<'_>,
+    caller: &Registration,
+) -> Option<Address>
+    ensures { result ≡ destination tables.now.zone q.now (Some caller.now) }
+{
+    if q.answer {
+        return Some(caller.call_signal);
+    }
+    tables.translate(q.dest.as_slice(), q.dest_address)
+}
+
+/// The second endpoint joins a call that is there.
+fn join<P: Pool>(
+    tables: &ZoneTables<P>,
+    now: Moment,
+    q: &AdmissionRequest<'_>,
+    call: &Call,
+    told: Address,
+) -> Decision
+    requires endpoint { IsSome (fin.get tables.now.zone.live q.now.endpoint) }
+    requires call { fin.get tables.now.zone.calls q.now.call ≡ Some call.now }
+    requires leg { leg_of call.now.legs q.now.endpoint ≡ None }
+    ensures decides { Decides tables.now.zone now (joining tables.now.zone q.now call.now told) result }
+{
+    if call.legs.are_two() {
+        return denial(q, AdmissionRejectReason::ResourceUnavailable);
+    }
+    Decision::calls(
+        Reply::Acf {
+            seq: q.seq,
+            units: q.asked.min(call.units),
+            dest: told,
+        },
+        CallChange::Joining(q.call, leg_told(q, told)),
+    )
+}
+
+/// An endpoint makes a call.
+fn make<P: Pool>(
+    tables: &ZoneTables<P>,
+    now: Moment,
+    q: &AdmissionRequest<'_>,
+    pool: usize,
+    told: Address,
+) -> Conclusion
+    requires endpoint { IsSome (fin.get tables.now.zone.live q.now.endpoint) }
+    requires call { fin.get tables.now.zone.calls q.now.call ≡ None }
+    requires pool { pool < length tables.now.zone.pools }
+    ensures concludes { Concludes tables.now.zone now
+        (making tables.now.zone q.now pool told) result }
+    ensures about { IsFor q.now.seq (Some q.now.endpoint) result }
+{
+    if tables.calls_len() == tables.config().calls() {
+        let denial = denial(q, AdmissionRejectReason::ResourceUnavailable);
+        return Conclusion::Settled(denial);
+    }
+    let wanted = wanted(tables, q.asked);
+    if wanted == 0 {
+        return Conclusion::Settled(opening_without_units(q, pool, told));
+    }
+    let room = room(tables);
+    if room == 0 {
+        return Conclusion::Settled(denial(q, AdmissionRejectReason::RequestDenied));
+    }
+    Conclusion::Asking(UnitRequest {
+        seq: q.seq,
+        endpoint: q.endpoint,
+        call: q.call,
+        pool,
+        units: u64::from(wanted).min(room) as u32,
+        purpose: Purpose::Opening(leg_told(q, told)),
+    })
+}
+
+/// An endpoint enters a call that is there.
+fn enter_call<P: Pool>(
+    tables: &ZoneTables<P>,
+    now: Moment,
+    q: &AdmissionRequest<'_>,
+    caller: &Registration,
+    call: &Call,
+) -> Decision
+    requires endpoint { fin.get tables.now.zone.live q.now.endpoint ≡ Some caller.now }
+    requires call { fin.get tables.now.zone.calls q.now.call ≡ Some call.now }
+    ensures decides { Decides tables.now.zone now
+        (admission_of tables.now.zone q.now (Some caller.now)
+        (standing_in call.now (leg_of call.now.legs q.now.endpoint))
+        (destination tables.now.zone q.now (Some caller.now))) result }
+{
+    if let Some(leg) = call.legs.get(&q.endpoint) {
+        return Decision::reply(Reply::Acf {
+            seq: q.seq,
+            units: q.asked.min(call.units),
+            dest: leg.told,
+        });
+    }
+    match destination(tables, q, caller) {
+        None => denial(q, AdmissionRejectReason::CalledPartyNotRegistered),
+        Some(told) => join(tables, now, q, call, told),
+    }
+}
+
+/// An endpoint makes a call that isn't there yet.
+fn make_call<P: Pool>(
+    tables: &ZoneTables<P>,
+    now: Moment,
+    q: &AdmissionRequest<'_>,
+    caller: &Registration,
+) -> Conclusion
+    requires endpoint { fin.get tables.now.zone.live q.now.endpoint ≡ Some caller.now }
+    requires call { fin.get tables.now.zone.calls q.now.call ≡ None }
+    ensures concludes { Concludes tables.now.zone now
+        (admission_of tables.now.zone q.now (Some caller.now) NoCall
+        (destination tables.now.zone q.now (Some caller.now))) result }
+    ensures about { IsFor q.now.seq (Some q.now.endpoint) result }
+{
+    match destination(tables, q, caller) {
+        None => Conclusion::Settled(denial(q, AdmissionRejectReason::CalledPartyNotRegistered)),
+        Some(told) => make(tables, now, q, pool_of(tables, caller.call_signal), told),
+    }
+}
+
+/// The pool that serves the calls of an endpoint with this address.
+fn pool_of<P: Pool>(tables: &ZoneTables<P>, address: Address) -> usize
+    ensures pool { result ≡ pool_of tables.now.zone.config.networks address.ip }
+    ensures few { result < length tables.now.zone.pools }
+{
+    tables.config().parts().networks.pool_of(address.ip)
+}
+
+/// What is decided about an AdmissionRequest.
+pub(crate) fn admit<P: Pool>(
+    tables: &ZoneTables<P>,
+    now: Moment,
+    q: &AdmissionRequest<'_>,
+) -> Conclusion
+    ensures concludes { Concludes tables.now.zone now (admission tables.now.zone q.now) result }
+    ensures about { IsFor q.now.seq (Some q.now.endpoint) result }
+{
+    let Some(caller) = tables.get(&q.endpoint) else {
+        let denial = denial(q, AdmissionRejectReason::InvalidEndpointIdentifier);
+        return Conclusion::Settled(denial);
+    };
+    match tables.call(&q.call) {
+        Some(call) => Conclusion::Settled(enter_call(tables, now, q, caller, call)),
+        None => make_call(tables, now, q, caller),
+    }
+}
+
+/// An AdmissionReject.
+fn denial(q: &AdmissionRequest<'_>, reason: AdmissionRejectReason) -> Decision
+    ensures { result ≡ record {
+      reply = Reply.Arj q.now.seq reason;
+      change = Change.Nothing;
+    } }
+{
+    Decision::reply(Reply::Arj { seq: q.seq, reason })
+}
+
+/// The endpoint's leg, which keeps the address that it is told.
+fn leg_told(q: &AdmissionRequest<'_>, told: Address) -> Leg
+    ensures { result ≡ leg_told q.now told }
+{
+    Leg {
+        endpoint: q.endpoint,
+        told,
+    }
+}
+
+/// A call that wants no units opens without asking a pool.
+fn opening_without_units(q: &AdmissionRequest<'_>, pool: usize, told: Address) -> Decision
+    ensures { result ≡ record {
+      reply = Reply.Acf q.now.seq 0 told;
+      change = Change.Calls (CallChange.Opening q.now.call pool (leg_told q.now told));
+    } }
+{
+    Decision::calls(
+        Reply::Acf {
+            seq: q.seq,
+            units: 0,
+            dest: told,
+        },
+        CallChange::Opening(q.call, pool, leg_told(q, told)),
+    )
+}

@@ -1,0 +1,118 @@
+//! Changes of a call's bandwidth.
+
+ghost use Rattle.std.specs.Prelude.{◌≡◌, ◌≤◌, ◌-◌, None, Some};
+ghost use Rattle.std.specs.FinMap as fin;
+ghost use Rattle.ras_requests.specs.Brq.{bandwidth, resizing, room, wanted};
+ghost use Rattle.ras_requests.specs.Conclusions.{Concludes, IsFor};
+
+use crate::conclusion::{Conclusion, Decision};
+use admission::Call;
+use pools::Pool;
+use ras_module::{BandRejectReason, CallKey, EndpointId, Reply, RequestSeqNum};
+use zone_config::Moment;
+use zone_tables::{CallChange, Change, Purpose, UnitRequest, ZoneTables};
+
+/// A BandwidthRequest (H.225.0, BRQ).
+#[derive(Clone, Copy)]
+pub struct BandwidthRequest {
+    pub seq: RequestSeqNum,
+    pub endpoint: EndpointId,
+    pub call: CallKey,
+    pub asked: u32,
+}
+
+/// The units that the zone has left.
+pub(crate) fn room<P: Pool>(tables: &ZoneTables<P>) -> u64
+    ensures { result ≡ room tables.now.zone }
+{
+    tables.config().parts().limit - tables.in_use()
+}
+
+/// The units that are asked for, but no more than a call may have.
+pub(crate) fn wanted<P: Pool>(tables: &ZoneTables<P>, asked: u32) -> u32
+    ensures { result ≡ wanted tables.now.zone asked }
+{
+    asked.min(tables.config().call_limit())
+}
+
+/// A call gives units back, or its pool is asked for more.
+fn resize<P: Pool>(
+    tables: &ZoneTables<P>,
+    now: Moment,
+    q: &BandwidthRequest,
+    call: &Call,
+) -> Conclusion
+    requires call { fin.get tables.now.zone.calls q.now.call ≡ Some call.now }
+    ensures concludes { Concludes tables.now.zone now
+        (resizing tables.now.zone q.now call.now) result }
+    ensures about { IsFor q.now.seq (Some q.now.endpoint) result }
+{
+    let _sound = tables.config();
+    let wanted = wanted(tables, q.asked);
+    if wanted <= call.units {
+        return Conclusion::Settled(lowering(q, call, wanted));
+    }
+    let room = room(tables);
+    if room == 0 {
+        let reason = BandRejectReason::InsufficientResources;
+        return Conclusion::Settled(rejection(q, reason, call.units));
+    }
+    Conclusion::Asking(UnitRequest {
+        seq: q.seq,
+        endpoint: q.endpoint,
+        call: q.call,
+        pool: call.pool,
+        units: u64::from(wanted - call.units).min(room) as u32,
+        purpose: Purpose::Raising(call.units),
+    })
+}
+
+/// What is decided about a BandwidthRequest.
+pub(crate) fn change_bandwidth<P: Pool>(
+    tables: &ZoneTables<P>,
+    now: Moment,
+    q: &BandwidthRequest,
+) -> Conclusion
+    ensures concludes { Concludes tables.now.zone now (bandwidth tables.now.zone q.now) result }
+    ensures about { IsFor q.now.seq (Some q.now.endpoint) result }
+{
+    if tables.get(&q.endpoint).is_none() {
+        return Conclusion::Settled(rejection(q, BandRejectReason::NotBound, 0));
+    }
+    let Some(call) = tables.call(&q.call) else {
+        return Conclusion::Settled(rejection(q, BandRejectReason::InvalidConferenceId, 0));
+    };
+    if call.legs.get(&q.endpoint).is_none() {
+        return Conclusion::Settled(rejection(q, BandRejectReason::InvalidConferenceId, 0));
+    }
+    resize(tables, now, q, call)
+}
+
+/// A BandwidthReject, with the bandwidth that is allowed.
+fn rejection(q: &BandwidthRequest, reason: BandRejectReason, allowed: u32) -> Decision
+    ensures { result ≡ record {
+      reply = Reply.Brj q.now.seq reason allowed;
+      change = Change.Nothing;
+    } }
+{
+    Decision::reply(Reply::Brj {
+        seq: q.seq,
+        reason,
+        allowed,
+    })
+}
+
+/// A call keeps so many units, and gives the others back.
+fn lowering(q: &BandwidthRequest, call: &Call, units: u32) -> Decision
+    requires { units ≤ call.now.units }
+    ensures { result ≡ record {
+      reply = Reply.Bcf q.now.seq units;
+      change = Change.Calls
+          (CallChange.Lowering q.now.call units call.now.pool (call.now.units - units));
+    } }
+{
+    Decision::calls(
+        Reply::Bcf { seq: q.seq, units },
+        CallChange::Lowering(q.call, units, call.pool, call.units - units),
+    )
+}

@@ -1,0 +1,49 @@
+//! Disengaging from calls.
+
+ghost use Rattle.std.specs.Prelude.{◌≡◌, None};
+ghost use Rattle.ras_requests.specs.Drq.{disengagement};
+ghost use Rattle.ras_requests.specs.Conclusions.{Decides};
+
+use crate::conclusion::Decision;
+use pools::Pool;
+use ras_module::{CallKey, DisengageRejectReason, EndpointId, Reply, RequestSeqNum};
+use zone_config::Moment;
+use zone_tables::{CallChange, Change, ZoneTables};
+
+/// A DisengageRequest (H.225.0, DRQ).
+#[derive(Clone, Copy)]
+pub struct DisengageRequest {
+    pub seq: RequestSeqNum,
+    pub endpoint: EndpointId,
+    pub call: CallKey,
+}
+
+/// What is decided about a DisengageRequest.
+pub(crate) fn disengage<P: Pool>(
+    tables: &ZoneTables<P>,
+    now: Moment,
+    q: &DisengageRequest,
+) -> Decision
+    ensures decides { Decides tables.now.zone now (disengagement tables.now.zone q.now) result }
+{
+    if tables.get(&q.endpoint).is_none() {
+        return rejection(q, DisengageRejectReason::NotRegistered);
+    }
+    if tables.leg(&q.call, &q.endpoint).is_none() {
+        return rejection(q, DisengageRejectReason::RequestToDropOther);
+    }
+    Decision::calls(
+        Reply::Dcf { seq: q.seq },
+        CallChange::Leaving(q.call, q.endpoint),
+    )
+}
+
+/// A DisengageReject.
+fn rejection(q: &DisengageRequest, reason: DisengageRejectReason) -> Decision
+    ensures { result ≡ record {
+      reply = Reply.Drj q.now.seq reason;
+      change = Change.Nothing;
+    } }
+{
+    Decision::reply(Reply::Drj { seq: q.seq, reason })
+}

@@ -1,0 +1,40 @@
+//! Gatekeeper discovery.
+
+ghost use Rattle.std.specs.Prelude.{◌≡◌};
+ghost use Rattle.ras_requests.specs.Grq.{discovery, is_foreign};
+
+use pools::Pool;
+use ras_module::{GatekeeperRejectReason, Name, Reply, RequestSeqNum};
+use zone_tables::ZoneTables;
+
+/// Whether another gatekeeper than this one is named.
+pub(crate) fn is_foreign<P: Pool>(tables: &ZoneTables<P>, name: &Option<Name>) -> bool
+    ensures { result ≡ is_foreign tables.now.zone name.now }
+{
+    match name {
+        None => false,
+        Some(name) => *name != tables.config().parts().identifier,
+    }
+}
+
+/// What a GatekeeperRequest is answered.
+pub(crate) fn discover<P: Pool>(
+    tables: &ZoneTables<P>,
+    seq: RequestSeqNum,
+    gatekeeper: &Option<Name>,
+) -> Reply
+    ensures { result ≡ discovery tables.now.zone seq gatekeeper.now }
+{
+    if is_foreign(tables, gatekeeper) {
+        return Reply::Grj {
+            seq,
+            reason: GatekeeperRejectReason::TerminalExcluded,
+        };
+    }
+    let parts = tables.config().parts();
+    Reply::Gcf {
+        seq,
+        gatekeeper: parts.identifier,
+        ras: parts.address,
+    }
+}

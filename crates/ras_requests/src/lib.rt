@@ -1,0 +1,16 @@
+//! What each request to a gatekeeper comes to (ITU-T H.225.0, RAS), as it is decided by look-ups in
+//! the tables of the zone: a reply with a change; or a new endpoint, for which an identifier is
+//! chosen; or units that are requested of a pool.
+#![tactic(auto)]
+
+mod arq;
+mod brq;
+mod conclusion;
+mod drq;
+mod grq;
+mod requests;
+mod rrq;
+mod urq;
+
+pub use conclusion::{Conclusion, Decision, Newcomer};
+pub use requests::decide;

@@ -1,0 +1,231 @@
+//! Registration of endpoints.
+
+ghost use Rattle.std.specs.Prelude.{◌≡◌, IfOk, []};
+ghost use Rattle.ras_module.specs.Aliases.{without_doubles};
+ghost use Rattle.registrations.specs.Registry.{at_address};
+ghost use Rattle.registrations.specs.Agreement.{registered_elsewhere};
+ghost use Rattle.ras_requests.specs.Rrq.{confirmation, deadline, granted, has_moved};
+ghost use Rattle.ras_requests.specs.Rrq.{entering, full_registration, keep_alive, named, registration};
+ghost use Rattle.ras_requests.specs.Conclusions.{Concludes, Decides, IsFor};
+
+use crate::conclusion::{Conclusion, Decision, Newcomer};
+use crate::grq::is_foreign;
+use pools::Pool;
+use ras_module::{
+    Address, AliasList, EndpointId, Name, RegistrationRejectReason, Reply, ReplyAliases,
+    RequestSeqNum, TimeToLive,
+};
+use registrations::Registration;
+use std::alloc::AllocError;
+use std::marker::Model;
+use zone_config::Moment;
+use zone_tables::{Change, EndpointChange, Entry, ZoneTables};
+
+/// A RegistrationRequest (H.225.0, RRQ). Its aliases stay where they were read.
+#[derive(Drop)]
+pub struct RegistrationRequest<'a> {
+    pub seq: RequestSeqNum,
+    pub call_signal: Option<Address>,
+    pub ras: Option<Address>,
+    pub aliases: &'a AliasList,
+    pub gatekeeper: Option<Name>,
+    pub time_to_live: Option<TimeToLive>,
+    pub keep_alive: bool,
+    pub endpoint: Option<EndpointId>,
+}
+
+impl<'a> Model for RegistrationRequest<'a> {
+    ghost use Rattle.ras_requests.specs.Rrq as rrq;
+
+    ghost Value = { rrq.RegistrationRequest };
+
+    ghost view = { λ q. record {
+      seq = q.seq;
+      call_signal = q.call_signal;
+      ras = q.ras;
+      aliases = q.aliases.now;
+      gatekeeper = q.gatekeeper;
+      time_to_live = q.time_to_live;
+      keep_alive = q.keep_alive;
+      endpoint = q.endpoint;
+    } };
+}
+
+/// The time to live that is granted.
+fn granted<P: Pool>(tables: &ZoneTables<P>, asked: Option<TimeToLive>) -> TimeToLive
+    ensures { result ≡ granted tables.now.zone asked }
+{
+    let most = tables.config().time_to_live();
+    match asked {
+        None => most,
+        Some(asked) => asked.min(most),
+    }
+}
+
+/// When a registration of this moment ends, in milliseconds.
+fn deadline<P: Pool>(tables: &ZoneTables<P>, now: Moment, q: &RegistrationRequest<'_>) -> u64
+    ensures { result ≡ deadline tables.now.zone now q.now }
+{
+    let granted = granted(tables, q.time_to_live);
+    now.milliseconds() + 1000 * u64::from(granted.get())
+}
+
+fn confirmation<P: Pool>(
+    tables: &ZoneTables<P>,
+    q: &RegistrationRequest<'_>,
+    call_signal: Address,
+    aliases: ReplyAliases,
+    endpoint: EndpointId,
+) -> Reply
+    ensures { result ≡ confirmation tables.now.zone q.now call_signal aliases endpoint }
+{
+    Reply::Rcf {
+        seq: q.seq,
+        call_signal,
+        aliases,
+        gatekeeper: tables.config().parts().identifier,
+        endpoint,
+        granted: granted(tables, q.time_to_live),
+    }
+}
+
+/// A registration is kept alive where it is known and the endpoint hasn't moved.
+fn keep_alive<P: Pool>(
+    tables: &ZoneTables<P>,
+    now: Moment,
+    q: &RegistrationRequest<'_>,
+) -> Result<Decision, AllocError>
+    ensures { IfOk result (Decides tables.now.zone now
+        (keep_alive tables.now.zone now q.now (named tables.now.zone q.now.endpoint))) }
+{
+    let Some(id) = q.endpoint else {
+        return Ok(rejection(q, RegistrationRejectReason::FullRegistrationRequired));
+    };
+    let Some(r) = tables.get(&id) else {
+        return Ok(rejection(q, RegistrationRejectReason::FullRegistrationRequired));
+    };
+    if has_moved(r, q.ras) {
+        return Ok(rejection(q, RegistrationRejectReason::FullRegistrationRequired));
+    }
+    Ok(Decision {
+        reply: confirmation(tables, q, r.call_signal, r.aliases.copy()?, r.identifier),
+        change: Change::Endpoint(EndpointChange::Renewal(r.identifier, deadline(tables, now, q))),
+    })
+}
+
+/// A full registration.
+fn register_fully<P: Pool>(
+    tables: &ZoneTables<P>,
+    now: Moment,
+    q: &RegistrationRequest<'_>,
+) -> Result<Conclusion, AllocError>
+    ensures concludes { IfOk result (Concludes tables.now.zone now
+        (full_registration tables.now.zone now q.now q.now.call_signal q.now.ras
+        (without_doubles q.now.aliases))) }
+    ensures about { IfOk result (IsFor q.now.seq q.now.endpoint) }
+{
+    let Some(call_signal) = q.call_signal else {
+        return Ok(rejected(q, RegistrationRejectReason::InvalidCallSignalAddress));
+    };
+    let Some(ras) = q.ras else {
+        return Ok(rejected(q, RegistrationRejectReason::InvalidRasAddress));
+    };
+    let Ok(aliases) = ReplyAliases::new(q.aliases.distinct()?) else {
+        return Ok(rejected(q, RegistrationRejectReason::ResourceUnavailable));
+    };
+    let held = tables.conflicts(&aliases, call_signal)?;
+    if !held.as_slice().is_empty() {
+        return Ok(rejected(q, RegistrationRejectReason::DuplicateAlias(held)));
+    }
+    let entry = Entry {
+        call_signal,
+        ras,
+        aliases,
+    };
+    enter(tables, now, q, entry)
+}
+
+/// Registers anew who has the address, or a new endpoint.
+fn enter<P: Pool>(
+    tables: &ZoneTables<P>,
+    now: Moment,
+    q: &RegistrationRequest<'_>,
+    entry: Entry,
+) -> Result<Conclusion, AllocError>
+    requires { registered_elsewhere tables.now.zone.live entry.call_signal entry.aliases ≡ [] }
+    ensures concludes { IfOk result (Concludes tables.now.zone now
+        (entering tables.now.zone now q.now entry
+        (at_address tables.now.zone.live entry.call_signal))) }
+    ensures about { IfOk result (IsFor q.now.seq q.now.endpoint) }
+{
+    let told = entry.aliases.copy()?;
+    let deadline = deadline(tables, now, q);
+    if let Some(r) = tables.by_address(entry.call_signal) {
+        return Ok(Conclusion::Settled(Decision {
+            reply: confirmation(tables, q, entry.call_signal, told, r.identifier),
+            change: Change::Endpoint(EndpointChange::Rewriting(r.identifier, entry, deadline)),
+        }));
+    }
+    if tables.len() == tables.config().endpoints() {
+        return Ok(rejected(q, RegistrationRejectReason::ResourceUnavailable));
+    }
+    Ok(Conclusion::Naming(Newcomer {
+        seq: q.seq,
+        entry,
+        told,
+        gatekeeper: tables.config().parts().identifier,
+        granted: granted(tables, q.time_to_live),
+        deadline,
+        heard: now,
+    }))
+}
+
+/// What is concluded about a RegistrationRequest.
+pub(crate) fn register<P: Pool>(
+    tables: &ZoneTables<P>,
+    now: Moment,
+    q: &RegistrationRequest<'_>,
+) -> Result<Conclusion, AllocError>
+    ensures concludes { IfOk result (Concludes tables.now.zone now
+        (registration tables.now.zone now q.now)) }
+    ensures about { IfOk result (IsFor q.now.seq q.now.endpoint) }
+{
+    if is_foreign(tables, &q.gatekeeper) {
+        return Ok(rejected(q, RegistrationRejectReason::DiscoveryRequired));
+    }
+    if q.keep_alive {
+        Ok(Conclusion::Settled(keep_alive(tables, now, q)?))
+    } else {
+        register_fully(tables, now, q)
+    }
+}
+
+/// A RegistrationReject.
+fn rejection(q: &RegistrationRequest<'_>, reason: RegistrationRejectReason) -> Decision
+    ensures { result ≡ record {
+      reply = Reply.Rrj q.now.seq reason;
+      change = Change.Nothing;
+    } }
+{
+    Decision::reply(Reply::Rrj { seq: q.seq, reason })
+}
+
+/// A request that is settled by a RegistrationReject.
+fn rejected(q: &RegistrationRequest<'_>, reason: RegistrationRejectReason) -> Conclusion
+    ensures { result ≡ Conclusion.Settled (record {
+      reply = Reply.Rrj q.now.seq reason;
+      change = Change.Nothing;
+    }) }
+{
+    Conclusion::Settled(rejection(q, reason))
+}
+
+/// Whether an address was given that is not the endpoint's.
+fn has_moved(r: &Registration, ras: Option<Address>) -> bool
+    ensures { result ≡ has_moved r.now ras }
+{
+    match ras {
+        None => false,
+        Some(ras) => ras != r.ras,
+    }
+}

@@ -1,9 +1,0 @@
-use Rattle.std.proofs.Common.{◌≡◌, drop}
-use Rattle.zone_services.specs.Admission.{translation}
-use Rattle.zone_services.proofs.endpoints.Endpoints.translate.Given as goal
-
--- none of the aliases so far is registered
-abbrev pub invariant-loop-alias : goal.invariant-loop-alias
-invariant-loop-alias l =
-    translation l.self.live l.aliases l.other
-    ≡ translation l.self.live (drop l.alias-index l.aliases) l.other

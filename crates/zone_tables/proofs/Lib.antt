@@ -1,0 +1,10 @@
+pub mod Answered
+pub mod Agreeing
+pub mod Fitting
+pub mod PoolFigures
+pub mod Lending
+pub mod Backing
+pub mod Translating
+pub mod Legs
+pub mod ButLent
+pub mod Departing

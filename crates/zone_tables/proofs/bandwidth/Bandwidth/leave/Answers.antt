@@ -1,0 +1,101 @@
+use Rattle.std.proofs.Common.{◌≡◌, sym, ap, ◌∙◌, subst, arith}
+use Rattle.std.proofs.lemmas.List.{length-map}
+use Rattle.admission.specs.Calls.{after_leave, freed_by_leave}
+use Rattle.zone_tables.specs.Parts.{Lending, with_usage}
+use Rattle.zone_tables.specs.Pools.{figures_of, lasts_of, pools_after_return, pools_after_end}
+use Rattle.zone_tables.proofs.Answered.{on_ok}
+use Rattle.zone_tables.proofs.PoolFigures.{figures-return, figures_there, lasts-return}
+use Rattle.zone_tables.proofs.Backing.{IsBacked-is, IsBacked-leave, call_left, freed_as}
+use Rattle.zone_tables.proofs.Backing.{freed_is_lent}
+use Rattle.zone_tables.proofs.Backing.{freed_pool, usage_in}
+use Rattle.zone_tables.proofs.bandwidth.Bandwidth.leave.Goals as goal
+
+pub take_back-requires-clause-pool : goal.take_back-requires-clause-pool
+take_back-requires-clause-pool g c =
+    let i = c.self.inside in
+    let u = usage_in i.calls i.pools i.limit i.call_limit in
+    let call = call_left _ _ c.self.view_is c.args.key.now c.args.endpoint.now c.requires in
+    let freed = freed_as c.leave.result c.unwrap-left.result c.unwrap-left.ensures _ _
+    c.leave.ensures.ended c.in-Some.is in
+    omega (
+      arith,
+      freed_pool u c.self.invariant c.args.key.now c.args.endpoint.now call.0 call.1
+          (c.in-Some.pool, c.in-Some.units) freed,
+      length-map i.pools (λ a. a.figures),
+    )
+
+pub take_back-requires-clause-lent : goal.take_back-requires-clause-lent
+take_back-requires-clause-lent g c =
+    let i = c.self.inside in
+    let u = usage_in i.calls i.pools i.limit i.call_limit in
+    let call = call_left _ _ c.self.view_is c.args.key.now c.args.endpoint.now c.requires in
+    let freed = freed_as c.leave.result c.unwrap-left.result c.unwrap-left.ensures _ _
+    c.leave.ensures.ended c.in-Some.is in
+    omega (
+      arith,
+      freed_is_lent u c.self.invariant c.args.key.now c.args.endpoint.now call.0 call.1
+          (c.in-Some.pool, c.in-Some.units) freed,
+      ap (λ f. f.lent) (figures_there i.pools c.in-Some.pool),
+      c.from.ensures,
+    )
+
+pub invariant_of-self : goal.invariant_of-self
+invariant_of-self g c =
+    let i = c.self.inside in
+    let u = usage_in i.calls i.pools i.limit i.call_limit in
+    let call = call_left _ _ c.self.view_is c.args.key.now c.args.endpoint.now c.requires in
+    let freed = freed_as c.leave.result c.unwrap-left.result c.unwrap-left.ensures _ _
+    c.leave.ensures.ended c.in-Some.is in
+    let pools = ap figures_of c.take_back.ensures.after
+    ∙ (figures-return i.pools c.in-Some.pool c.from.result
+    ∙ (ap (pools_after_return u.pools c.in-Some.pool) c.from.ensures
+    ∙ ap (pools_after_end u.pools) (sym freed))) in
+    let left = on_ok c.leave.result c.unwrap-left.result c.unwrap-left.ensures c.leave.ensures.ok in
+    IsBacked-is (with_usage u _
+    (pools_after_end u.pools (freed_by_leave u.calls c.args.key.now c.args.endpoint.now)))
+    c.leave.new.self.calls (figures_of c.take_back.new.self) c.leave.new.self.most
+    (IsBacked-leave u c.self.invariant c.args.key.now c.args.endpoint.now call.0 call.1)
+    left.rows pools left.most
+
+pub invariant_of-self-in_default : goal.invariant_of-self-in_default
+invariant_of-self-in_default g c =
+    let i = c.self.inside in
+    let u = usage_in i.calls i.pools i.limit i.call_limit in
+    let call = call_left _ _ c.self.view_is c.args.key.now c.args.endpoint.now c.requires in
+    let left = on_ok c.leave.result c.unwrap-left.result c.unwrap-left.ensures c.leave.ensures.ok in
+    let freed = freed_as c.leave.result c.unwrap-left.result c.unwrap-left.ensures _ _
+    c.leave.ensures.ended c.in_default.is in
+    IsBacked-is (with_usage u _
+    (pools_after_end u.pools (freed_by_leave u.calls c.args.key.now c.args.endpoint.now)))
+    c.leave.new.self.calls u.pools c.leave.new.self.most
+    (IsBacked-leave u c.self.invariant c.args.key.now c.args.endpoint.now call.0 call.1)
+    left.rows (ap (pools_after_end u.pools) (sym freed)) left.most
+
+pub returns-in-Some-clause-usage : goal.returns-in-Some-clause-usage
+returns-in-Some-clause-usage g c =
+    let i = c.self.inside in
+    let u = usage_in i.calls i.pools i.limit i.call_limit in
+    let freed = freed_as c.leave.result c.unwrap-left.result c.unwrap-left.ensures _ _
+    c.leave.ensures.ended c.in-Some.is in
+    let pools = ap figures_of c.take_back.ensures.after
+    ∙ (figures-return i.pools c.in-Some.pool c.from.result
+    ∙ (ap (pools_after_return u.pools c.in-Some.pool) c.from.ensures
+    ∙ ap (pools_after_end u.pools) (sym freed))) in
+    let left = on_ok c.leave.result c.unwrap-left.result c.unwrap-left.ensures c.leave.ensures.ok in
+    subst (λ (l : Lending). usage_in c.leave.new.self c.take_back.new.self i.limit i.call_limit
+    ≡ with_usage l.usage (after_leave l.usage.calls c.args.key.now c.args.endpoint.now)
+    (pools_after_end l.usage.pools
+    (freed_by_leave l.usage.calls c.args.key.now c.args.endpoint.now))) c.self.view_is
+    (λ j. record {
+      calls = left.rows j;
+      pools = pools j;
+      most = left.most j;
+      limit = i.limit;
+      call_limit = i.call_limit;
+    })
+
+pub returns-in-Some-clause-lasts : goal.returns-in-Some-clause-lasts
+returns-in-Some-clause-lasts g c =
+    ap lasts_of c.take_back.ensures.after
+    ∙ (lasts-return c.self.inside.pools c.in-Some.pool c.from.result
+    ∙ ap (λ (l : Lending). l.lasts) c.self.view_is)

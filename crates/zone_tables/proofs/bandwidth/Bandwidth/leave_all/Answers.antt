@@ -1,0 +1,60 @@
+use Rattle.std.proofs.Common.{◌<◌, ◌∙◌, ap, refl, subst, sym, None}
+use Rattle.std.specs.Prelude.{IsSome}
+use Rattle.std.specs.FinMap as fin
+use Rattle.admission.specs.Calls.{IsInNoCall, leg_at, legs_of}
+use Rattle.zone_tables.specs.Leaving.{AreSameButLent, rest_of}
+use Rattle.zone_tables.specs.Parts.{Lending, Usage}
+use Rattle.zone_tables.proofs.ButLent.{same_after_end, same_through}
+use Rattle.zone_tables.proofs.Departing.{all_left, fewer_legs, rest_after, same_after_leave}
+use Rattle.zone_tables.proofs.bandwidth.Bandwidth.leave_all.Goals as goal
+
+pub loop-call-init : goal.loop-call-init
+loop-call-init g c = record {
+  calls = λ key. refl;
+  pools = same_after_end c.args.self.now.usage.pools None;
+  most = refl;
+  limit = refl;
+  call_limit = refl;
+  lasts = refl;
+}
+
+pub loop-call-smaller : goal.loop-call-smaller
+loop-call-smaller g c =
+    let e = c.args.endpoint.now in
+    let calls = c.loop-call.self.usage.calls in
+    let has = subst (λ (l : Lending). IsSome (leg_at l.usage.calls c.in-Some.call e)) c.self.view_is
+    c.in-Some.ensures in
+    subst (λ (u : Usage). legs_of u.calls e < legs_of calls e) (sym c.leave.ensures.usage)
+    (fewer_legs e calls c.in-Some.call has)
+
+pub loop-call-preserved : goal.loop-call-preserved
+loop-call-preserved g c =
+    let e = c.args.endpoint.now in
+    let old = c.args.self.now.usage in
+    let now = c.loop-call.self.usage in
+    let so_far = c.loop-call.invariant in
+    let usage = c.leave.ensures.usage in
+    record {
+      calls = λ key. ap (λ (u : Usage). rest_of e (fin.get u.calls key)) usage
+          ∙ (rest_after e now.calls c.in-Some.call key ∙ so_far.calls key);
+      pools = same_through old.pools now.pools c.leave.new.self.usage.pools so_far.pools
+          (subst (λ (u : Usage). AreSameButLent now.pools u.pools) (sym usage)
+          (same_after_leave e now.calls now.pools c.in-Some.call));
+      most = ap (λ (u : Usage). u.most) usage ∙ so_far.most;
+      limit = ap (λ (u : Usage). u.limit) usage ∙ so_far.limit;
+      call_limit = ap (λ (u : Usage). u.call_limit) usage ∙ so_far.call_limit;
+      lasts = c.leave.ensures.lasts ∙ so_far.lasts;
+    }
+
+pub returns-clause-left : goal.returns-clause-left
+returns-clause-left g c =
+    let none = subst (λ (l : Lending). IsInNoCall l.usage.calls c.args.endpoint.now) c.self.view_is
+    c.in_default.ensures in
+    record {
+      calls = all_left c.args.endpoint.now c.args.self.now.usage.calls c.loop-call.self.usage.calls
+          c.loop-call.invariant.calls c.len-sound.ensures.calls none;
+      pools = c.loop-call.invariant.pools;
+      most = c.loop-call.invariant.most;
+      limit = c.loop-call.invariant.limit;
+      call_limit = c.loop-call.invariant.call_limit;
+    }

@@ -1,0 +1,21 @@
+use Rattle.std.proofs.Common.{◌≡◌}
+use Rattle.std.specs.FinMap as fin
+use Rattle.ras_module.specs.declared.call_key.CallKey.{CallKey}
+use Rattle.admission.specs.Calls.{legs_of}
+use Rattle.zone_tables.specs.Leaving.{AreSameButLent, rest_of}
+use Rattle.zone_tables.proofs.bandwidth.Bandwidth.leave_all.Given as goal
+
+-- some calls were left so far, and what is left of all is the same
+abbrev pub invariant-loop-call : goal.invariant-loop-call
+invariant-loop-call g l = record {
+  calls : (key : CallKey) → rest_of l.endpoint (fin.get l.self.usage.calls key)
+      ≡ rest_of l.endpoint (fin.get l.fn.self.usage.calls key);
+  pools : AreSameButLent l.fn.self.usage.pools l.self.usage.pools;
+  most : l.self.usage.most ≡ l.fn.self.usage.most;
+  limit : l.self.usage.limit ≡ l.fn.self.usage.limit;
+  call_limit : l.self.usage.call_limit ≡ l.fn.self.usage.call_limit;
+  lasts : l.self.lasts ≡ l.fn.self.lasts;
+}
+
+abbrev pub decreases-loop-call : goal.decreases-loop-call
+decreases-loop-call g l = legs_of l.self.usage.calls l.endpoint

@@ -1,0 +1,17 @@
+use Rattle.std.proofs.Common.{length, ap, arith}
+use Rattle.registrations.specs.Agreement.{is_registered_elsewhere}
+use Rattle.zone_tables.proofs.Fitting.{fits, length-filter}
+use Rattle.zone_tables.proofs.tables.ZoneTables.conflicts.Goals as goal
+
+pub unwrap-requires : goal.unwrap-requires
+unwrap-requires g c =
+    let aliases = c.as_slice.result.now in
+    let elsewhere = is_registered_elsewhere c.self.inside.endpoints.live c.args.address in
+    fits c.new.result c.in_ok-held.held c.new.ensures
+    (omega (
+      arith,
+      ap length c.in_ok-held.ensures,
+      length-filter elsewhere aliases,
+      ap length c.as_slice.ensures.items,
+      c.as_slice.ensures.few,
+    ))

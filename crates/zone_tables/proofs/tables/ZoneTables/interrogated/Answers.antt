@@ -1,0 +1,12 @@
+use Rattle.registrations.specs.Registry.{after_ask}
+use Rattle.zone_tables.proofs.Legs.{AreParts-live, legs-update}
+use Rattle.zone_tables.proofs.tables.ZoneTables.interrogated.Goals as goal
+
+pub invariant_of-self : goal.invariant_of-self
+invariant_of-self g c =
+    let i = c.self.inside in
+    let parts = c.self.invariant in
+    let u = i.bandwidth.usage in
+    AreParts-live i.config i.endpoints c.interrogated.new.self u parts c.interrogated.ensures.most _
+    c.interrogated.ensures.live
+    (legs-update i.endpoints.live u.calls c.args.id.now (after_ask c.args.now) parts.legs)

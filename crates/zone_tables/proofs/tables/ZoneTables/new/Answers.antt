@@ -1,0 +1,30 @@
+use Rattle.std.proofs.Common.{◌≡◌, All, refl, sym, subst, arith, length}
+use Rattle.std.specs.FinMap as fin
+use Rattle.std.proofs.lemmas.List.{length-map}
+use Rattle.admission.proofs.Soundness.{EachCall-empty}
+use Rattle.zone_tables.specs.Pools.{figures_of}
+use Rattle.zone_tables.specs.Changes.{IsRegistered}
+use Rattle.zone_tables.specs.Parts.{AreParts, Roll, Usage}
+use Rattle.zone_tables.proofs.tables.ZoneTables.new.Goals as goal
+
+pub invariant_of-result : goal.invariant_of-result
+invariant_of-result g c =
+    let u : Usage = record {
+      calls = fin.empty;
+      pools = figures_of c.args.pools;
+      most = c.args.config.calls;
+      limit = c.args.config.limit;
+      call_limit = c.args.config.call_limit;
+    } in
+    let as_many : length u.pools ≡ length c.args.config.networks =
+    omega (arith, length-map c.args.pools (λ a. a.figures), c.requires.each) in
+    subst (λ (u : Usage). AreParts c.args.config c.new-endpoints.result u)
+    (sym c.new-bandwidth.ensures.usage)
+    (subst (λ (roll : Roll). AreParts c.args.config roll u) (sym c.new-endpoints.ensures) (record {
+      endpoints = c.endpoints.ensures.same;
+      calls = refl;
+      limit = refl;
+      call_limit = refl;
+      pools = as_many;
+      legs = EachCall-empty (λ call. All (IsRegistered fin.empty) call.legs);
+    }))

@@ -1,0 +1,9 @@
+pub mod Tables
+pub mod Pools
+pub mod Soundness
+pub mod Parts
+pub mod Changes
+pub mod UnitRequests
+pub mod Leaving
+pub mod Disengaging
+pub mod Translation

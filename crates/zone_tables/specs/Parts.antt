@@ -1,0 +1,65 @@
+-- The parts of a zone: its endpoints, and its calls with the pools that lend them their units.
+use Rattle.std.specs.Prelude.{ℕ, ◌≡◌, ◌≤◌, ◌<◌, ◌^◌, List, length}
+use Rattle.registrations.specs.Registry.{Live}
+use Rattle.admission.specs.Calls.{OpenCalls, EachCall, in_use}
+use Rattle.pools.specs.declared.interface.Figures.{Figures}
+use Rattle.zone_tables.specs.Tables.{Tables, Last}
+use Rattle.zone_config.specs.declared.config.ConfigParts.{ConfigParts}
+use Rattle.zone_tables.specs.Soundness.{HaveEndpoints, IsLentTo}
+
+-- the endpoints, and how many there may be
+pub record Roll : Type 0 where
+  pub live : Live
+  pub most : ℕ
+
+-- The calls and the pools; how many calls there may be; and how many units all calls and one call
+-- may use.
+pub record Usage : Type 0 where
+  pub calls : OpenCalls
+  pub pools : List Figures
+  pub most : ℕ
+  pub limit : ℕ
+  pub call_limit : ℕ
+
+abbrev pub usage_of : Tables → Usage
+usage_of z = record {
+  calls = z.calls;
+  pools = z.pools;
+  most = z.config.calls;
+  limit = z.config.limit;
+  call_limit = z.config.call_limit;
+}
+
+-- with the last request of each pool, and how many more calls can be opened so that no memory is
+-- taken for them
+pub record Lending : Type 0 where
+  pub usage : Usage
+  pub lasts : List Last
+  pub room : ℕ
+
+-- these calls are open instead, and these are the figures of the pools
+abbrev pub with_usage : Usage → OpenCalls → List Figures → Usage
+with_usage u calls pools = record u { calls = calls; pools = pools }
+
+-- what each pool has lent is what its calls use, and no limit is passed; that of a call is a
+-- BandWidth (H.225.0)
+pub record IsBacked (u : Usage) : Type 0 where
+  pub small : u.call_limit < 2 ^ 32
+  pub lent : IsLentTo u.pools u.calls
+  pub pools : EachCall (λ call. call.pool < length u.pools) u.calls
+  pub call_limit : EachCall (λ call. call.units ≤ u.call_limit) u.calls
+  pub limit : in_use u.calls ≤ u.limit
+
+-- the endpoints and the calls of a zone with these settings
+pub record AreParts (config : ConfigParts) (roll : Roll) (u : Usage) : Type 0 where
+  pub endpoints : roll.most ≡ config.endpoints
+  pub calls : u.most ≡ config.calls
+  pub limit : u.limit ≡ config.limit
+  pub call_limit : u.call_limit ≡ config.call_limit
+  pub pools : length u.pools ≡ length config.networks
+  pub legs : HaveEndpoints roll.live u.calls
+
+-- the zone of a gatekeeper as it runs: beside it, the last request of each pool with its answer
+pub record RunningTables : Type 0 where
+  pub zone : Tables
+  pub lasts : List Last

@@ -1,0 +1,54 @@
+-- The figures of a zone's pools, and what they were asked for last.
+use Rattle.std.specs.Prelude.{ℕ, ◌-◌, List, map, slice_index_or, slice_set, Option, None, Some}
+use Rattle.pools.specs.declared.interface.Figures.{Figures}
+use Rattle.pools.specs.declared.interface.Lend.{Lend}
+use Rattle.pools.specs.Account.{Account, opening_account, figures_after_answer}
+use Rattle.zone_tables.specs.Tables.{Last}
+
+-- the figures of each account, and its last request with the answer
+abbrev pub figures_of : List Account → List Figures
+figures_of accounts = map (λ a. a.figures) accounts
+
+abbrev pub lasts_of : List Account → List Last
+lasts_of accounts = map (λ a. a.last) accounts
+
+-- the figures at a place; past the end, those of a pool of no units
+abbrev pub figures_at : List Figures → ℕ → Figures
+figures_at pools pool = slice_index_or pools pool (opening_account 0).figures
+
+-- a pool gave this answer: no other pool changes
+abbrev pub pools_after_answer : List Figures → ℕ → Lend → List Figures
+pools_after_answer pools pool answer =
+    slice_set pools pool (figures_after_answer (figures_at pools pool) answer)
+
+abbrev pub figures_after_return : Figures → ℕ → Figures
+figures_after_return f n = record f { lent = f.lent - n }
+
+-- so many units came back to a pool: no other pool changes
+abbrev pub pools_after_return : List Figures → ℕ → ℕ → List Figures
+pools_after_return pools pool n =
+    slice_set pools pool (figures_after_return (figures_at pools pool) n)
+
+-- what a call that ended had from its pool came back
+abbrev pub pools_after_end : List Figures → Option (ℕ × ℕ) → List Figures
+pools_after_end pools None = pools
+pools_after_end pools (Some freed) = pools_after_return pools freed.0 freed.1
+
+abbrev pub without_loans : Figures → Figures
+without_loans f = record f { lent = 0 }
+
+-- all that was lent came back
+abbrev pub figures_without_loans : List Figures → List Figures
+figures_without_loans pools = map without_loans pools
+
+-- so many units are asked of a pool
+pub record RequestedUnits : Type 0 where
+  pub pool : ℕ
+  pub units : ℕ
+
+-- The pool that was asked has that request, with the answer, as its last one; the last requests of
+-- all others stay, and all stay where none was asked.
+abbrev pub lasts_after : List Last → Option RequestedUnits → Option Lend → List Last
+lasts_after lasts (Some requested) (Some answer) = slice_set lasts requested.pool (Some (requested.units, answer))
+lasts_after lasts (Some requested) None = lasts
+lasts_after lasts None answer = lasts

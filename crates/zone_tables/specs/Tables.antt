@@ -1,0 +1,41 @@
+-- What a zone has.
+use Rattle.std.specs.Prelude.{ℕ, List, Option}
+use Rattle.std.specs.FinMap.{empty}
+use Rattle.keyed.specs.Maps.{update}
+use Rattle.registrations.specs.Registry.{Live, after_hear}
+use Rattle.admission.specs.Calls.{OpenCalls}
+use Rattle.pools.specs.declared.interface.Figures.{Figures}
+use Rattle.pools.specs.declared.interface.Lend.{Lend}
+use Rattle.zone_config.specs.declared.config.ConfigParts.{ConfigParts}
+
+-- A zone: its settings, which endpoints are registered, the calls, and the figures of its pools.
+pub record Tables : Type 0 where
+  pub config : ConfigParts
+  pub live : Live
+  pub calls : OpenCalls
+  pub pools : List Figures
+
+-- a zone in which nobody is registered and no call is open
+abbrev pub empty_tables : ConfigParts → List Figures → Tables
+empty_tables config pools = record {
+  config = config;
+  live = empty;
+  calls = empty;
+  pools = pools;
+}
+
+-- the zone in which this is registered instead
+abbrev pub with_live : Tables → Live → Tables
+with_live z live = record z { live = live }
+
+-- the zone in which these calls are open instead
+abbrev pub with_calls : Tables → OpenCalls → Tables
+with_calls z calls = record z { calls = calls }
+
+-- the endpoint was heard now, if it is registered
+abbrev pub heard_now : ℕ → List ℕ → Live → Live
+heard_now now id live = update live id (after_hear now)
+
+-- what a pool was asked for last, with its answer
+abbrev pub Last : Type 0
+Last = Option (ℕ × Lend)

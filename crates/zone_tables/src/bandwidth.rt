@@ -1,0 +1,287 @@
+//! The calls of a zone, with the pools that lend them their bandwidth.
+
+ghost use Rattle.std.specs.Prelude.{◌≡◌, ◌<◌, ◌≤◌, ◌^◌, ℕ, All, Some, IfOk, IsSome, IsTrue, OnErr, OnOk, map};
+ghost use Rattle.std.specs.Option.{option_copied};
+ghost use Rattle.std.specs.FinMap as fin;
+ghost use Rattle.keyed.specs.Maps.{update};
+ghost use Rattle.admission.specs.Calls.{EachCall, IsCall, after_leave, freed_by_leave, in_use, leg_at};
+ghost use Rattle.admission.specs.Calls.{legs_of, new_call, with_leg, with_units};
+ghost use Rattle.pools.specs.Account.{IsAnswer, is_idle};
+ghost use Rattle.zone_tables.specs.Pools.{figures_at, figures_of, figures_without_loans, lasts_of};
+ghost use Rattle.zone_tables.specs.Pools.{pools_after_answer, pools_after_end, pools_after_return};
+ghost use Rattle.zone_tables.specs.Changes.{IsCallChange, IsJoinable, IsLowerable, IsOpenable};
+ghost use Rattle.zone_tables.specs.UnitRequests.{IsEnterable, IsUnitRequest};
+ghost use Rattle.zone_tables.specs.UnitRequests.{units_requested, calls_after_answer};
+ghost use Rattle.zone_tables.specs.Changes.{calls_after, pools_after};
+ghost use Rattle.zone_tables.specs.Parts.{IsBacked, with_usage};
+ghost use Rattle.zone_tables.specs.Leaving.{HaveLeft};
+ghost use Rattle.zone_tables.specs.Soundness.{HasCounts};
+ghost use Rattle.zone_tables.specs.Pools.{lasts_after};
+
+use crate::change::CallChange;
+use crate::unit_request::{Purpose, UnitRequest};
+use admission::{Call, CallList, Calls, Leg};
+use pools::{Lend, Pool, PoolSet};
+use ras_module::{CallKey, EndpointId};
+use std::alloc::{AllocError, Global};
+use std::marker::Model;
+use zone_config::Config;
+
+/// The calls, with the pools from which they have their units. Contracts see that what each pool has
+/// lent is what its calls use.
+#[derive(Drop)]
+pub struct Bandwidth<P: Pool> {
+    calls: Calls,
+    pools: PoolSet<P>,
+    limit: u64,
+    call_limit: u32,
+}
+
+impl<P: Pool> Model for Bandwidth<P> {
+    ghost use Rattle.std.specs.Coded.{codes};
+    ghost use Rattle.std.specs.FinMap as fin;
+    ghost use Rattle.zone_tables.specs.Pools.{figures_of, lasts_of};
+    ghost use Rattle.zone_tables.specs.Parts.{IsBacked, Lending};
+
+    ghost Value = { Lending };
+
+    ghost coded = { Prim.hlevel (codes, fin.code) };
+
+    ghost view = { λ b. record {
+      usage = record {
+        calls = b.calls.calls;
+        pools = figures_of b.pools;
+        most = b.calls.most;
+        limit = b.limit;
+        call_limit = b.call_limit;
+      };
+      lasts = lasts_of b.pools;
+      room = b.calls.room;
+    } };
+
+    ghost invariant = { λ b. IsBacked (record {
+      calls = b.calls.calls;
+      pools = figures_of b.pools;
+      most = b.calls.most;
+      limit = b.limit;
+      call_limit = b.call_limit;
+    }) };
+}
+
+impl<P: Pool> Bandwidth<P> {
+    /// No call, and pools with nothing lent.
+    pub fn new(alloc: Global, config: &Config, pools: PoolSet<P>) -> Self
+        requires { All (λ a. IsTrue (is_idle a)) pools }
+        ensures usage { result.usage ≡ record {
+          calls = fin.empty;
+          pools = figures_of pools;
+          most = config.now.calls;
+          limit = config.now.limit;
+          call_limit = config.now.call_limit;
+        } }
+        ensures lasts { result.lasts ≡ lasts_of pools }
+    {
+        Bandwidth {
+            calls: Calls::new(alloc, config.calls()),
+            pools,
+            limit: config.parts().limit,
+            call_limit: config.call_limit(),
+        }
+    }
+
+    /// How many calls are open.
+    pub fn len(&self) -> usize
+        ensures len { result ≡ fin.len self.now.usage.calls }
+        ensures few { fin.len self.now.usage.calls ≤ self.now.usage.most }
+        ensures calls { EachCall IsCall self.now.usage.calls }
+        ensures backed { IsBacked self.now.usage }
+        ensures pools { All (λ f. f.lent ≤ f.limit) self.now.usage.pools }
+    {
+        let _set = self.pools.len();
+        self.calls.len()
+    }
+
+    pub fn get(&self, key: &CallKey) -> Option<&Call>
+        ensures { option_copied result ≡ fin.get self.now.usage.calls key.now }
+    {
+        self.calls.get(key)
+    }
+
+    pub fn leg(&self, key: &CallKey, endpoint: &EndpointId) -> Option<&Leg>
+        ensures { option_copied result ≡ leg_at self.now.usage.calls key.now endpoint.now }
+    {
+        self.calls.leg(key, endpoint)
+    }
+
+    /// The table of the calls.
+    pub fn table(&self) -> &Calls
+        ensures { result.now.calls ≡ self.now.usage.calls }
+    {
+        &self.calls
+    }
+
+    /// In how many calls an endpoint has a leg.
+    pub fn legs_of(&self, endpoint: &EndpointId) -> usize
+        ensures { result ≡ legs_of self.now.usage.calls endpoint.now }
+    {
+        self.calls.legs_of(endpoint)
+    }
+
+    /// The units of all calls.
+    pub fn in_use(&self) -> u64
+        ensures sum { result ≡ in_use self.now.usage.calls }
+        ensures few { result ≤ self.now.usage.limit }
+    {
+        self.calls.total()
+    }
+
+    /// Copies of the calls, by rising key.
+    pub fn list(&self) -> Result<CallList, AllocError>
+        ensures { IfOk result (λ list. list ≡ fin.entries self.now.usage.calls) }
+    {
+        self.calls.list()
+    }
+
+    /// Makes room for one more call.
+    pub fn reserve(&mut self) -> Result<(), AllocError>
+        ensures usage { self.new.usage ≡ self.old.usage }
+        ensures lasts { self.new.lasts ≡ self.old.lasts }
+        ensures room { OnOk result (0 < self.new.room) }
+    {
+        self.calls.reserve(1)
+    }
+
+    /// Makes a change for which no pool is asked. All that may want memory comes first.
+    pub fn apply(&mut self, change: CallChange) -> Result<(), AllocError>
+        requires { IsCallChange self.old.usage change }
+        ensures ok { OnOk result (self.new.usage ≡ with_usage self.old.usage
+            (calls_after change self.old.usage.calls)
+            (pools_after change self.old.usage.calls self.old.usage.pools)) }
+        ensures lasts { self.new.lasts ≡ self.old.lasts }
+        ensures err { OnErr result (self.new.usage ≡ self.old.usage) }
+    {
+        match change {
+            CallChange::Opening(key, pool, leg) => self.open(key, pool, leg)?,
+            CallChange::Joining(key, leg) => self.join(key, leg),
+            CallChange::Lowering(key, units, pool, back) => self.lower(&key, units, pool, back),
+            CallChange::Leaving(key, endpoint) => self.leave(&key, &endpoint),
+        }
+        Ok(())
+    }
+
+    /// Opens a call without units.
+    fn open(&mut self, key: CallKey, pool: usize, leg: Leg) -> Result<(), AllocError>
+        requires { IsOpenable self.old.usage key pool }
+        ensures ok { OnOk result (self.new.usage ≡ with_usage self.old.usage
+            (fin.insert self.old.usage.calls key (new_call pool 0 leg)) self.old.usage.pools) }
+        ensures lasts { self.new.lasts ≡ self.old.lasts }
+        ensures err { OnErr result (self.new.usage ≡ self.old.usage) }
+    {
+        self.calls.reserve(1)?;
+        self.calls.open(key, pool, 0, leg).unwrap();
+        Ok(())
+    }
+
+    fn join(&mut self, key: CallKey, leg: Leg)
+        requires { IsJoinable self.old.usage.calls key leg }
+        ensures usage { self.new.usage ≡ with_usage self.old.usage
+            (update self.old.usage.calls key (with_leg leg)) self.old.usage.pools }
+        ensures lasts { self.new.lasts ≡ self.old.lasts }
+    {
+        self.calls.join(key, leg).unwrap();
+    }
+
+    fn lower(&mut self, key: &CallKey, units: u32, pool: usize, back: u32)
+        requires { IsLowerable self.old.usage.calls key.now units pool back }
+        ensures usage { self.new.usage ≡ with_usage self.old.usage
+            (update self.old.usage.calls key.now (with_units units))
+            (pools_after_return self.old.usage.pools pool back) }
+        ensures lasts { self.new.lasts ≡ self.old.lasts }
+    {
+        self.pools.take_back(pool, u64::from(back));
+        self.calls.set_units(key, units).unwrap();
+    }
+
+    fn leave(&mut self, key: &CallKey, endpoint: &EndpointId)
+        requires { IsSome (leg_at self.old.usage.calls key.now endpoint.now) }
+        ensures usage { self.new.usage ≡ with_usage self.old.usage
+            (after_leave self.old.usage.calls key.now endpoint.now)
+            (pools_after_end self.old.usage.pools
+            (freed_by_leave self.old.usage.calls key.now endpoint.now)) }
+        ensures lasts { self.new.lasts ≡ self.old.lasts }
+    {
+        let left = self.calls.leave(key, endpoint).unwrap();
+        if let Some((pool, units)) = left.ended {
+            self.pools.take_back(pool, u64::from(units));
+        }
+    }
+
+    /// An endpoint leaves all its calls.
+    pub fn leave_all(&mut self, endpoint: &EndpointId)
+        ensures left { HaveLeft endpoint.now self.old.usage self.new.usage }
+        ensures lasts { self.new.lasts ≡ self.old.lasts }
+    {
+        while let Some(call) = self.calls.call_of(endpoint) {
+            self.leave(&call, endpoint);
+        }
+        let _sound = self.len();
+    }
+
+    /// The pools make a turn.
+    pub fn turn(&mut self)
+        ensures { self.new ≡ self.old }
+    {
+        self.pools.turn();
+    }
+
+    /// Requests units of a pool for a call, which opens with them or gets them where they are lent. This
+    /// takes no memory.
+    pub fn request_units(&mut self, request: &UnitRequest) -> Lend
+        requires room { 0 < self.old.room }
+        requires may { IsUnitRequest self.old.usage request.now }
+        requires counts { All (HasCounts (2 ^ 63)) self.old.usage.pools }
+        ensures answer { IsAnswer (figures_at self.old.usage.pools request.now.pool)
+            request.now.units result }
+        ensures usage { self.new.usage ≡ with_usage self.old.usage
+            (calls_after_answer request.now result self.old.usage.calls)
+            (pools_after_answer self.old.usage.pools request.now.pool result) }
+        ensures lasts { self.new.lasts ≡ lasts_after self.old.lasts
+            (Some (units_requested request.now)) (Some result) }
+    {
+        let answer = self.pools.lend(request.pool, u64::from(request.units));
+        enter(&mut self.calls, request, answer);
+        answer
+    }
+
+    /// The pools, in their order, with nothing lent.
+    pub fn close(self) -> Vec<P>
+        ensures figures { figures_of (map P.account result.items)
+            ≡ figures_without_loans self.usage.pools }
+        ensures lasts { lasts_of (map P.account result.items) ≡ self.lasts }
+        ensures repaid { All (λ f. f.lent ≡ 0) (figures_of (map P.account result.items)) }
+    {
+        let Bandwidth { pools, .. } = self;
+        pools.close()
+    }
+}
+
+/// Enters a pool's answer into the calls: one opens with the units that were lent, or gets them.
+fn enter(calls: &mut Calls, request: &UnitRequest, answer: Lend)
+    requires { IsEnterable calls.old request.now answer }
+    ensures calls { calls.new.calls ≡ calls_after_answer request.now answer calls.old.calls }
+    ensures most { calls.new.most ≡ calls.old.most }
+{
+    let Lend::Lent(units) = answer else {
+        return;
+    };
+    match request.purpose {
+        Purpose::Opening(leg) => {
+            let opened = calls.open(request.call, request.pool, units as u32, leg);
+            opened.unwrap();
+        }
+        Purpose::Raising(had) => {
+            let raised = calls.set_units(&request.call, had + units as u32);
+            raised.unwrap();
+        }
+    }
+}

@@ -1,0 +1,16 @@
+//! The tables of a gatekeeper's zone (ITU-T H.323): its endpoints with their aliases, its calls with
+//! the pools that lend them their bandwidth, and its settings. Each change of them is made as a whole
+//! or not at all.
+#![tactic(auto)]
+
+mod bandwidth;
+mod change;
+mod endpoints;
+mod entry;
+mod tables;
+mod unit_request;
+
+pub use change::{CallChange, Change, EndpointChange};
+pub use entry::Entry;
+pub use tables::ZoneTables;
+pub use unit_request::{Purpose, UnitRequest};

@@ -1,0 +1,314 @@
+//! The tables of a zone: its endpoints and its calls, under its settings.
+
+ghost use Rattle.std.specs.Prelude.{◌≡◌, ◌<◌, ◌≤◌, ◌^◌, All, IfOk, IfSome, IsTrue, OnErr, OnOk, Some, length, map};
+ghost use Rattle.std.specs.Option.{IsSomeAnd, option_copied};
+ghost use Rattle.std.specs.FinMap as fin;
+ghost use Rattle.keyed.specs.Maps.{update};
+ghost use Rattle.registrations.specs.Registry.{at_address, IsConsistent, IsListOf, IsUnused, after_ask};
+ghost use Rattle.registrations.specs.Agreement.{registered_elsewhere};
+ghost use Rattle.zone_tables.specs.Translation.{translation};
+ghost use Rattle.admission.specs.Calls.{EachLeg, in_use, leg_at, legs_of};
+ghost use Rattle.zone_tables.specs.Leaving.{AreSameButLent, IsOther};
+ghost use Rattle.pools.specs.Account.{IsAnswer, is_idle};
+ghost use Rattle.zone_tables.specs.Tables.{empty_tables, with_live};
+ghost use Rattle.zone_tables.specs.Disengaging.{without_endpoint, without_legs_of, without_silent};
+ghost use Rattle.zone_tables.specs.Pools.{figures_at, figures_of, figures_without_loans, lasts_of};
+ghost use Rattle.zone_tables.specs.Pools.{pools_after_answer};
+ghost use Rattle.zone_tables.specs.Parts.{usage_of};
+ghost use Rattle.zone_tables.specs.Changes.{IsPossible, IsRegistered};
+ghost use Rattle.zone_tables.specs.UnitRequests.{IsUnitRequest};
+ghost use Rattle.zone_tables.specs.UnitRequests.{units_requested, calls_after_answer, leg_of_purpose};
+ghost use Rattle.zone_tables.specs.Changes.{changed, heard};
+ghost use Rattle.zone_tables.specs.Pools.{lasts_after};
+ghost use Rattle.zone_tables.specs.Soundness.{HasCounts, SoundTables};
+
+use crate::bandwidth::Bandwidth;
+use crate::change::Change;
+use crate::endpoints::Endpoints;
+use crate::unit_request::UnitRequest;
+use admission::{Call, CallList, Calls, Leg};
+use pools::{Lend, Pool, PoolSet};
+use ras_module::{Address, Alias, CallKey, EndpointId, ReplyAliases};
+use registrations::{Registration, RegistrationList, Registrations};
+use std::alloc::{AllocError, Global};
+use std::marker::Model;
+use zone_config::{Config, Moment};
+
+/// The settings of a zone, its endpoints, and its calls with their pools. Contracts see that each leg's
+/// endpoint is registered.
+#[derive(Drop)]
+pub struct ZoneTables<P: Pool> {
+    config: Config,
+    endpoints: Endpoints,
+    bandwidth: Bandwidth<P>,
+}
+
+impl<P: Pool> Model for ZoneTables<P> {
+    ghost use Rattle.std.specs.Prelude.{◌≡◌, length};
+    ghost use Rattle.std.specs.Coded.{codes};
+    ghost use Rattle.std.specs.FinMap as map;
+    ghost use Rattle.zone_tables.specs.Parts.{RunningTables};
+    ghost use Rattle.zone_tables.specs.Parts.{AreParts};
+
+    ghost Value = { RunningTables };
+
+    ghost coded = { Prim.hlevel (codes, map.code) };
+
+    ghost view = { λ m. record {
+      zone = record {
+        config = m.config;
+        live = m.endpoints.live;
+        calls = m.bandwidth.usage.calls;
+        pools = m.bandwidth.usage.pools;
+      };
+      lasts = m.bandwidth.lasts;
+    } };
+
+    ghost invariant = { λ m. AreParts m.config m.endpoints m.bandwidth.usage };
+}
+
+impl<P: Pool> ZoneTables<P> {
+    /// A zone in which nobody is registered and no call is open.
+    pub fn new(alloc: Global, config: Config, pools: PoolSet<P>) -> Self
+        requires idle { All (λ a. IsTrue (is_idle a)) pools }
+        requires each { length pools ≡ length config.networks }
+        ensures zone { result.zone ≡ empty_tables config (figures_of pools) }
+        ensures lasts { result.lasts ≡ lasts_of pools }
+    {
+        let endpoints = Endpoints::new(alloc, config.endpoints());
+        let bandwidth = Bandwidth::new(alloc, &config, pools);
+        ZoneTables {
+            config,
+            endpoints,
+            bandwidth,
+        }
+    }
+
+    /// How many endpoints are registered. The zone is sound.
+    pub fn len(&self) -> usize
+        ensures len { result ≡ fin.len self.now.zone.live }
+        ensures sound { SoundTables self.now.zone }
+    {
+        let _settings = self.config.parts();
+        let _calls = self.bandwidth.len();
+        self.endpoints.len()
+    }
+
+    /// The settings.
+    pub fn config(&self) -> &Config
+        ensures same { result.now ≡ self.now.zone.config }
+        ensures asks { self.now.zone.config.asks ≤ 16 }
+        ensures sound { SoundTables self.now.zone }
+    {
+        let _ranges = self.config.parts();
+        let _sound = self.len();
+        &self.config
+    }
+
+    /// The table of the registrations.
+    pub fn registrations(&self) -> &Registrations
+        ensures { result.now.live ≡ self.now.zone.live }
+    {
+        self.endpoints.table()
+    }
+
+    /// The table of the calls.
+    pub fn calls_table(&self) -> &Calls
+        ensures { result.now.calls ≡ self.now.zone.calls }
+    {
+        self.bandwidth.table()
+    }
+
+    /// An identifier that no endpoint has, and that is not taken: any such one.
+    pub fn unused(&self, taken: &[EndpointId]) -> EndpointId
+        ensures { IsUnused self.now.zone.live taken.now result }
+    {
+        self.endpoints.unused(taken)
+    }
+
+    /// The endpoint that is registered under this identifier.
+    pub fn get(&self, id: &EndpointId) -> Option<&Registration>
+        ensures found { option_copied result ≡ fin.get self.now.zone.live id.now }
+        ensures sound { IsConsistent self.now.zone.live }
+    {
+        self.endpoints.get(id)
+    }
+
+    /// The endpoint that is registered with this call signal address.
+    pub fn by_address(&self, address: Address) -> Option<&Registration>
+        ensures { option_copied result ≡ at_address self.now.zone.live address }
+    {
+        self.endpoints.by_address(address)
+    }
+
+    /// Those of the aliases that endpoints with another call signal address hold.
+    pub fn conflicts(
+        &self,
+        aliases: &ReplyAliases,
+        address: Address,
+    ) -> Result<ReplyAliases, AllocError>
+        ensures { IfOk result (λ held.
+            held ≡ registered_elsewhere self.now.zone.live address aliases.now) }
+    {
+        let held = self.endpoints.conflicts(aliases.as_slice(), address)?;
+        Ok(ReplyAliases::new(held).unwrap())
+    }
+
+    /// The call signal address of whom the first of the aliases names that is registered, else the
+    /// other address.
+    pub fn translate(&self, aliases: &[Alias], other: Option<Address>) -> Option<Address>
+        ensures { result ≡ translation self.now.zone.live aliases.now other }
+    {
+        self.endpoints.translate(aliases, other)
+    }
+
+    /// How many calls are open.
+    pub fn calls_len(&self) -> usize
+        ensures { result ≡ fin.len self.now.zone.calls }
+    {
+        self.bandwidth.len()
+    }
+
+    /// The call with this key.
+    pub fn call(&self, key: &CallKey) -> Option<&Call>
+        ensures { option_copied result ≡ fin.get self.now.zone.calls key.now }
+    {
+        self.bandwidth.get(key)
+    }
+
+    /// The leg of an endpoint in the call with this key.
+    pub fn leg(&self, key: &CallKey, endpoint: &EndpointId) -> Option<&Leg>
+        ensures { option_copied result ≡ leg_at self.now.zone.calls key.now endpoint.now }
+    {
+        self.bandwidth.leg(key, endpoint)
+    }
+
+    /// In how many calls an endpoint has a leg.
+    pub fn legs_of(&self, endpoint: &EndpointId) -> usize
+        ensures { result ≡ legs_of self.now.zone.calls endpoint.now }
+    {
+        self.bandwidth.legs_of(endpoint)
+    }
+
+    /// Copies of the registrations, by rising identifier.
+    pub fn list(&self) -> Result<RegistrationList, AllocError>
+        ensures { IfOk result (IsListOf self.now.zone.live) }
+    {
+        self.endpoints.list()
+    }
+
+    /// Copies of the calls, by rising key.
+    pub fn calls(&self) -> Result<CallList, AllocError>
+        ensures { IfOk result (λ list. list ≡ fin.entries self.now.zone.calls) }
+    {
+        self.bandwidth.list()
+    }
+
+    /// The units of all calls.
+    pub fn in_use(&self) -> u64
+        ensures { result ≡ in_use self.now.zone.calls }
+    {
+        self.bandwidth.in_use()
+    }
+
+    /// The pools, in their order, with nothing lent.
+    pub fn close(self) -> Vec<P>
+        ensures figures { figures_of (map P.account result.items)
+            ≡ figures_without_loans self.zone.pools }
+        ensures lasts { lasts_of (map P.account result.items) ≡ self.lasts }
+    {
+        let ZoneTables { bandwidth, .. } = self;
+        bandwidth.close()
+    }
+
+    /// Makes a change. All that may want memory comes first.
+    pub fn apply(&mut self, now: Moment, change: Change) -> Result<(), AllocError>
+        requires { IsPossible self.old.zone change }
+        ensures ok { OnOk result (self.new ≡ changed self.old now change) }
+        ensures err { OnErr result (self.new ≡ self.old) }
+    {
+        match change {
+            Change::Nothing => Ok(()),
+            Change::Endpoint(change) => self.endpoints.apply(now, change),
+            Change::Calls(change) => self.bandwidth.apply(change),
+        }
+    }
+
+    /// Notes that the endpoint was heard that a request names, if it is registered.
+    pub fn hear(&mut self, now: Moment, endpoint: Option<EndpointId>)
+        ensures { self.new ≡ heard self.old now endpoint }
+    {
+        if let Some(id) = endpoint {
+            self.endpoints.hear(now, &id);
+        }
+    }
+
+    /// Requests units of a pool for a call, which opens with them or gets them where they are lent. The
+    /// memory is there before the pool is asked.
+    pub fn request_units(&mut self, request: &UnitRequest) -> Result<Lend, AllocError>
+        requires may { IsUnitRequest (usage_of self.old.zone) request.now }
+        requires leg { IfSome (leg_of_purpose request.now.purpose) (IsRegistered self.old.zone.live) }
+        requires counts { All (HasCounts (2 ^ 63)) self.old.zone.pools }
+        ensures answer { IfOk result (IsAnswer (figures_at self.old.zone.pools request.now.pool)
+            request.now.units) }
+        ensures zone { IfOk result (λ answer. self.new.zone ≡ record self.old.zone {
+          calls = calls_after_answer request.now answer self.old.zone.calls;
+          pools = pools_after_answer self.old.zone.pools request.now.pool answer;
+        }) }
+        ensures lasts { IfOk result (λ answer. self.new.lasts
+            ≡ lasts_after self.old.lasts (Some (units_requested request.now)) (Some answer)) }
+        ensures err { OnErr result (self.new ≡ self.old) }
+    {
+        self.bandwidth.reserve()?;
+        Ok(self.bandwidth.request_units(request))
+    }
+
+    /// An endpoint leaves all its calls.
+    fn leave_all(&mut self, id: &EndpointId)
+        ensures zone { self.new.zone ≡ without_legs_of self.old.zone id.now }
+        ensures lasts { self.new.lasts ≡ self.old.lasts }
+        ensures pools { AreSameButLent self.old.zone.pools self.new.zone.pools }
+        ensures gone { EachLeg (IsOther id.now) self.new.zone.calls }
+    {
+        let _before = self.bandwidth.len();
+        self.bandwidth.leave_all(id);
+        let _after = self.bandwidth.len();
+    }
+
+    /// A registration goes, with the endpoint's legs.
+    pub fn lapse(&mut self, id: &EndpointId)
+        ensures zone { self.new.zone ≡ without_endpoint self.old.zone id.now }
+        ensures lasts { self.new.lasts ≡ self.old.lasts }
+        ensures pools { AreSameButLent self.old.zone.pools self.new.zone.pools }
+    {
+        self.leave_all(id);
+        self.endpoints.remove(id);
+    }
+
+    /// The legs of an endpoint go that is silent.
+    pub fn silence(&mut self, id: &EndpointId)
+        ensures zone { self.new.zone ≡ without_silent self.old.zone id.now }
+        ensures lasts { self.new.lasts ≡ self.old.lasts }
+        ensures pools { AreSameButLent self.old.zone.pools self.new.zone.pools }
+    {
+        self.leave_all(id);
+        self.endpoints.calm(id);
+    }
+
+    /// Notes that an endpoint is asked for a sign of life now.
+    pub fn interrogated(&mut self, now: Moment, id: &EndpointId)
+        requires { IsSomeAnd (fin.get self.old.zone.live id.now) (λ r. r.tries < 16) }
+        ensures zone { self.new.zone
+            ≡ with_live self.old.zone (update self.old.zone.live id.now (after_ask now)) }
+        ensures lasts { self.new.lasts ≡ self.old.lasts }
+    {
+        self.endpoints.interrogated(now, id);
+    }
+
+    /// The pools make a turn.
+    pub fn turn_pools(&mut self)
+        ensures { self.new ≡ self.old }
+    {
+        self.bandwidth.turn();
+    }
+}
