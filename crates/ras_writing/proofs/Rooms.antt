@@ -366,3 +366,28 @@ room_enough reply h =
       length-octets_in count (list ++ pad (length list % 8)),
       (components_fit reply h).here 0 (omega arith),
     )
+
+room_most : (reply : Reply) → IsReply reply → room_of reply ≤ 20000
+room_most (Gcf seq gatekeeper ras) h = omega arith
+room_most (Grj seq reason) h = omega arith
+room_most (Rcf seq call_signal list gatekeeper endpoint granted) h = omega (arith, h.named.few)
+room_most (Rrj seq registration.DiscoveryRequired) h = omega arith
+room_most (Rrj seq registration.InvalidCallSignalAddress) h = omega arith
+room_most (Rrj seq registration.InvalidRasAddress) h = omega arith
+room_most (Rrj seq (registration.DuplicateAlias held)) h = omega (arith, h.1.few)
+room_most (Rrj seq registration.ResourceUnavailable) h = omega arith
+room_most (Rrj seq registration.FullRegistrationRequired) h = omega arith
+room_most (Ucf seq) h = omega arith
+room_most (Urj seq reason) h = omega arith
+room_most (Acf seq units dest) h = omega arith
+room_most (Arj seq reason) h = omega arith
+room_most (Bcf seq units) h = omega arith
+room_most (Brj seq reason allowed) h = omega arith
+room_most (Dcf seq) h = omega arith
+room_most (Drj seq reason) h = omega arith
+room_most (Irq seq) h = omega arith
+room_most (Rip seq delay) h = omega arith
+
+-- the octets that a datagram has room for
+pub few_octets : (reply : Reply) → IsReply reply → length (encoding_of reply) ≤ 20000
+few_octets reply h = omega (arith, room_enough reply h, room_most reply h)

@@ -1,13 +1,18 @@
-//! Writing what many replies share (H.225.0).
+//! Writing what many replies share (H.225.0). Each function says beside what it writes which
+//! bounds its value keeps, as it learns them from the value's type.
 
 ghost use Rattle.std.specs.Prelude.{false, ◌≡◌, ◌≤◌, ◌<◌, ◌+◌, ◌*◌, [], ◌∷◌, length, IsTrue};
-ghost use Rattle.ras_writing.specs.Encoding.{Writes, boolean, whole, octets, size};
+ghost use Rattle.ras_writing.specs.Encoding.{Writes, boolean, whole};
+ghost use Rattle.ras_writing.specs.Encoding as encoding;
 ghost use Rattle.ras_writing.specs.Replies.{root_message, request_seq_num, protocol_identifier};
 ghost use Rattle.ras_writing.specs.Replies.{identifier, bmp_string, characters, transport_address};
 ghost use Rattle.ras_writing.specs.Replies.{band_width, null_choice, null_extension, zero_octet};
 ghost use Rattle.ras_writing.specs.Replies.{digit_code, digits, alias_address, alias_addresses};
 ghost use Rattle.ras_writing.specs.Replies.{alias_list};
 ghost use Rattle.ras_module.specs.DialledDigits.{is_dialled, AreDialled};
+ghost use Rattle.ras_writing.specs.Properties.{IsSeq, IsName, IsAddress, IsDigits, IsH323Id};
+ghost use Rattle.ras_writing.specs.Properties.{IsAlias, AreAliases};
+ghost use Rattle.std.specs.List.{AllByRecursion};
 ghost use Rattle.ras_module.specs.declared.alias.Alias.TheVariants as alias;
 
 use per_bits::BitWriter;
@@ -26,7 +31,8 @@ pub fn root_message(writer: &mut BitWriter, index: u32)
 /// RequestSeqNum.
 pub fn request_seq_num(writer: &mut BitWriter, seq: RequestSeqNum)
     requires room { 41 ≤ writer.old.room }
-    ensures { Writes 41 (request_seq_num seq ∷ []) writer.old writer.new }
+    ensures writes { Writes 41 (request_seq_num seq ∷ []) writer.old writer.new }
+    ensures bounds { IsSeq seq }
 {
     writer.whole(1, 65535, u32::from(seq.get()));
 }
@@ -43,7 +49,8 @@ pub fn protocol_identifier(writer: &mut BitWriter)
 
 fn characters(writer: &mut BitWriter, text: &[u16])
     requires { 16 * length text.now ≤ writer.old.room }
-    ensures { Writes (16 * length text.now) (characters text.now) writer.old writer.new }
+    ensures writes { Writes (16 * length text.now) (characters text.now) writer.old writer.new }
+    ensures bounds { AllByRecursion (λ x. x < 65536) text.now }
 {
     for character in text {
         writer.bits(16, u32::from(*character));
@@ -56,22 +63,34 @@ pub fn identifier(writer: &mut BitWriter, text: &[u16])
     requires some { 1 ≤ length text.now }
     requires few { length text.now ≤ 128 }
     requires room { 2096 ≤ writer.old.room }
-    ensures { Writes 2096 (identifier text.now) writer.old writer.new }
+    ensures writes { Writes 2096 (identifier text.now) writer.old writer.new }
+    ensures bounds { IsName text.now }
 {
     writer.whole(1, 128, text.len() as u32);
     writer.align();
     characters(writer, text);
 }
 
+/// OCTET STRING of a fixed size.
+fn octets(writer: &mut BitWriter, octets: &[u8])
+    requires { 7 + 8 * length octets.now ≤ writer.old.room }
+    ensures writes { Writes (7 + 8 * length octets.now) (encoding.octets octets.now ∷ [])
+        writer.old writer.new }
+    ensures bounds { AllByRecursion (λ x. x < 256) octets.now }
+{
+    writer.octets(octets);
+}
+
 /// The ipAddress of a TransportAddress.
 #[tactic(auto, unfolding(crate::specs::Replies::transport_address))]
 pub fn transport_address(writer: &mut BitWriter, address: &Address)
     requires { 122 ≤ writer.old.room }
-    ensures { Writes 122 (transport_address address.now) writer.old writer.new }
+    ensures writes { Writes 122 (transport_address address.now) writer.old writer.new }
+    ensures bounds { IsAddress address.now }
 {
     writer.bit(false);
     writer.whole(0, 6, 0);
-    writer.octets(&address.ip);
+    octets(writer, &address.ip);
     writer.whole(0, 65535, u32::from(address.port));
 }
 
@@ -161,7 +180,8 @@ fn choice_of_two(writer: &mut BitWriter, index: u32)
 #[tactic(auto, unfolding(crate::specs::Replies::alias_address))]
 fn dialled_digits(writer: &mut BitWriter, text: &DialledDigits)
     requires { 4128 ≤ writer.old.room }
-    ensures { Writes 4128 (alias_address (alias.Digits text.now)) writer.old writer.new }
+    ensures writes { Writes 4128 (alias_address (alias.Digits text.now)) writer.old writer.new }
+    ensures bounds { IsDigits text.now }
 {
     let text = text.as_slice();
     choice_of_two(writer, 0);
@@ -173,7 +193,8 @@ fn dialled_digits(writer: &mut BitWriter, text: &DialledDigits)
 #[tactic(auto, unfolding(crate::specs::Replies::alias_address))]
 fn h323_id(writer: &mut BitWriter, text: &H323Id)
     requires { 4128 ≤ writer.old.room }
-    ensures { Writes 4128 (alias_address (alias.H323Id text.now)) writer.old writer.new }
+    ensures writes { Writes 4128 (alias_address (alias.H323Id text.now)) writer.old writer.new }
+    ensures bounds { IsH323Id text.now }
 {
     let text = text.as_slice();
     choice_of_two(writer, 1);
@@ -185,7 +206,8 @@ fn h323_id(writer: &mut BitWriter, text: &H323Id)
 /// AliasAddress.
 pub fn alias_address(writer: &mut BitWriter, alias: &Alias)
     requires { 4128 ≤ writer.old.room }
-    ensures { Writes 4128 (alias_address alias.now) writer.old writer.new }
+    ensures writes { Writes 4128 (alias_address alias.now) writer.old writer.new }
+    ensures bounds { IsAlias alias.now }
 {
     match alias {
         Alias::Digits(text) => dialled_digits(writer, text),
@@ -196,8 +218,9 @@ pub fn alias_address(writer: &mut BitWriter, alias: &Alias)
 #[tactic(auto, using(crate::proofs::Behind::behind_append))]
 fn alias_addresses(writer: &mut BitWriter, aliases: &[Alias])
     requires { 4128 * length aliases.now ≤ writer.old.room }
-    ensures { Writes (4128 * length aliases.now) (alias_addresses aliases.now) writer.old
+    ensures writes { Writes (4128 * length aliases.now) (alias_addresses aliases.now) writer.old
         writer.new }
+    ensures bounds { AllByRecursion IsAlias aliases.now }
 {
     for alias in aliases {
         alias_address(writer, alias);
@@ -208,8 +231,9 @@ fn alias_addresses(writer: &mut BitWriter, aliases: &[Alias])
 pub fn alias_list(writer: &mut BitWriter, aliases: &[Alias])
     requires few { length aliases.now ≤ 32 }
     requires room { 23 + 4128 * length aliases.now ≤ writer.old.room }
-    ensures { Writes (23 + 4128 * length aliases.now) (alias_list aliases.now) writer.old
+    ensures writes { Writes (23 + 4128 * length aliases.now) (alias_list aliases.now) writer.old
         writer.new }
+    ensures bounds { AreAliases aliases.now }
 {
     writer.length(aliases.len() as u32);
     alias_addresses(writer, aliases);

@@ -2,9 +2,7 @@
 //! (ITU-T X.691).
 #![tactic(auto)]
 
-mod bounds;
 mod encoder;
 mod reply;
 
-pub use bounds::reply_bounds;
-pub use reply::write_into;
+pub use reply::{write_into, write_reserved};

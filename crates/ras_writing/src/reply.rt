@@ -16,10 +16,10 @@ ghost use Rattle.ras_writing.specs.Replies.{admission_confirm_additions, admissi
 ghost use Rattle.ras_writing.specs.Replies.{bandwidth_confirm, bandwidth_reject, disengage_confirm};
 ghost use Rattle.ras_writing.specs.Replies.{disengage_reject, info_request, request_in_progress};
 ghost use Rattle.ras_writing.specs.Replies.{components, encoding_of};
+ghost use Rattle.ras_writing.specs.Properties.{IsSeq, IsAddress, AreAliases, IsReason, IsReply};
 ghost use Rattle.ras_writing.specs.Properties.{ReadsBack};
 ghost use Rattle.ras_module.specs.Rooms.{room_of};
 
-use crate::bounds::reply_bounds;
 use crate::encoder::{
     alias_list, band_width, identifier, null_choice, null_extension, protocol_identifier,
     request_seq_num, root_message, transport_address, zero_octet,
@@ -89,8 +89,9 @@ fn disengage_reason(reason: DisengageRejectReason) -> u32
 #[tactic(auto, using(crate::proofs::Behind::behind_append), unfolding(crate::specs::Replies::registration_reason))]
 fn registration_reason(writer: &mut BitWriter, reason: &RegistrationRejectReason)
     requires { 65 + 4128 * held_in reason.now ≤ writer.old.room }
-    ensures { Writes (65 + 4128 * held_in reason.now) (registration_reason reason.now) writer.old
-        writer.new }
+    ensures writes { Writes (65 + 4128 * held_in reason.now) (registration_reason reason.now)
+        writer.old writer.new }
+    ensures bounds { IsReason reason.now }
 {
     match reason {
         RegistrationRejectReason::DiscoveryRequired => null_choice(writer, 7, 0),
@@ -114,7 +115,9 @@ pub fn gatekeeper_confirm(
     ras: &Address,
 )
     requires { 2400 ≤ writer.old.room }
-    ensures { Writes 2400 (gatekeeper_confirm seq gatekeeper.now ras.now) writer.old writer.new }
+    ensures writes { Writes 2400 (gatekeeper_confirm seq gatekeeper.now ras.now) writer.old
+        writer.new }
+    ensures bounds { IsReply (reply.Gcf seq gatekeeper.now ras.now) }
 {
     root_message(writer, 1);
     writer.bit(false);
@@ -130,7 +133,8 @@ pub fn gatekeeper_confirm(
 #[tactic(auto, using(crate::proofs::Behind::behind_append), unfolding(crate::specs::Replies::gatekeeper_reject))]
 pub fn gatekeeper_reject(writer: &mut BitWriter, seq: RequestSeqNum, reason: GatekeeperRejectReason)
     requires { 400 ≤ writer.old.room }
-    ensures { Writes 400 (gatekeeper_reject seq reason) writer.old writer.new }
+    ensures writes { Writes 400 (gatekeeper_reject seq reason) writer.old writer.new }
+    ensures bounds { IsReply (reply.Grj seq reason) }
 {
     root_message(writer, 2);
     writer.bit(false);
@@ -153,7 +157,8 @@ fn octets_for(n: u32) -> u32
 #[tactic(auto, unfolding(crate::specs::Replies::registration_confirm_additions))]
 fn registration_confirm_additions(writer: &mut BitWriter, granted: TimeToLive)
     requires { 120 ≤ writer.old.room }
-    ensures { Writes 120 (registration_confirm_additions granted) writer.old writer.new }
+    ensures writes { Writes 120 (registration_confirm_additions granted) writer.old writer.new }
+    ensures bounds { (1 ≤ granted) × (granted ≤ 4294967295) }
 {
     let seconds = granted.get();
     writer.small(5);
@@ -168,8 +173,9 @@ fn registration_confirm_additions(writer: &mut BitWriter, granted: TimeToLive)
 fn terminal_alias(writer: &mut BitWriter, aliases: &[Alias])
     requires few { length aliases.now ≤ 32 }
     requires room { 23 + 4128 * length aliases.now ≤ writer.old.room }
-    ensures { Writes (23 + 4128 * length aliases.now) (terminal_alias aliases.now) writer.old
-        writer.new }
+    ensures writes { Writes (23 + 4128 * length aliases.now) (terminal_alias aliases.now)
+        writer.old writer.new }
+    ensures bounds { AreAliases aliases.now }
 {
     if !aliases.is_empty() {
         alias_list(writer, aliases);
@@ -186,8 +192,9 @@ fn registration_confirm_front(
     has_aliases: bool,
 )
     requires { 400 ≤ writer.old.room }
-    ensures { Writes 400 (registration_confirm_front seq call_signal.now has_aliases) writer.old
-        writer.new }
+    ensures writes { Writes 400 (registration_confirm_front seq call_signal.now has_aliases)
+        writer.old writer.new }
+    ensures bounds { IsSeq seq × IsAddress call_signal.now }
 {
     root_message(writer, 4);
     writer.bit(true);
@@ -208,8 +215,9 @@ pub fn registration_reject(
     reason: &RegistrationRejectReason,
 )
     requires { 8 * room_of (reply.Rrj seq reason.now) ≤ writer.old.room }
-    ensures { Writes (8 * room_of (reply.Rrj seq reason.now))
+    ensures writes { Writes (8 * room_of (reply.Rrj seq reason.now))
         (registration_reject seq reason.now) writer.old writer.new }
+    ensures bounds { IsReply (reply.Rrj seq reason.now) }
 {
     root_message(writer, 5);
     writer.bit(false);
@@ -224,7 +232,8 @@ pub fn registration_reject(
 #[tactic(auto, unfolding(crate::specs::Replies::unregistration_confirm))]
 pub fn unregistration_confirm(writer: &mut BitWriter, seq: RequestSeqNum)
     requires { 400 ≤ writer.old.room }
-    ensures { Writes 400 (unregistration_confirm seq) writer.old writer.new }
+    ensures writes { Writes 400 (unregistration_confirm seq) writer.old writer.new }
+    ensures bounds { IsReply (reply.Ucf seq) }
 {
     root_message(writer, 7);
     writer.bit(false);
@@ -236,7 +245,8 @@ pub fn unregistration_confirm(writer: &mut BitWriter, seq: RequestSeqNum)
 #[tactic(auto, unfolding(crate::specs::Replies::unregistration_reject))]
 pub fn unregistration_reject(writer: &mut BitWriter, seq: RequestSeqNum, reason: UnregRejectReason)
     requires { 400 ≤ writer.old.room }
-    ensures { Writes 400 (unregistration_reject seq reason) writer.old writer.new }
+    ensures writes { Writes 400 (unregistration_reject seq reason) writer.old writer.new }
+    ensures bounds { IsReply (reply.Urj seq reason) }
 {
     root_message(writer, 8);
     writer.bit(false);
@@ -249,7 +259,8 @@ pub fn unregistration_reject(writer: &mut BitWriter, seq: RequestSeqNum, reason:
 #[tactic(auto, using(crate::proofs::Behind::behind_append), unfolding(crate::specs::Replies::admission_confirm))]
 pub fn admission_confirm(writer: &mut BitWriter, seq: RequestSeqNum, units: u32, dest: &Address)
     requires { 500 ≤ writer.old.room }
-    ensures { Writes 500 (admission_confirm seq units dest.now) writer.old writer.new }
+    ensures writes { Writes 500 (admission_confirm seq units dest.now) writer.old writer.new }
+    ensures bounds { IsReply (reply.Acf seq units dest.now) }
 {
     root_message(writer, 10);
     writer.bit(true);
@@ -279,7 +290,8 @@ fn admission_confirm_additions(writer: &mut BitWriter)
 #[tactic(auto, unfolding(crate::specs::Replies::admission_reject))]
 pub fn admission_reject(writer: &mut BitWriter, seq: RequestSeqNum, reason: AdmissionRejectReason)
     requires { 400 ≤ writer.old.room }
-    ensures { Writes 400 (admission_reject seq reason) writer.old writer.new }
+    ensures writes { Writes 400 (admission_reject seq reason) writer.old writer.new }
+    ensures bounds { IsReply (reply.Arj seq reason) }
 {
     root_message(writer, 11);
     writer.bit(false);
@@ -292,7 +304,8 @@ pub fn admission_reject(writer: &mut BitWriter, seq: RequestSeqNum, reason: Admi
 #[tactic(auto, unfolding(crate::specs::Replies::bandwidth_confirm))]
 pub fn bandwidth_confirm(writer: &mut BitWriter, seq: RequestSeqNum, units: u32)
     requires { 400 ≤ writer.old.room }
-    ensures { Writes 400 (bandwidth_confirm seq units) writer.old writer.new }
+    ensures writes { Writes 400 (bandwidth_confirm seq units) writer.old writer.new }
+    ensures bounds { IsReply (reply.Bcf seq units) }
 {
     root_message(writer, 13);
     writer.bit(false);
@@ -310,7 +323,8 @@ pub fn bandwidth_reject(
     allowed: u32,
 )
     requires { 400 ≤ writer.old.room }
-    ensures { Writes 400 (bandwidth_reject seq reason allowed) writer.old writer.new }
+    ensures writes { Writes 400 (bandwidth_reject seq reason allowed) writer.old writer.new }
+    ensures bounds { IsReply (reply.Brj seq reason allowed) }
 {
     root_message(writer, 14);
     writer.bit(false);
@@ -324,7 +338,8 @@ pub fn bandwidth_reject(
 #[tactic(auto, unfolding(crate::specs::Replies::disengage_confirm))]
 pub fn disengage_confirm(writer: &mut BitWriter, seq: RequestSeqNum)
     requires { 400 ≤ writer.old.room }
-    ensures { Writes 400 (disengage_confirm seq) writer.old writer.new }
+    ensures writes { Writes 400 (disengage_confirm seq) writer.old writer.new }
+    ensures bounds { IsReply (reply.Dcf seq) }
 {
     root_message(writer, 16);
     writer.bit(false);
@@ -336,7 +351,8 @@ pub fn disengage_confirm(writer: &mut BitWriter, seq: RequestSeqNum)
 #[tactic(auto, unfolding(crate::specs::Replies::disengage_reject))]
 pub fn disengage_reject(writer: &mut BitWriter, seq: RequestSeqNum, reason: DisengageRejectReason)
     requires { 400 ≤ writer.old.room }
-    ensures { Writes 400 (disengage_reject seq reason) writer.old writer.new }
+    ensures writes { Writes 400 (disengage_reject seq reason) writer.old writer.new }
+    ensures bounds { IsReply (reply.Drj seq reason) }
 {
     root_message(writer, 17);
     writer.bit(false);
@@ -350,7 +366,8 @@ pub fn disengage_reject(writer: &mut BitWriter, seq: RequestSeqNum, reason: Dise
 #[tactic(auto, unfolding(crate::specs::Replies::info_request))]
 pub fn info_request(writer: &mut BitWriter, seq: RequestSeqNum)
     requires { 500 ≤ writer.old.room }
-    ensures { Writes 500 (info_request seq) writer.old writer.new }
+    ensures writes { Writes 500 (info_request seq) writer.old writer.new }
+    ensures bounds { IsReply (reply.Irq seq) }
 {
     root_message(writer, 21);
     writer.bit(true);
@@ -370,7 +387,8 @@ pub fn info_request(writer: &mut BitWriter, seq: RequestSeqNum)
 #[tactic(auto, unfolding(crate::specs::Replies::request_in_progress))]
 pub fn request_in_progress(writer: &mut BitWriter, seq: RequestSeqNum, delay: Delay)
     requires { 400 ≤ writer.old.room }
-    ensures { Writes 400 (request_in_progress seq delay) writer.old writer.new }
+    ensures writes { Writes 400 (request_in_progress seq delay) writer.old writer.new }
+    ensures bounds { IsReply (reply.Rip seq delay) }
 {
     writer.bit(true);
     writer.small(0);
@@ -388,7 +406,8 @@ pub fn request_in_progress(writer: &mut BitWriter, seq: RequestSeqNum, delay: De
 #[tactic(auto, using(crate::proofs::Behind::behind_append), unfolding(crate::specs::Replies::registration_confirm))]
 fn write_components(writer: &mut BitWriter, reply: &Reply)
     requires { 8 * room_of reply.now ≤ writer.old.room }
-    ensures { Writes (8 * room_of reply.now) (components reply.now) writer.old writer.new }
+    ensures writes { Writes (8 * room_of reply.now) (components reply.now) writer.old writer.new }
+    ensures bounds { IsReply reply.now }
 {
     match reply {
         Reply::Gcf {
@@ -430,25 +449,36 @@ fn write_components(writer: &mut BitWriter, reply: &Reply)
     }
 }
 
+/// Writes a reply behind what is there, for which there is room: `reply.room()` more octets. From
+/// what is written the reply is read again.
+#[tactic(auto, using(crate::proofs::Rooms::room_enough, crate::proofs::Rooms::few_octets, crate::proofs::RepliesRead::reads_back))]
+pub fn write_reserved(reply: &Reply, octets: &mut Vec<u8>)
+    requires { vec_len octets.old + room_of reply.now ≤ vec_capacity octets.old }
+    ensures written { octets.new.items ≡ octets.old.items ++ encoding_of reply.now }
+    ensures room { length (encoding_of reply.now) ≤ room_of reply.now }
+    ensures most { length (encoding_of reply.now) ≤ 20000 }
+    ensures reads_back { ReadsBack reply.now }
+{
+    let empty = Vec::new(*octets.allocator());
+    let mut writer = BitWriter::new(mem::replace(octets, empty));
+    write_components(&mut writer, reply);
+    *octets = writer.finish();
+}
+
 /// Writes a reply behind what is there, in no more than `reply.room()` octets, from which the reply
 /// is read again. It fails only for want of memory, and not where there is room for `reply.room()`
 /// more octets.
-#[tactic(auto, using(crate::proofs::Rooms::room_enough, crate::proofs::RepliesRead::reads_back))]
 pub fn write_into(reply: &Reply, octets: &mut Vec<u8>) -> Result<(), AllocError>
     ensures ok { OnOk result (octets.new.items ≡ octets.old.items ++ encoding_of reply.now) }
     ensures err { OnErr result (octets.new.items ≡ octets.old.items) }
     ensures err_capacity { OnErr result (vec_capacity octets.new ≡ vec_capacity octets.old) }
     ensures succeeds { vec_len octets.old + room_of reply.now ≤ vec_capacity octets.old
         → IsOk result }
-    ensures room { length (encoding_of reply.now) ≤ room_of reply.now }
-    ensures most { length (encoding_of reply.now) ≤ 20000 }
-    ensures reads_back { ReadsBack reply.now }
+    ensures room { OnOk result (length (encoding_of reply.now) ≤ room_of reply.now) }
+    ensures most { OnOk result (length (encoding_of reply.now) ≤ 20000) }
+    ensures reads_back { OnOk result (ReadsBack reply.now) }
 {
-    reply_bounds(reply);
     octets.reserve(reply.room())?;
-    let empty = Vec::new(*octets.allocator());
-    let mut writer = BitWriter::new(mem::replace(octets, empty));
-    write_components(&mut writer, reply);
-    *octets = writer.finish();
+    write_reserved(reply, octets);
     Ok(())
 }
