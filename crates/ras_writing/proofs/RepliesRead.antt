@@ -1,6 +1,8 @@
 -- Each reply is an encoding of itself.
 use Rattle.std.proofs.Common.{◌≡◌, ℕ, ◌+◌, ◌%◌, ◌≤◌, List, [], ◌∷◌, ◌++◌, Bool, true, false, length}
-use Rattle.std.proofs.Common.{refl, sym, subst, append-nil, arith, lit<, ◌*◌}
+use Rattle.std.proofs.Common.{refl, sym, subst, append-nil, arith, lit<, ◌<◌, ◌*◌, zero, suc}
+use Rattle.std.proofs.Common.{Some}
+use Rattle.std.specs.List.{AllByRecursion}
 use Rattle.per_bits.specs.Canonical as canonical
 use Rattle.per_bits.proofs.Agreement.{length_encodes, octets_encode}
 use Rattle.std.proofs.Common.{replicate, ◌/◌, ◌-◌, length-append, ap, ◌∙◌}
@@ -59,7 +61,7 @@ use Rattle.ras_writing.proofs.Written.{boolean_encoded}
 use Rattle.ras_writing.proofs.Written.{whole_encoded, index_encoded, small_encoded}
 use Rattle.ras_writing.proofs.Written.{identifier_written}
 use Rattle.ras_writing.proofs.Written.{address_written, inside_written, skipped_written}
-use Rattle.ras_writing.proofs.Written.{additions_written}
+use Rattle.ras_writing.proofs.Written.{additions_written, front_written}
 
 -- ---- reasons
 
@@ -160,6 +162,74 @@ guid_octets : length (encoding.in_order (encoding.boolean false ∷ encoding.oct
     (replicate 16 0) ∷ []) 0) ≡ 8 * 17
 unfolding octet
 guid_octets = refl
+
+-- ---- the additions that have a type
+
+zero_bits : in_order (encoding.octets (0 ∷ []) ∷ []) 0 ≡ (false ∷ []) ++ replicate 7 false
+unfolding octet
+zero_bits = refl
+
+boolean_added : AreEncodings (forms.optional true (forms.inside forms.boolean)) (Some false)
+    (encoding.size 1 ∷ encoding.octets (0 ∷ []) ∷ [])
+boolean_added = front_written forms.boolean 1 (encoding.octets (0 ∷ []) ∷ []) (false ∷ [])
+    (replicate 7 false) (omega arith) one_octet zero_bits refl
+
+abbrev ten_booleans : List encoding.Encoding
+ten_booleans =
+    encoding.boolean false ∷ encoding.boolean false ∷ encoding.boolean false ∷ encoding.boolean
+    false ∷ encoding.boolean false ∷ encoding.boolean false ∷ encoding.boolean false ∷
+    encoding.boolean false ∷ encoding.boolean false ∷ encoding.boolean false ∷ []
+
+uuies_written : AreEncodings grammar.uuies_requested tt ten_booleans
+unfolding grammar.uuies_requested
+uuies_written =
+    one _ (boolean_encoded false) (one _ (boolean_encoded false) (one _ (boolean_encoded false)
+    (one _ (boolean_encoded false) (one _ (boolean_encoded false) (one _ (boolean_encoded false)
+    (one _ (boolean_encoded false) (one _ (boolean_encoded false) (one _ (boolean_encoded false)
+    (one _ (boolean_encoded false) done)))))))))
+
+uuies_bits : in_order (encoding.octets (0 ∷ 0 ∷ []) ∷ []) 0 ≡ in_order ten_booleans 0 ++ replicate 6
+    false
+unfolding octet
+uuies_bits = refl
+
+uuies_added : AreEncodings (forms.optional true (forms.inside grammar.uuies_requested)) (Some tt)
+    (encoding.size 2 ∷ encoding.octets (0 ∷ 0 ∷ []) ∷ [])
+uuies_added = front_written grammar.uuies_requested 2 (encoding.octets (0 ∷ 0 ∷ []) ∷ [])
+    (in_order ten_booleans 0) (replicate 6 false) (omega arith) two_octets uuies_bits
+    (uuies_written.here 0 (omega arith))
+
+zeros_fit : (n : ℕ) → AllByRecursion (λ x. x < 256) (replicate n 0)
+zeros_fit zero = tt
+zeros_fit (suc n) = (lit< tt, zeros_fit n)
+
+abbrev guid_encoding : List encoding.Encoding
+guid_encoding = encoding.boolean false ∷ encoding.octets (replicate 16 0) ∷ []
+
+guid_written : AreEncodings sequences.call_identifier (replicate 16 0) guid_encoding
+unfolding sequences.call_identifier
+guid_written = record {
+  here = λ place _.
+      let zeros : List ℕ = replicate 16 0 in
+      let after = (place + 1) % 8 in
+      let octets = canonical.octets_encoding zeros after in (
+        false,
+        (
+          false ∷ [],
+          octets ++ [],
+          refl,
+          refl,
+          subst (λ (t : List Bool). (forms.octets 16).encodes zeros after t) (sym
+              (append-nil octets)) (octets_encode zeros after (zeros_fit 16)),
+        ),
+      );
+}
+
+guid_added : AreEncodings (forms.optional true (forms.inside sequences.call_identifier)) (Some
+    (replicate 16 0)) (encoding.size 17 ∷ guid_encoding)
+guid_added = front_written sequences.call_identifier 17 guid_encoding (in_order guid_encoding 0) []
+    (omega arith) guid_octets (sym (append-nil (in_order guid_encoding 0)))
+    (guid_written.here 0 (omega arith))
 
 registration_reason_written : (reason : RegistrationRejectReason) → IsReason reason
     → AreEncodings grammar.registration_reject_reason reason (registration_reason reason)
@@ -316,9 +386,8 @@ module _ (seq : ℕ) (low : 1 ≤ seq) (high : seq ≤ 65535) where
       false ∷ true ∷ true ∷ []) 10 (encoding.bits 11 3) refl (omega arith) (λ place. refl))
       (none _ done (none _ done (none _ done (none _ done (none _ done (none _ done (none _ done
       (none _ done (none _ done
-      (part _ (skipped_written 1 (encoding.octets (0 ∷ []) ∷ []) (omega arith) one_octet)
-      (last _ (skipped_written 2 (encoding.octets (0 ∷ 0 ∷ []) ∷ [])
-      (omega arith) two_octets) done))))))))))))))))))))))
+      (part _ boolean_added
+      (last _ uuies_added done))))))))))))))))))))))
 
   pub irq_written : AreEncodings reply_message (Irq seq) (info_request seq)
   unfolding reply_message info_request grammar.info_request
@@ -330,8 +399,7 @@ module _ (seq : ℕ) (low : 1 ≤ seq) (high : seq ≤ 65535) where
       (none _ done (none _ done
       (part _ (additions_written (true ∷ []) 0 (encoding.boolean true) refl (omega arith)
       (λ place. refl))
-      (last _ (skipped_written 17 (encoding.boolean false ∷ encoding.octets (replicate 16 0) ∷ [])
-      (omega arith) guid_octets) done))))))))))
+      (last _ guid_added done))))))))))
 
   abbrev in_progress : ℕ → List encoding.Encoding
   in_progress delay =
@@ -395,8 +463,7 @@ module _ (seq : ℕ) (low : 1 ≤ seq) (high : seq ≤ 65535) where
       (none _ done
       (part _ (time_to_live_written granted h.lasting.0 h.lasting.1)
       (none _ done (none _ done (none _ done
-      (last _ (skipped_written 1 (encoding.octets (0 ∷ []) ∷ [])
-      (omega arith) one_octet) done))))))))))))))))))))
+      (last _ boolean_added done))))))))))))))))))))
 
 -- ---- all replies
 

@@ -378,6 +378,35 @@ skipped_written count es few len = record {
       );
 }
 
+-- an addition at the front of whose octets a value stands
+pub front_written : {A : Type 0} (g : Grammar A) {x : A} (count : ℕ) (es : List Encoding)
+    (front rest : List Bool)
+    → count < 16384 → length (in_order es 0) ≡ 8 * count → in_order es 0 ≡ front ++ rest
+    → g.encodes x 0 front
+    → AreEncodings (grammar.optional true (grammar.inside g)) (Some x) (encoding.size count ∷ es)
+front_written g {x} count es front rest few len parts p = record {
+  here = λ place _.
+      let bits = in_order es 0 in
+      let all = in_order (encoding.size count ∷ es) place in
+      let opened = open_here count es place few len in (
+        x,
+        (
+          all,
+          [],
+          sym (append-nil all),
+          (
+            octets_in count bits,
+            opened,
+            front,
+            rest,
+            bits_of-octets_in count bits len ∙ parts,
+            p,
+          ),
+          (refl, refl),
+        ),
+      );
+}
+
 -- ---- which additions are there
 
 presence_here : (present : List Bool) (place : ℕ) → (grammar.each

@@ -22,7 +22,8 @@ use Rattle.ras_grammar.specs.Grammar.{Grammar, is, nothing, failure, small, insi
 use Rattle.ras_grammar.specs.Grammar.{boolean, whole, choice_index, either, if◌equals◌take◌else◌}
 use Rattle.ras_grammar.specs.Grammar.{skipped}
 use Rattle.ras_writing.specs.Chain.{◌>>=◌}
-use Rattle.ras_grammar.specs.Sequences.{additions, is_present, skipped_addition, request_seq_num}
+use Rattle.ras_grammar.specs.Sequences.{additions, is_present, addition, skipped_addition}
+use Rattle.ras_grammar.specs.Sequences.{request_seq_num, call_identifier}
 use Rattle.ras_grammar.specs.Sequences.{protocol_identifier, identifier, non_standard_parameter}
 use Rattle.ras_grammar.specs.Addresses.{transport_address, address_list}
 use Rattle.ras_grammar.specs.Aliases.{alias_list, optional_aliases}
@@ -167,7 +168,7 @@ registration_confirm = do
   addition_2 ← skipped_addition present 2
   addition_3 ← skipped_addition present 3
   addition_4 ← skipped_addition present 4
-  will_respond_to_irr ← skipped_addition present 5
+  will_respond_to_irr ← addition present 5 boolean
   is (Rcf seq call_signal aliases gatekeeper endpoint granted)
 
 -- RegistrationReject
@@ -256,6 +257,21 @@ disengage_reject = do
 abbrev pub call_model : ℕ → Grammar (Unit {0})
 call_model index = if index equals 0 take nothing else no_reply
 
+-- UUIEsRequested: nine BOOLEANs, of whose open type no more is read
+unfoldable pub uuies_requested : Grammar (Unit {0})
+uuies_requested = do
+  extended ← boolean
+  setup ← boolean
+  call_proceeding ← boolean
+  connect ← boolean
+  alerting ← boolean
+  information ← boolean
+  release_complete ← boolean
+  facility ← boolean
+  progress ← boolean
+  empty ← boolean
+  nothing
+
 -- AdmissionConfirm: requestSeqNum, bandWidth, callModel, destCallSignalAddress, irrFrequency?,
 -- nonStandardData?; additions up
 -- to 10
@@ -280,8 +296,8 @@ admission_confirm = do
   addition_6 ← skipped_addition present 6
   addition_7 ← skipped_addition present 7
   addition_8 ← skipped_addition present 8
-  will_respond_to_irr ← skipped_addition present 9
-  uuies_requested ← skipped_addition present 10
+  will_respond_to_irr ← addition present 9 boolean
+  uuies ← addition present 10 uuies_requested
   is (Acf seq units dest)
 
 -- InfoRequest: requestSeqNum, callReferenceValue, nonStandardData?, replyAddress?; addition 0
@@ -296,7 +312,7 @@ info_request = do
   non_standard_data ← skipped has_non_standard_data non_standard_parameter
   reply_address ← skipped has_reply_address transport_address
   present ← additions extended
-  guid ← skipped_addition present 0
+  guid ← addition present 0 call_identifier
   is (Irq seq)
 
 -- RequestInProgress: requestSeqNum, nonStandardData?, tokens?, cryptoTokens?,
