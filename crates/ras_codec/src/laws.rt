@@ -3,8 +3,8 @@
 ghost use Rattle.std.specs.Prelude.{◌≡◌, ◌≤◌, length};
 ghost use Rattle.ras_module.specs.Rooms.{room_of};
 ghost use Rattle.ras_module.specs.declared.reply.Reply.{Reply};
-ghost use Rattle.ras_codec.specs.Replies.{encoding_of};
-ghost use Rattle.ras_codec.specs.Properties.{IsReply, ReadsBack};
+ghost use Rattle.ras_writing.specs.Replies.{encoding_of};
+ghost use Rattle.ras_writing.specs.Properties.{IsReply, ReadsBack};
 
 /// What is written for a reply is read as this reply, by the grammar of replies.
 pub fn written_reads_back()

@@ -1,4 +1,4 @@
-use Rattle.ras_codec.proofs.RepliesRead.{one_reply}
+use Rattle.ras_writing.proofs.RepliesRead.{one_reply}
 use Rattle.ras_codec.proofs.laws.one_reply.Goals as goal
 
 pub returns : goal.returns

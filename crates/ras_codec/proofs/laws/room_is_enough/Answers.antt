@@ -1,4 +1,4 @@
-use Rattle.ras_codec.proofs.Rooms.{room_enough}
+use Rattle.ras_writing.proofs.Rooms.{room_enough}
 use Rattle.ras_codec.proofs.laws.room_is_enough.Goals as goal
 
 pub returns : goal.returns

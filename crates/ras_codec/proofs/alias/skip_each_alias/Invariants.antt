@@ -1,8 +1,0 @@
-use Rattle.std.proofs.Common.{◌≡◌, ◌-◌}
-use Rattle.ras_codec.specs.Aliases.{alias_address}
-use Rattle.ras_codec.proofs.Each.{folded, dropping}
-use Rattle.ras_codec.proofs.alias.skip_each_alias.Given as goal
-
-abbrev pub invariant-loop : goal.invariant-loop
-invariant-loop l = folded dropping alias_address.reading (l.count - l.counter) tt l.ahead
-    ≡ folded dropping alias_address.reading l.count tt l.decoder

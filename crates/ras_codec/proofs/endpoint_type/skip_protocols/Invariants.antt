@@ -1,8 +1,0 @@
-use Rattle.std.proofs.Common.{◌≡◌, ◌-◌}
-use Rattle.ras_codec.specs.EndpointTypes.{supported_protocols}
-use Rattle.ras_codec.proofs.Each.{folded, dropping}
-use Rattle.ras_codec.proofs.endpoint_type.skip_protocols.Given as goal
-
-abbrev pub invariant-loop : goal.invariant-loop
-invariant-loop l = folded dropping supported_protocols.reading (l.count - l.counter) tt l.ahead
-    ≡ folded dropping supported_protocols.reading l.count tt l.decoder

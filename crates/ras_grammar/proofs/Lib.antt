@@ -1,0 +1,2 @@
+pub mod Dialled
+pub mod Octets

@@ -1,0 +1,54 @@
+-- The faults of single bits, among those of messages.
+use Rattle.std.specs.Prelude.{ℕ, ◌≡◌, ◌⊎◌, List, Bool, take, Result, Ok, Err}
+use Rattle.std.specs.Borrow.{Bor}
+use Rattle.per_bits.specs.declared.fault.ReadFault.{ReadFault as BitFault}
+use Rattle.per_bits.specs.declared.fault.ReadFault.TheVariants as bit
+use Rattle.ras_grammar.specs.declared.fault.ReadFault.{ReadFault}
+use Rattle.ras_grammar.specs.declared.fault.ReadFault.TheVariants.{Truncated, BadLength, Fragmented}
+use Rattle.ras_grammar.specs.declared.fault.ReadFault.TheVariants.{TooMany, BadChoice, Memory}
+
+abbrev pub fault_of : BitFault → ReadFault
+fault_of bit.Truncated = Truncated
+fault_of bit.BadLength = BadLength
+fault_of bit.Fragmented = Fragmented
+fault_of bit.TooMany = TooMany
+
+-- the same result, with the fault among those of messages
+abbrev pub lifted : {A : Type 0} → Result A BitFault → Result A ReadFault
+lifted (Ok x) = Ok x
+lifted (Err fault) = Err (fault_of fault)
+
+-- the same of an index: one above the last names no alternative
+abbrev pub index_fault_of : BitFault → ReadFault
+index_fault_of bit.BadLength = BadChoice
+index_fault_of bit.Truncated = Truncated
+index_fault_of bit.Fragmented = Fragmented
+index_fault_of bit.TooMany = TooMany
+
+abbrev pub lifted_index : {A : Type 0} → Result A BitFault → Result A ReadFault
+lifted_index (Ok x) = Ok x
+lifted_index (Err fault) = Err (index_fault_of fault)
+
+-- the octets behind a reference
+abbrev pub of_octets : Result (Bor (List ℕ)) ReadFault → Result (List ℕ) ReadFault
+of_octets (Ok octets) = Ok octets.now
+of_octets (Err fault) = Err fault
+
+-- so many characters at the front of an array
+abbrev pub front_of : {A : Type 0} → ℕ → Result (List A) ReadFault → Result (List A) ReadFault
+front_of count (Ok characters) = Ok (take count characters)
+front_of count (Err fault) = Err fault
+
+-- What reading returned is what the reading function gives, and the decoder is behind it; after
+-- a fault it is where it was.
+-- A fault may be that memory was wanting, of which the reading function knows nothing.
+abbrev pub GivesUnlessMemory : {A : Type 0} → (List Bool → Result (A × List Bool) ReadFault)
+    → List Bool
+    → Result A ReadFault → List Bool → Type 0
+GivesUnlessMemory reading old (Ok x) new = reading old ≡ Ok (x, new)
+GivesUnlessMemory reading old (Err fault) new = ((fault ≡ Memory) ⊎ (reading old ≡ Err fault)) ×
+    (new ≡ old)
+
+-- The result is this one, unless memory was wanting.
+abbrev pub IsUnlessMemory : {A : Type 0} → Result A ReadFault → Result A ReadFault → Type 0
+IsUnlessMemory expected result = (result ≡ Err Memory) ⊎ (result ≡ expected)

@@ -1,0 +1,4 @@
+pub mod Each
+pub mod Firsts
+pub mod Kept
+pub mod Meaning

@@ -1,0 +1,13 @@
+use Rattle.std.proofs.Common.{◌≡◌, ◌-◌, [], length, take}
+use Rattle.ras_module.specs.DialledDigits.{AreDialled}
+use Rattle.ras_grammar.specs.Aliases.{digit}
+use Rattle.ras_reading.proofs.Each.{folded, adding}
+use Rattle.ras_reading.proofs.alias.digits.Given as goal
+
+abbrev pub invariant-loop-i : goal.invariant-loop-i
+invariant-loop-i l = record {
+  full : length l.digits ≡ 128;
+  so_far : folded adding digit.reading (l.count - l.i) (take l.i l.digits) l.ahead
+      ≡ folded adding digit.reading l.count [] l.decoder;
+  dialled : AreDialled (take l.i l.digits);
+}

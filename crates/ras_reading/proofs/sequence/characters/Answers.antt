@@ -1,0 +1,30 @@
+use Rattle.std.proofs.Common.{◌<◌, arith, ◌∙◌, refl, length, length-set}
+use Rattle.std.proofs.lemmas.Result.{err_from_is_err_and}
+use Rattle.ras_grammar.specs.Grammar.{bits}
+use Rattle.ras_reading.proofs.Each.{adding, each-fault, array-more, array-done}
+use Rattle.ras_reading.proofs.sequence.characters.Goals as goal
+
+pub returns-in_err-characters : goal.returns-in_err-characters
+returns-in_err-characters g c =
+    let p = err_from_is_err_and c.from_residual.result c.from_residual.ensures.1 in
+    rw (p.1, p.2) (
+      each-fault adding (bits 16) c.args.count c.loop-i.i _ _ c.args.decoder.now
+          c.loop-i.ahead c.loop-i.invariant.so_far _ c.loop-i-test.true
+          c.in_err-characters.ensures.gives.0,
+      refl,
+    )
+
+pub loop-i-preserved : goal.loop-i-preserved
+loop-i-preserved g c =
+    let within : c.loop-i.i < length c.loop-i.characters = omega (arith, c.loop-i.invariant.full) in
+    record {
+      full = length-set c.loop-i.characters c.loop-i.i c.in_ok-characters.field-0
+          ∙ c.loop-i.invariant.full;
+      so_far = array-more (bits 16) c.args.count c.loop-i.i c.loop-i.characters c.args.decoder.now
+          c.loop-i.ahead c.loop-i.invariant.so_far c.in_ok-characters.field-0 c.bits.new.self
+          c.loop-i-test.true within c.in_ok-characters.ensures.gives;
+    }
+
+pub returns : goal.returns
+returns g c = array-done (bits 16) c.args.count c.loop-i.i c.loop-i.characters c.args.decoder.now
+    c.loop-i.ahead c.loop-i.invariant.so_far (omega arith)

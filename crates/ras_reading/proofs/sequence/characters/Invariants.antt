@@ -1,0 +1,11 @@
+use Rattle.std.proofs.Common.{◌≡◌, ◌-◌, [], length, take}
+use Rattle.ras_grammar.specs.Grammar.{bits}
+use Rattle.ras_reading.proofs.Each.{folded, adding}
+use Rattle.ras_reading.proofs.sequence.characters.Given as goal
+
+abbrev pub invariant-loop-i : goal.invariant-loop-i
+invariant-loop-i g l = record {
+  full : length l.characters ≡ g.row.MOST;
+  so_far : folded adding (bits 16).reading (l.count - l.i) (take l.i l.characters) l.ahead
+      ≡ folded adding (bits 16).reading l.count [] l.decoder;
+}

@@ -1,0 +1,3 @@
+pub mod EndpointTypes
+pub mod Requests
+pub mod Messages

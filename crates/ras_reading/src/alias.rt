@@ -1,0 +1,173 @@
+//! Aliases (H.225.0, AliasAddress).
+
+ghost use Rattle.std.specs.Prelude.{◌≡◌, ◌≤◌, ◌<◌, ◌^◌, length, IfOk, OnOk, IsTrue};
+ghost use Rattle.per_bits.specs.Readings.{Gives};
+ghost use Rattle.ras_module.specs.DialledDigits.{is_dialled, AreDialled};
+ghost use Rattle.ras_grammar.specs.Faults.{front_of, GivesUnlessMemory};
+ghost use Rattle.ras_grammar.specs.Grammar.{each, each_skipped, skipped};
+ghost use Rattle.ras_grammar.specs.Aliases.{digit_of, digit, dialled_digits, root_alias};
+ghost use Rattle.ras_grammar.specs.Aliases.{alias_address, skipped_aliases, keeping, served_each};
+ghost use Rattle.ras_grammar.specs.Aliases.{alias_list, optional_aliases};
+
+use crate::sequence::{bmp_string, unknown_alternative};
+use ras_grammar::{Decoder, ReadFault};
+use ras_module::{Alias, AliasList, BmpString, DialledDigits};
+use std::alloc::{AllocError, Global};
+
+/// The character of a code.
+fn digit_of(code: u32) -> u16
+    requires { code ≤ 12 }
+    ensures value { result ≡ digit_of code }
+    ensures dialled { IsTrue (is_dialled result) }
+{
+    match code {
+        0 => 35,
+        1 => 42,
+        2 => 44,
+        _ => code as u16 + 45,
+    }
+}
+
+/// A character that may be dialled.
+#[tactic(auto, unfolding(ras_grammar::specs::Aliases::digit))]
+fn digit(decoder: &mut Decoder<'_>) -> Result<u16, ReadFault>
+    ensures gives { Gives digit.reading decoder.old result decoder.new }
+    ensures dialled { IfOk result (λ character. IsTrue (is_dialled character)) }
+{
+    let mut ahead = decoder.ahead();
+    let code = ahead.bits(4)?;
+    if code > 12 {
+        return Err(ReadFault::BadCharacter);
+    }
+    *decoder = ahead;
+    Ok(digit_of(code))
+}
+
+/// So many characters that may be dialled.
+fn digits(decoder: &mut Decoder<'_>, count: usize) -> Result<[u16; 128], ReadFault>
+    requires { count ≤ 128 }
+    ensures gives { Gives (each count digit).reading decoder.old
+        (front_of count result) decoder.new }
+    ensures dialled { IfOk (front_of count result) AreDialled }
+{
+    let mut ahead = decoder.ahead();
+    let mut digits = [0; 128];
+    for i in 0..count {
+        digits[i] = digit(&mut ahead)?;
+    }
+    *decoder = ahead;
+    Ok(digits)
+}
+
+/// dialledDigits.
+#[tactic(auto, unfolding(ras_grammar::specs::Aliases::dialled_digits))]
+fn dialled_digits(decoder: &mut Decoder<'_>) -> Result<DialledDigits, ReadFault>
+    ensures { Gives dialled_digits.reading decoder.old result decoder.new }
+{
+    let mut ahead = decoder.ahead();
+    let count = ahead.whole(1, 128)? as usize;
+    ahead.align();
+    let digits = digits(&mut ahead, count)?;
+    *decoder = ahead;
+    Ok(DialledDigits::new(BmpString::new(&digits[..count]).unwrap()).unwrap())
+}
+
+fn root_alias(decoder: &mut Decoder<'_>, index: u32) -> Result<Option<Alias>, ReadFault>
+    ensures { Gives (root_alias index).reading decoder.old result decoder.new }
+{
+    if index == 0 {
+        Ok(Some(Alias::Digits(dialled_digits(decoder)?)))
+    } else {
+        Ok(Some(Alias::H323Id(bmp_string(decoder)?)))
+    }
+}
+
+/// An alias, or None for one of another kind.
+#[tactic(auto, unfolding(ras_grammar::specs::Aliases::alias_address))]
+pub fn alias_address(decoder: &mut Decoder<'_>) -> Result<Option<Alias>, ReadFault>
+    ensures { Gives alias_address.reading decoder.old result decoder.new }
+{
+    let mut ahead = decoder.ahead();
+    let alias = if ahead.boolean()? {
+        unknown_alternative(&mut ahead)?;
+        None
+    } else {
+        let index = ahead.choice_index(1)?;
+        root_alias(&mut ahead, index)?
+    };
+    *decoder = ahead;
+    Ok(alias)
+}
+
+fn skip_each_alias(decoder: &mut Decoder<'_>, count: u32) -> Result<(), ReadFault>
+    ensures { Gives (each_skipped count alias_address).reading decoder.old result decoder.new }
+{
+    let mut ahead = decoder.ahead();
+    for _ in 0..count {
+        alias_address(&mut ahead)?;
+    }
+    *decoder = ahead;
+    Ok(())
+}
+
+/// Passes over a list of aliases, where it is there.
+#[tactic(auto, unfolding(ras_grammar::specs::Aliases::skipped_aliases))]
+pub fn skip_aliases(decoder: &mut Decoder<'_>, present: bool) -> Result<(), ReadFault>
+    ensures { Gives (skipped present skipped_aliases).reading decoder.old result decoder.new }
+{
+    if !present {
+        return Ok(());
+    }
+    let mut ahead = decoder.ahead();
+    let count = ahead.length()?;
+    skip_each_alias(&mut ahead, count)?;
+    *decoder = ahead;
+    Ok(())
+}
+
+/// Adds an alias, if it is served.
+fn keep(aliases: &mut AliasList, alias: Option<Alias>) -> Result<(), AllocError>
+    ensures { OnOk result (aliases.new ≡ keeping aliases.old alias) }
+{
+    match alias {
+        Some(alias) => aliases.push(alias),
+        None => Ok(()),
+    }
+}
+
+/// The served aliases among so many. Memory is asked for alias by alias, once it has been read.
+fn served_aliases(
+    alloc: Global,
+    decoder: &mut Decoder<'_>,
+    count: u32,
+) -> Result<AliasList, ReadFault>
+    ensures { GivesUnlessMemory (served_each count).reading decoder.old result decoder.new }
+{
+    let mut ahead = decoder.ahead();
+    let mut aliases = AliasList::new(alloc);
+    for _ in 0..count {
+        let alias = alias_address(&mut ahead)?;
+        keep(&mut aliases, alias)?;
+    }
+    *decoder = ahead;
+    Ok(aliases)
+}
+
+/// The served aliases of a list; none where the list isn't there.
+#[tactic(auto, unfolding(ras_grammar::specs::Aliases::alias_list))]
+pub fn optional_aliases(
+    alloc: Global,
+    decoder: &mut Decoder<'_>,
+    present: bool,
+) -> Result<AliasList, ReadFault>
+    ensures { GivesUnlessMemory (optional_aliases present).reading decoder.old result decoder.new }
+{
+    if !present {
+        return Ok(AliasList::new(alloc));
+    }
+    let mut ahead = decoder.ahead();
+    let count = ahead.length()?;
+    let aliases = served_aliases(alloc, &mut ahead, count)?;
+    *decoder = ahead;
+    Ok(aliases)
+}

@@ -1,0 +1,76 @@
+//! All messages of RAS (H.225.0, RasMessage).
+
+ghost use Rattle.std.specs.Prelude.{◌≡◌, ◌⊎◌, IfErr};
+ghost use Rattle.ras_grammar.specs.Faults.{GivesUnlessMemory, IsUnlessMemory};
+ghost use Rattle.ras_reading.specs.Messages.{ras_message, root_message, message_reading, Reads};
+ghost use Rattle.ras_reading.specs.Messages.{NotServed, IsFaulty};
+ghost use Rattle.ras_module.specs.declared.request.Request.{Request};
+ghost use Rattle.ras_grammar.specs.declared.fault.ReadFault.TheVariants.{Memory};
+
+use crate::request::{
+    admission_request, bandwidth_request, disengage_request, gatekeeper_request,
+    info_request_response, registration_request, unregistration_request,
+};
+use ras_grammar::{Decoder, ReadFault};
+use ras_module::Request;
+use std::alloc::Global;
+
+fn root_message(alloc: Global, decoder: &mut Decoder<'_>) -> Result<Option<Request>, ReadFault>
+    ensures { GivesUnlessMemory root_message.reading decoder.old result decoder.new }
+{
+    let mut ahead = decoder.ahead();
+    let index = ahead.choice_index(24)?;
+    let request = match index {
+        0 => Some(gatekeeper_request(&mut ahead)?),
+        3 => Some(registration_request(alloc, &mut ahead)?),
+        6 => Some(unregistration_request(&mut ahead)?),
+        9 => Some(admission_request(alloc, &mut ahead)?),
+        12 => Some(bandwidth_request(&mut ahead)?),
+        15 => Some(disengage_request(&mut ahead)?),
+        22 => Some(info_request_response(&mut ahead)?),
+        _ => None,
+    };
+    *decoder = ahead;
+    Ok(request)
+}
+
+#[tactic(auto, unfolding(crate::specs::Messages::ras_message))]
+fn ras_message(alloc: Global, decoder: &mut Decoder<'_>) -> Result<Option<Request>, ReadFault>
+    ensures { GivesUnlessMemory ras_message.reading decoder.old result decoder.new }
+{
+    let mut ahead = decoder.ahead();
+    let request = if ahead.boolean()? {
+        None
+    } else {
+        root_message(alloc, &mut ahead)?
+    };
+    *decoder = ahead;
+    Ok(request)
+}
+
+/// The message that octets begin with.
+#[tactic(auto, unfolding(crate::specs::Messages::message_reading))]
+fn message(alloc: Global, octets: &[u8]) -> Result<Option<Request>, ReadFault>
+    ensures { IsUnlessMemory (message_reading octets.now) result }
+{
+    let mut decoder = Decoder::new(octets);
+    ras_message(alloc, &mut decoder)
+}
+
+/// The request that octets begin with, or None where they are a message that is not served. What
+/// follows
+/// is not read.
+pub fn read(alloc: Global, octets: &[u8]) -> Result<Option<Request>, ReadFault>
+    ensures gives { IsUnlessMemory (message_reading octets.now) result }
+
+    ensures request { (request : Request) → result ≡ Ok (Some request) → Reads octets.now request }
+    ensures each_request { (request : Request) → Reads octets.now request → IsUnlessMemory (Ok
+        (Some request)) result }
+
+    ensures not_served { result ≡ Ok None → NotServed octets.now }
+    ensures each_other { NotServed octets.now → IsUnlessMemory (Ok None) result }
+
+    ensures fault { IfErr result (λ fault. (fault ≡ Memory) ⊎ IsFaulty octets.now) }
+{
+    message(alloc, octets)
+}

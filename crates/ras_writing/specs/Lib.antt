@@ -1,0 +1,5 @@
+pub mod Encoding
+pub mod Replies
+pub mod Chain
+pub mod ReplyGrammar
+pub mod Properties

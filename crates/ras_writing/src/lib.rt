@@ -1,0 +1,8 @@
+//! The replies of the gatekeeper (ITU-T H.225.0), written as octets in BASIC-PER, ALIGNED
+//! (ITU-T X.691).
+#![tactic(auto)]
+
+mod encoder;
+mod reply;
+
+pub use reply::{write_into, write_reserved};
