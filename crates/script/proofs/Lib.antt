@@ -2,7 +2,6 @@ pub mod FourTests
 pub mod Parting
 pub mod Numbers
 pub mod Names
-pub mod InRange
 pub mod Reading
 pub mod KnownBytes
 pub mod Inputs

@@ -5,7 +5,6 @@ mod address;
 mod draft;
 mod fault;
 mod input;
-mod key;
 mod line;
 mod making;
 mod name;
