@@ -1,7 +1,4 @@
-pub mod FourTests
 pub mod Parting
-pub mod Numbers
-pub mod Names
 pub mod Reading
 pub mod KnownBytes
 pub mod Inputs

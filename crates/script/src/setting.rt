@@ -4,9 +4,9 @@ ghost use Rattle.std.specs.Prelude.{◌≡◌};
 ghost use Rattle.zone_config.specs.Keys.{with_number};
 ghost use Rattle.script.specs.Settings.{setting_of};
 
-use crate::number::number_of;
 use ras_core::Config;
 use std::marker::Model;
+use value_texts::number_of;
 use zone_config::Key;
 
 /// A number within its key's range. Contracts see the key with the number.

@@ -1,7 +1,7 @@
 use Rattle.std.proofs.Common.{◌<◌, length, arith}
 use Rattle.std.proofs.lemmas.Bool.Decides.{nat_tests}
 use Rattle.script.proofs.Parting.{words_more}
-use Rattle.script.proofs.parts.Words.next_word.Goals as goal
+use Rattle.script.proofs.words.Words.next_word.Goals as goal
 
 pub returns-then-not-is_empty : goal.returns-then-not-is_empty
 returns-then-not-is_empty c =

@@ -1,9 +1,9 @@
 use Rattle.std.proofs.Common.{◌≡◌, ◌<◌, ◌-◌, true, length, get_or, take, arith, rules, ◌+◌, ◌*◌}
 use Rattle.std.specs.Char.{is_ascii_digit}
 use Rattle.std.specs.Str.Parse.{digits_value}
-use Rattle.script.proofs.Numbers.{too_large, digit_more, digits_more}
-use Rattle.script.proofs.number.number_of.Goals as goal
-use Rattle.script.proofs.number.number_of.Goals.{After-from}
+use Rattle.value_texts.proofs.Numbers.{too_large, digit_more, digits_more}
+use Rattle.value_texts.proofs.number.number_of.Goals as goal
+use Rattle.value_texts.proofs.number.number_of.Goals.{After-from}
 
 value_more : (c : After-from)
     → c.loop-c.number * 10 + c.from.result

@@ -2,9 +2,9 @@ use Rattle.std.proofs.Common.{◌≡◌, eqb, rules, sym, ◌∙◌}
 use Rattle.std.proofs.lemmas.Bool.Decides.{nat_tests}
 use Rattle.std.proofs.lemmas.Iterator.{YieldsList-from_slice}
 use Rattle.std.proofs.lemmas.Iterator.Search.{position_from_yields_List}
-use Rattle.script.proofs.Parting.{found_in, front_found, rest_found, front_of_all, rest_of_all}
-use Rattle.script.proofs.parts.parted.Goals as goal
-use Rattle.script.proofs.parts.parted.Goals.{After-position}
+use Rattle.value_texts.proofs.Parting.{found_in, front_found, rest_found, front_of_all, rest_of_all}
+use Rattle.value_texts.proofs.parts.parted.Goals as goal
+use Rattle.value_texts.proofs.parts.parted.Goals.{After-position}
 
 found : (c : After-position) → c.position.result ≡ found_in c.args.mark c.args.text.now
 found c =

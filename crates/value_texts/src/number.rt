@@ -1,7 +1,7 @@
-//! Numbers of a script.
+//! Whole numbers.
 
 ghost use Rattle.std.specs.Prelude.{◌≡◌, ◌<◌, ◌≤◌, ◌^◌, IfSome};
-ghost use Rattle.script.specs.Fields.{number_of};
+ghost use Rattle.value_texts.specs.Texts.{number_of};
 
 /// The number that the digits of a word write, where it lies from `low` to `high`.
 pub fn number_of(low: u64, high: u64, word: &[u8]) -> Option<u64>

@@ -1,7 +1,7 @@
-//! The name of the zone.
+//! Names of gatekeepers.
 
 ghost use Rattle.std.specs.Prelude.{◌≡◌};
-ghost use Rattle.script.specs.Fields.{name_of};
+ghost use Rattle.value_texts.specs.Texts.{name_of};
 
 use ras_module::Name;
 

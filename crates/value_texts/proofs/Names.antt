@@ -11,9 +11,9 @@ use Rattle.std.specs.List.{list_all}
 use Rattle.std.specs.Option.{SomeIff}
 use Rattle.std.specs.Str.{chars, is_utf8, IsUtf8}
 use Rattle.ras_module.specs.Texts.{IsText}
-use Rattle.script.specs.Fields.{name_of}
-use Rattle.script.proofs.FourTests.{none_at_first, none_at_second, none_at_third}
-use Rattle.script.proofs.FourTests.{none_at_last, some_at_all, not_all}
+use Rattle.value_texts.specs.Texts.{name_of}
+use Rattle.value_texts.proofs.FourTests.{none_at_first, none_at_second, none_at_third}
+use Rattle.value_texts.proofs.FourTests.{none_at_last, some_at_all, not_all}
 
 abbrev pub is_small : ℕ → Bool
 is_small c = nat_lt c 65536

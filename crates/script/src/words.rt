@@ -1,29 +1,10 @@
-//! Parts of a line.
+//! The words of a line.
 
 ghost use Rattle.std.specs.Prelude.{◌≡◌, ◌∷◌, [], MatchOption};
-ghost use Rattle.std.specs.Str.{bytes_eq};
-ghost use Rattle.script.specs.Words.{front_part, rest_part, words_of};
+ghost use Rattle.script.specs.Words.{words_of};
 
 use std::marker::Model;
-
-/// What stands before the first such mark, and what stands behind it; all of the text, and nothing,
-/// where there is no such mark.
-pub fn parted(text: &[u8], mark: u8) -> (&[u8], &[u8])
-    ensures front { result.0.now ≡ front_part mark text.now }
-    ensures rest { result.1.now ≡ rest_part mark text.now }
-{
-    match text.iter().position(|c| *c == mark) {
-        Some(place) => (&text[..place], &text[place + 1..]),
-        None => (text, &[]),
-    }
-}
-
-/// Whether a word is this text.
-pub fn is_word(word: &[u8], text: &str) -> bool
-    ensures { result ≡ bytes_eq word.now text.now }
-{
-    word == text.as_bytes()
-}
+use value_texts::parted;
 
 /// The words of a line that are left. Contracts see the list of them.
 #[derive(Drop)]

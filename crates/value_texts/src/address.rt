@@ -1,14 +1,14 @@
-//! Addresses of a script.
+//! Addresses of endpoints and gatekeepers.
 
 ghost use Rattle.std.specs.Prelude.{◌≡◌};
-ghost use Rattle.script.specs.Fields.{number_of, address_of};
+ghost use Rattle.value_texts.specs.Texts.{address_of, number_of};
 
 use crate::number::number_of;
 use crate::parts::parted;
 use ras_module::Address;
 
 /// The octet that a word writes, from 0 to 255.
-pub fn octet_of(word: &[u8]) -> Option<u8>
+pub(crate) fn octet_of(word: &[u8]) -> Option<u8>
     ensures { result ≡ number_of 0 255 word.now }
 {
     match number_of(0, 255, word) {

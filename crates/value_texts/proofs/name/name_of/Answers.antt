@@ -7,10 +7,10 @@ use Rattle.std.specs.List.{list_all}
 use Rattle.std.specs.Option.{SomeIff}
 use Rattle.std.specs.Str.{chars, IsUtf8}
 use Rattle.ras_module.specs.Texts.{IsText}
-use Rattle.script.proofs.Names.{is_small, no_utf8, large_character, too_many, name_read, units_more}
-use Rattle.script.proofs.Names.{small_more}
-use Rattle.script.proofs.name.name_of.Goals as goal
-use Rattle.script.proofs.name.name_of.Goals.{then-number-gt65535-via-then-number-gt65535}
+use Rattle.value_texts.proofs.Names.{is_small, no_utf8, large_character, too_many, name_read, units_more}
+use Rattle.value_texts.proofs.Names.{small_more}
+use Rattle.value_texts.proofs.name.name_of.Goals as goal
+use Rattle.value_texts.proofs.name.name_of.Goals.{then-number-gt65535-via-then-number-gt65535}
 use goal.{then-number-gt65535-via-else-number-gt65535+then-count-eq-MOST}
 
 pub returns-in_default : goal.returns-in_default

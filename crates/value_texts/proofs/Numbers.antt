@@ -8,8 +8,8 @@ use Rattle.std.proofs.lemmas.Str.Parse.{digits_value-take-le}
 use Rattle.std.specs.Char.{is_ascii_digit, digit_value}
 use Rattle.std.specs.List.{list_all}
 use Rattle.std.specs.Str.Parse.{digits_value}
-use Rattle.script.specs.Fields.{number_of}
-use Rattle.script.proofs.FourTests.{none_at_last}
+use Rattle.value_texts.specs.Texts.{number_of}
+use Rattle.value_texts.proofs.FourTests.{none_at_last}
 
 pub too_large : (low high : ℕ) (word : List ℕ) (i : ℕ) → high < digits_value 10 (take i word)
     → None ≡ number_of low high word
