@@ -10,7 +10,7 @@ use Rattle.zone_config.specs.Networks.{has_default}
 use Rattle.script.specs.declared.fault.ScriptFault.{ScriptFault}
 use Rattle.script.specs.declared.fault.ScriptFault.TheVariants.{TooLong, BadLine, NoZone}
 use Rattle.script.specs.declared.fault.ScriptFault.TheVariants.{NoDefaultPool, Stream, Memory}
-use Rattle.script.specs.declared.key.Key.{Key}
+use Rattle.zone_config.specs.declared.key.Key.{Key}
 use Rattle.script.specs.declared.read.Script.{Script}
 use Rattle.script.specs.Pools.{PoolEntry, networks_of}
 use Rattle.script.specs.Said.{Said}

@@ -1,8 +1,4 @@
-pub mod FourTests
 pub mod Parting
-pub mod Numbers
-pub mod Names
-pub mod InRange
 pub mod Reading
 pub mod KnownBytes
 pub mod Inputs

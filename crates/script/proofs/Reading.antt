@@ -9,16 +9,17 @@ use Rattle.ras_module.specs.declared.address.Address.{Address}
 use Rattle.zone_events.specs.declared.event.Event.{Event}
 use Rattle.script.specs.declared.fault.ScriptFault.{ScriptFault}
 use Rattle.script.specs.declared.fault.ScriptFault.TheVariants.{BadLine}
-use Rattle.script.specs.declared.key.Key.{Key}
+use Rattle.zone_config.specs.declared.key.Key.{Key}
 use Rattle.script.specs.declared.line.Line.{Line}
 use Rattle.script.specs.declared.line.Line.TheVariants.{Blank, Zone, Set, Pool, At}
 use Rattle.script.specs.declared.read.Script.{Script}
-use Rattle.script.specs.Words.{front_part, rest_part, lines_of}
+use Rattle.value_texts.specs.Parts.{front_part, rest_part}
+use Rattle.script.specs.Words.{lines_of}
 use Rattle.script.specs.Lines.{line_of}
 use Rattle.script.specs.Pools.{PoolEntry}
 use Rattle.script.specs.Said.{Said, zone_in, setting_in, pool_in, event_in, with_line, MayFollow}
 use Rattle.script.specs.Scripts.{behind_event, in_place, script_from, script_unless, script_of}
-use Rattle.script.proofs.Parting.{split_step}
+use Rattle.value_texts.proofs.Parting.{split_step}
 
 abbrev pub readings : List ℕ → List (Option Line)
 readings text = map line_of (lines_of text)

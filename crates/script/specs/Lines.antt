@@ -5,7 +5,8 @@ use Rattle.zone_events.specs.declared.event.Event.TheVariants.{Datagram, Turn}
 use Rattle.script.specs.declared.line.Line.{Line}
 use Rattle.script.specs.declared.line.Line.TheVariants.{Blank, Zone, Set, Pool, At}
 use Rattle.script.specs.Words.{words_of}
-use Rattle.script.specs.Fields.{◌>>=◌, number_of, address_of, name_of, octets_of}
+use Rattle.value_texts.specs.Texts.{◌>>=◌, number_of, address_of, name_of}
+use Rattle.script.specs.Fields.{octets_of}
 use Rattle.script.specs.Settings.{setting_of}
 use Rattle.script.specs.Pools.{pool_of}
 

@@ -4,7 +4,9 @@ use Rattle.std.specs.Str.{bytes_eq}
 use Rattle.pools.specs.declared.pool_spec.PoolSpec.{PoolSpec}
 use Rattle.pools.specs.declared.pool_spec.PoolSpec.TheVariants.{Fixed, Step, Paced}
 use Rattle.zone_config.specs.declared.network.Network.{Network}
-use Rattle.script.specs.Fields.{◌>>=◌, number_of, network_of}
+use Rattle.value_texts.specs.declared.pool_kind.PoolKind.{PoolKind}
+use Rattle.value_texts.specs.declared.pool_kind.PoolKind.TheVariants as kinds
+use Rattle.value_texts.specs.Texts.{◌>>=◌, number_of, network_of, kind_of}
 
 -- a pool, with the network that it serves; none: every address
 abbrev pub PoolEntry : Type 0
@@ -57,14 +59,16 @@ paced_pool (limit ∷ burst ∷ words) = do
   pool_with_network (Paced limit burst) words
 paced_pool other = None
 
+abbrev pub pool_of_kind : Option PoolKind → List (List ℕ) → Option PoolEntry
+pool_of_kind (Some kinds.Fixed) words = fixed_pool words
+pool_of_kind (Some kinds.Step) words = step_pool words
+pool_of_kind (Some kinds.Paced) words = paced_pool words
+pool_of_kind None words = None
+
 -- the first word behind `pool` says which kind of pool it is
 abbrev pub pool_of : List (List ℕ) → Option PoolEntry
 pool_of [] = None
-pool_of (kind ∷ words) =
-    if bytes_eq kind (codes "fixed") then fixed_pool words
-    else if bytes_eq kind (codes "step") then step_pool words
-    else if bytes_eq kind (codes "paced") then paced_pool words
-    else None
+pool_of (kind ∷ words) = pool_of_kind (kind_of kind) words
 
 -- the networks of the pools; without a pool line there is one pool, which serves every address
 abbrev pub networks_of : List PoolEntry → List (Option Network)

@@ -2,7 +2,7 @@
 use Rattle.std.specs.Prelude.{ℕ, ◌≡◌, ◌<◌, ◌++◌, List, [], ◌∷◌, length, Option, Some, None}
 use Rattle.ras_module.specs.declared.address.Address.{Address}
 use Rattle.zone_events.specs.declared.event.Event.{Event}
-use Rattle.script.specs.declared.key.Key.{Key}
+use Rattle.zone_config.specs.declared.key.Key.{Key}
 use Rattle.script.specs.declared.line.Line.{Line}
 use Rattle.script.specs.declared.line.Line.TheVariants.{Blank, Zone, Set, Pool, At}
 use Rattle.script.specs.Pools.{PoolEntry}

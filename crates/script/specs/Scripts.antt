@@ -12,13 +12,13 @@ use Rattle.zone_config.specs.Networks.{has_default}
 use Rattle.script.specs.declared.fault.ScriptFault.{ScriptFault}
 use Rattle.script.specs.declared.fault.ScriptFault.TheVariants.{TooLong, BadLine, NoZone}
 use Rattle.script.specs.declared.fault.ScriptFault.TheVariants.{NoDefaultPool, Stream, Memory}
-use Rattle.script.specs.declared.key.Key.{Key}
+use Rattle.zone_config.specs.declared.key.Key.{Key}
 use Rattle.script.specs.declared.line.Line.{Line}
 use Rattle.script.specs.declared.line.Line.TheVariants.{Blank, Zone, Set, Pool, At}
 use Rattle.script.specs.declared.read.Script.{Script}
 use Rattle.script.specs.Words.{lines_of}
 use Rattle.script.specs.Lines.{line_of}
-use Rattle.script.specs.Settings.{with_number}
+use Rattle.zone_config.specs.Keys.{with_number}
 use Rattle.script.specs.Pools.{PoolEntry, networks_of, specs_of}
 use Rattle.script.specs.Said.{Said, zone_in, setting_in, pool_in, event_in}
 

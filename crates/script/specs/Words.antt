@@ -1,13 +1,6 @@
 -- The lines of a script, and the words of a line.
 use Rattle.std.specs.Prelude.{ℕ, ◌==◌, List, length, nat_lt, filter}
-use Rattle.std.specs.List.{slice_split, before_first, after_first}
-
--- what stands before the first such mark, and what stands behind it
-abbrev pub front_part : ℕ → List ℕ → List ℕ
-front_part mark text = before_first (λ c. c == mark) text
-
-abbrev pub rest_part : ℕ → List ℕ → List ℕ
-rest_part mark text = after_first (λ c. c == mark) text
+use Rattle.std.specs.List.{slice_split}
 
 -- each line ends at a newline
 abbrev pub lines_of : List ℕ → List (List ℕ)

@@ -1,21 +1,17 @@
 //! Scripts of events for one zone: read whole, run, and their outcomes printed.
 #![tactic(auto)]
 
-mod address;
 mod draft;
 mod fault;
 mod input;
-mod key;
 mod line;
 mod making;
-mod name;
-mod number;
-mod parts;
 mod pool;
 mod print;
 mod read;
 mod run;
 mod setting;
+mod words;
 
 pub use fault::{RunFault, ScriptFault};
 pub use print::write_outcomes;

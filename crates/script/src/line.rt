@@ -5,16 +5,14 @@ ghost use Rattle.script.specs.Fields.{octets_of};
 ghost use Rattle.script.specs.Lines.{zone_line, set_line, pool_line, moment_of, event_of, at_line};
 ghost use Rattle.script.specs.Lines.{turn_line, line_of};
 
-use crate::address::address_of;
-use crate::name::name_of;
-use crate::number::number_of;
-use crate::parts::{Words, is_word};
+use crate::words::Words;
 use crate::pool::PoolLine;
 use crate::setting::Setting;
 use hex::FromHexError;
 use ras_core::{Event, Moment};
 use ras_module::{Address, Name, Octets};
 use std::alloc::{AllocError, Global};
+use value_texts::{address_of, is_word, name_of, number_of};
 
 /// What a line says.
 #[derive(Drop)]

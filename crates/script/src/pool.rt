@@ -1,17 +1,16 @@
 //! The pool lines of a script.
 
-ghost use Rattle.std.specs.Prelude.{◌≡◌, ◌≤◌, IfSome, false};
+ghost use Rattle.std.specs.Prelude.{◌≡◌, IfSome, false};
 ghost use Rattle.zone_config.specs.Networks.{is_too_long};
-ghost use Rattle.script.specs.Fields.{network_of, number_of};
+ghost use Rattle.value_texts.specs.Texts.{number_of};
 ghost use Rattle.script.specs.Pools.{PoolEntry, fixed_pool, paced_pool, pool_of, pool_with_network};
 ghost use Rattle.script.specs.Pools.{served_network, step_pool};
 
-use crate::address::octet_of;
-use crate::number::number_of;
-use crate::parts::{Words, is_word, parted};
+use crate::words::Words;
 use pools::{NonZeroUnits, PoolSpec};
 use ras_core::Network;
 use std::marker::Model;
+use value_texts::{PoolKind, is_word, network_of, number_of};
 
 /// A pool, with the network that it serves, where it doesn't serve every address. Contracts see the
 /// pair.
@@ -39,14 +38,10 @@ impl PoolLine {
         ensures { result ≡ pool_of words.entry }
     {
         let kind = words.next_word()?;
-        if is_word(kind, "fixed") {
-            fixed_pool(words)
-        } else if is_word(kind, "step") {
-            step_pool(words)
-        } else if is_word(kind, "paced") {
-            paced_pool(words)
-        } else {
-            None
+        match PoolKind::named(kind)? {
+            PoolKind::Fixed => fixed_pool(words),
+            PoolKind::Step => step_pool(words),
+            PoolKind::Paced => paced_pool(words),
         }
     }
 
@@ -79,31 +74,6 @@ fn units_of(word: &[u8]) -> Option<NonZeroUnits>
         Some(number) => NonZeroUnits::new(number as u32),
         None => None,
     }
-}
-
-fn bits_of(word: &[u8]) -> Option<u8>
-    ensures value { result ≡ number_of 0 32 word.now }
-    ensures range { IfSome result (λ bits. bits ≤ 32) }
-{
-    match number_of(0, 32, word) {
-        Some(number) => Some(number as u8),
-        None => None,
-    }
-}
-
-/// The network that a word writes as `A.B.C.D/BITS`.
-fn network_of(word: &[u8]) -> Option<Network>
-    ensures value { result ≡ network_of word.now }
-    ensures bits { IfSome result (λ network. network.bits ≤ 32) }
-{
-    let (a, rest) = parted(word, b'.');
-    let (b, rest) = parted(rest, b'.');
-    let (c, rest) = parted(rest, b'.');
-    let (d, bits) = parted(rest, b'/');
-    Some(Network {
-        ip: [octet_of(a)?, octet_of(b)?, octet_of(c)?, octet_of(d)?],
-        bits: bits_of(bits)?,
-    })
 }
 
 fn served_network(mut words: Words) -> Option<Option<Network>>

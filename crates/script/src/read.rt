@@ -8,12 +8,12 @@ use crate::draft::Draft;
 use crate::fault::ScriptFault;
 use crate::input::read_whole;
 use crate::line::line_of;
-use crate::parts::parted;
 use pools::PoolSpecs;
 use ras_core::{Config, Event};
 use std::alloc::Global;
 use std::io::Read;
 use std::marker::Model;
+use value_texts::parted;
 
 /// The events of a script, in order. Contracts see the list of them.
 #[derive(Drop)]

@@ -1,12 +1,13 @@
 //! Settings of the zone that a script makes.
 
 ghost use Rattle.std.specs.Prelude.{◌≡◌};
-ghost use Rattle.script.specs.Settings.{setting_of, with_number};
+ghost use Rattle.zone_config.specs.Keys.{with_number};
+ghost use Rattle.script.specs.Settings.{setting_of};
 
-use crate::key::Key;
-use crate::number::number_of;
 use ras_core::Config;
 use std::marker::Model;
+use value_texts::number_of;
+use zone_config::Key;
 
 /// A number within its key's range. Contracts see the key with the number.
 #[derive(Drop)]
@@ -16,15 +17,15 @@ pub struct Setting {
 }
 
 impl Model for Setting {
-    ghost use Rattle.std.specs.Prelude.{ℕ, ◌≤◌};
-    ghost use Rattle.script.specs.declared.key.Key.{Key};
-    ghost use Rattle.script.specs.Settings.{most_of};
+    ghost use Rattle.std.specs.Prelude.{◌≡◌, ℕ, true};
+    ghost use Rattle.zone_config.specs.declared.key.Key.{Key};
+    ghost use Rattle.zone_config.specs.Keys.{takes};
 
     ghost Value = { Key × ℕ };
 
     ghost view = { λ s. (s.key, s.number) };
 
-    ghost invariant = { λ s. (1 ≤ s.number) × (s.number ≤ most_of s.key) };
+    ghost invariant = { λ s. takes s.key s.number ≡ true };
 }
 
 impl Setting {
@@ -34,7 +35,7 @@ impl Setting {
         ensures { result ≡ setting_of key.now number.now }
     {
         let key = Key::named(key)?;
-        let number = number_of(1, key.most(), number)?;
+        let number = number_of(key.least(), key.most(), number)?;
         Some(Setting { key, number })
     }
 

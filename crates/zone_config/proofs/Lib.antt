@@ -1,1 +1,2 @@
 pub mod RangesKept
+pub mod Staying

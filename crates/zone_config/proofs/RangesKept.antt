@@ -1,24 +1,55 @@
 -- What the ranges of a zone's settings give.
-use Rattle.std.proofs.Common.{◌≡◌, ◌≤◌, ◌<◌, ℕ, Bool, true, false, List, refl, Some, None}
-use Rattle.std.proofs.lemmas.Bool.{or_parts}
-use Rattle.std.proofs.Common.{arith}
-use Rattle.std.specs.Prelude.{Option, IsSome, SomeIff, nat_lt, codes, if◌then◌else◌}
-use Rattle.std.proofs.lemmas.Bool.Decides.{nat_tests}
+use Rattle.std.proofs.Common.{◌≡◌, ◌≤◌, ◌<◌, ℕ, suc, zero, Bool, true, false, not, List, [], ◌∷◌}
+use Rattle.std.proofs.Common.{refl, Some, None, arith, leb, get_or, length}
+use Rattle.std.proofs.lemmas.Bool.{and_parts, leb-true}
+use Rattle.std.specs.List.{find}
+use Rattle.std.specs.Prelude.{Option, IsSome, SomeIff, if◌then◌else◌}
 use Rattle.zone_config.specs.declared.config.ConfigParts.{ConfigParts}
-use Rattle.zone_config.specs.Ranges.{is_outside, range_fault}
+use Rattle.zone_config.specs.declared.key.Key.{Key}
+use Rattle.zone_config.specs.declared.key.Key.TheVariants.{Limit}
+use Rattle.zone_config.specs.declared.network.Network.{Network}
+use Rattle.zone_config.specs.Keys.{all_keys, least_of, most_of, number_in, takes}
+use Rattle.zone_config.specs.Ranges.{fault_with, is_outside, key_outside, range_fault}
 
-passes : (b : Bool) (x : List ℕ) (rest : Option (List ℕ)) → (if b then Some x else rest) ≡ None
+-- no key is outside its range
+none_outside : (key : Option Key) (networks : List (Option Network))
+    → fault_with key networks ≡ None → key ≡ None
+none_outside (Some key) networks e = absurd (cc e)
+none_outside None networks e = refl
+
+pub keys_inside : (parts : ConfigParts) → range_fault parts ≡ None → key_outside parts ≡ None
+unfolding range_fault
+keys_inside parts e = none_outside (key_outside parts) parts.networks e
+
+pub passes : (b : Bool) (key : Key) (rest : Option Key) → (if b then Some key else rest) ≡ None
     → (b ≡ false) × (rest ≡ None)
-passes true x rest h = absurd (cc h)
-passes false x rest h = (refl, h)
+passes true key rest h = absurd (cc h)
+passes false key rest h = (refl, h)
 
-not_below : (a b : ℕ) → nat_lt a b ≡ false → b ≤ a
-not_below a b h = grind (arith, nat_tests)
+fails_at : (p : Key → Bool) (keys : List Key) (i : ℕ) (default : Key) → find p keys ≡ None
+    → i < length keys → p (get_or keys i default) ≡ false
+fails_at p [] i default none below = absurd (omega (arith, below))
+fails_at p (key ∷ keys) zero default none below = (passes (p key) key (find p keys) none).0
+fails_at p (key ∷ keys) (suc i) default none below =
+    fails_at p keys i default (passes (p key) key (find p keys) none).1 (omega (arith, below))
 
-inside : (low high n : ℕ) → is_outside low high n ≡ false → (low ≤ n) × (n ≤ high)
-inside low high n h =
-    let both = or_parts (nat_lt n low) (nat_lt high n) h in
-    (not_below n low both.0, not_below high n both.1)
+taken : (b : Bool) → not b ≡ false → b ≡ true
+taken true e = refl
+taken false e = absurd (cc e)
+
+abbrev InRange : ConfigParts → Key → Type 0
+InRange parts key = (least_of key ≤ number_in parts key) × (number_in parts key ≤ most_of key)
+
+-- the number of the key at place i is in its range
+at_place : (parts : ConfigParts) (i : ℕ) → range_fault parts ≡ None → i < length all_keys
+    → InRange parts (get_or all_keys i Limit)
+at_place parts i e below =
+    let key = get_or all_keys i Limit in
+    let inside = taken (takes key (number_in parts key))
+    (fails_at (λ key. is_outside parts key) all_keys i Limit (keys_inside parts e) below) in
+    let both = and_parts (leb (least_of key) (number_in parts key))
+    (leb (number_in parts key) (most_of key)) inside in
+    (leb-true _ _ both.0, leb-true _ _ both.1)
 
 -- how long registrations live, and how many there may be
 pub record Limits (parts : ConfigParts) : Type 0 where
@@ -38,40 +69,22 @@ pub record Limits (parts : ConfigParts) : Type 0 where
   pub pool_turn : parts.pool_turn ≤ 86400000
 
 pub limits : (parts : ConfigParts) → range_fault parts ≡ None → Limits parts
-unfolding range_fault
-limits parts h =
-    let limit = passes (is_outside 1 1000000000000 parts.limit) (codes "zone.limit") _ h in
-    let call_limit =
-    passes (is_outside 1 4294967295 parts.call_limit) (codes "zone.call_limit") _ limit.1 in
-    let time = passes (is_outside 1 4294967295 parts.time_to_live)
-    (codes "zone.time_to_live") _ call_limit.1 in
-    let endpoints = passes (is_outside 1 20000 parts.endpoints) (codes "zone.endpoints") _ time.1 in
-    let calls = passes (is_outside 1 20000 parts.calls) (codes "zone.calls") _ endpoints.1 in
-    let kept = passes (is_outside 1 65536 parts.kept) (codes "zone.kept") _ calls.1 in
-    let window = passes (is_outside 1 3600000 parts.window) (codes "zone.window") _ kept.1 in
-    let silence = passes (is_outside 1 3600000 parts.silence) (codes "zone.silence") _ window.1 in
-    let delay = passes (is_outside 1 65535 parts.delay) (codes "zone.delay") _ silence.1 in
-    let retries = passes (is_outside 1 16 parts.retries) (codes "zone.retries") _ delay.1 in
-    let asks = passes (is_outside 1 16 parts.asks) (codes "zone.asks") _ retries.1 in
-    let ask_wait = passes (is_outside 1 3600000 parts.ask_wait) (codes "zone.ask_wait") _ asks.1 in
-    let turn =
-    passes (is_outside 1 86400000 parts.pool_turn) (codes "zone.pool_turn") _ ask_wait.1 in
-    record {
-      some_time = (inside 1 4294967295 parts.time_to_live time.0).0;
-      time = (inside 1 4294967295 parts.time_to_live time.0).1;
-      endpoints = (inside 1 20000 parts.endpoints endpoints.0).1;
-      call_limit = (inside 1 4294967295 parts.call_limit call_limit.0).1;
-      some_calls = (inside 1 20000 parts.calls calls.0).0;
-      calls = (inside 1 20000 parts.calls calls.0).1;
-      some_kept = (inside 1 65536 parts.kept kept.0).0;
-      kept = (inside 1 65536 parts.kept kept.0).1;
-      window = (inside 1 3600000 parts.window window.0).1;
-      some_delay = (inside 1 65535 parts.delay delay.0).0;
-      delay = (inside 1 65535 parts.delay delay.0).1;
-      some_retries = (inside 1 16 parts.retries retries.0).0;
-      asks = (inside 1 16 parts.asks asks.0).1;
-      pool_turn = (inside 1 86400000 parts.pool_turn turn.0).1;
-    }
+limits parts e = record {
+  some_time = (at_place parts 2 e (omega arith)).0;
+  time = (at_place parts 2 e (omega arith)).1;
+  endpoints = (at_place parts 3 e (omega arith)).1;
+  call_limit = (at_place parts 1 e (omega arith)).1;
+  some_calls = (at_place parts 4 e (omega arith)).0;
+  calls = (at_place parts 4 e (omega arith)).1;
+  some_kept = (at_place parts 5 e (omega arith)).0;
+  kept = (at_place parts 5 e (omega arith)).1;
+  window = (at_place parts 6 e (omega arith)).1;
+  some_delay = (at_place parts 8 e (omega arith)).0;
+  delay = (at_place parts 8 e (omega arith)).1;
+  some_retries = (at_place parts 9 e (omega arith)).0;
+  asks = (at_place parts 10 e (omega arith)).1;
+  pool_turn = (at_place parts 12 e (omega arith)).1;
+}
 
 pub is_time : (seconds : ℕ) (o : Option ℕ) → SomeIff o (0 < seconds) seconds
     → 1 ≤ seconds → IsSome o

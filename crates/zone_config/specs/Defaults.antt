@@ -2,24 +2,28 @@
 use Rattle.std.specs.Prelude.{ℕ, List, Option}
 use Rattle.ras_module.specs.declared.address.Address.{Address}
 use Rattle.zone_config.specs.declared.config.ConfigParts.{ConfigParts}
+use Rattle.zone_config.specs.declared.key.Key.TheVariants.{Limit, CallLimit, TimeToLive, Endpoints}
+use Rattle.zone_config.specs.declared.key.Key.TheVariants.{Calls, Kept, Window, Silence, Delay}
+use Rattle.zone_config.specs.declared.key.Key.TheVariants.{Retries, Asks, AskWait, PoolTurn}
 use Rattle.zone_config.specs.declared.network.Network.{Network}
+use Rattle.zone_config.specs.Keys.{default_of}
 
 abbrev pub default_parts : List ℕ → Address → List (Option Network) → ConfigParts
 default_parts identifier address networks = record {
   identifier = identifier;
   address = address;
-  limit = 100000;
-  call_limit = 20000;
-  time_to_live = 60;
-  endpoints = 1000;
-  calls = 1000;
-  kept = 4096;
-  window = 10000;
-  silence = 30000;
-  delay = 500;
-  retries = 3;
-  asks = 3;
-  ask_wait = 5000;
-  pool_turn = 1000;
+  limit = default_of Limit;
+  call_limit = default_of CallLimit;
+  time_to_live = default_of TimeToLive;
+  endpoints = default_of Endpoints;
+  calls = default_of Calls;
+  kept = default_of Kept;
+  window = default_of Window;
+  silence = default_of Silence;
+  delay = default_of Delay;
+  retries = default_of Retries;
+  asks = default_of Asks;
+  ask_wait = default_of AskWait;
+  pool_turn = default_of PoolTurn;
   networks = networks;
 }

@@ -1,4 +1,5 @@
 pub mod Networks
+pub mod Keys
 pub mod Ranges
 pub mod Defaults
 pub mod Terms

@@ -1,33 +1,30 @@
 -- The ranges of a zone's settings, and what is answered where one is left.
-use Rattle.std.specs.List.{list_any}
-use Rattle.std.specs.Prelude.{ℕ, ◌≡◌, Bool, true, false, ◌||◌, nat_lt, List, Option, Some, None}
+use Rattle.std.specs.List.{find, list_any}
+use Rattle.std.specs.Prelude.{ℕ, ◌≡◌, Bool, true, false, not, List, Option, Some, None}
 use Rattle.std.specs.Prelude.{Result, Ok, Err, codes, if◌then◌else◌}
 use Rattle.zone_config.specs.declared.config.ConfigParts.{ConfigParts}
 use Rattle.zone_config.specs.declared.config.ConfigFault.{ConfigFault}
 use Rattle.zone_config.specs.declared.config.ConfigFault.TheVariants.{OutOfRange, NoDefaultPool}
+use Rattle.zone_config.specs.declared.key.Key.{Key}
+use Rattle.zone_config.specs.declared.network.Network.{Network}
+use Rattle.zone_config.specs.Keys.{all_keys, number_in, path_of, takes}
 use Rattle.zone_config.specs.Networks.{has_default, is_too_long}
 
-abbrev pub is_outside : ℕ → ℕ → ℕ → Bool
-is_outside low high number = nat_lt number low || nat_lt high number
+-- the number of the key is outside its range
+abbrev pub is_outside : ConfigParts → Key → Bool
+is_outside parts key = not (takes key (number_in parts key))
 
--- the key of the first number that is outside its range
+abbrev pub key_outside : ConfigParts → Option Key
+key_outside parts = find (λ key. is_outside parts key) all_keys
+
+abbrev pub fault_with : Option Key → List (Option Network) → Option (List ℕ)
+fault_with (Some key) networks = Some (path_of key)
+fault_with None networks =
+    if list_any is_too_long networks then Some (codes "pool.network") else None
+
+-- the path of the first key whose number is outside its range; behind them come the networks
 unfoldable pub range_fault : ConfigParts → Option (List ℕ)
-range_fault parts =
-    if is_outside 1 1000000000000 parts.limit then Some (codes "zone.limit")
-    else if is_outside 1 4294967295 parts.call_limit then Some (codes "zone.call_limit")
-    else if is_outside 1 4294967295 parts.time_to_live then Some (codes "zone.time_to_live")
-    else if is_outside 1 20000 parts.endpoints then Some (codes "zone.endpoints")
-    else if is_outside 1 20000 parts.calls then Some (codes "zone.calls")
-    else if is_outside 1 65536 parts.kept then Some (codes "zone.kept")
-    else if is_outside 1 3600000 parts.window then Some (codes "zone.window")
-    else if is_outside 1 3600000 parts.silence then Some (codes "zone.silence")
-    else if is_outside 1 65535 parts.delay then Some (codes "zone.delay")
-    else if is_outside 1 16 parts.retries then Some (codes "zone.retries")
-    else if is_outside 1 16 parts.asks then Some (codes "zone.asks")
-    else if is_outside 1 3600000 parts.ask_wait then Some (codes "zone.ask_wait")
-    else if is_outside 1 86400000 parts.pool_turn then Some (codes "zone.pool_turn")
-    else if list_any is_too_long parts.networks then Some (codes "pool.network")
-    else None
+range_fault parts = fault_with (key_outside parts) parts.networks
 
 -- each number is in its range, and the last pool has no network
 pub record IsConfig (parts : ConfigParts) : Type 0 where

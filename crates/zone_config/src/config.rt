@@ -1,12 +1,14 @@
 //! What is set for a zone.
 
 ghost use Rattle.std.specs.Prelude.{◌≡◌, ◌≤◌, ◌<◌, ◌^◌, None};
+ghost use Rattle.std.specs.List.{find};
 ghost use Rattle.std.specs.Option.{option_copied};
 ghost use Rattle.zone_config.specs.Ranges.{config_fault_number, is_outside, range_fault};
 ghost use Rattle.zone_config.specs.Ranges.{IsConfig, IsConfigAnswer};
 ghost use Rattle.zone_config.specs.Defaults.{default_parts};
 ghost use Rattle.zone_config.specs.Terms.{term_of};
 
+use crate::key::Key;
 use crate::moment::Moment;
 use crate::network::Networks;
 use crate::term::Term;
@@ -15,38 +17,39 @@ use std::marker::Model;
 use thiserror::Error;
 
 /// The settings of a zone, before their ranges are tested. Bandwidth is in units of 100 bit/s, for both
-/// directions of a call; times are milliseconds, but for `time_to_live`.
+/// directions of a call; times are milliseconds, but for `time_to_live`. `Key` has the range and the
+/// default of each number.
 #[derive(Drop)]
 pub struct ConfigParts {
     /// The GatekeeperIdentifier of the zone.
     pub identifier: Name,
     /// The RAS address of the gatekeeper.
     pub address: Address,
-    /// The bandwidth of all calls together: 1 to 1000000000000.
+    /// The bandwidth of all calls together.
     pub limit: u64,
-    /// The bandwidth of one call: 1 to 4294967295.
+    /// The bandwidth of one call.
     pub call_limit: u64,
-    /// For how long a registration lives, in seconds: 1 to 4294967295.
+    /// For how long a registration lives, in seconds.
     pub time_to_live: u64,
-    /// How many endpoints there may be: 1 to 20000.
+    /// How many endpoints there may be.
     pub endpoints: u64,
-    /// How many calls there may be: 1 to 20000.
+    /// How many calls there may be.
     pub calls: u64,
-    /// How many replies are kept: 1 to 65536.
+    /// How many replies are kept.
     pub kept: u64,
-    /// For how long a reply is kept: 1 to 3600000.
+    /// For how long a reply is kept.
     pub window: u64,
-    /// After how long a silent endpoint in a call is asked for its state: 1 to 3600000.
+    /// After how long a silent endpoint in a call is asked for its state.
     pub silence: u64,
-    /// After how long a request in progress is served again: 1 to 65535.
+    /// After how long a request in progress is served again.
     pub delay: u64,
-    /// How often a request in progress is served again at most: 1 to 16.
+    /// How often a request in progress is served again at most.
     pub retries: u64,
-    /// How often a silent endpoint is asked: 1 to 16.
+    /// How often a silent endpoint is asked.
     pub asks: u64,
-    /// How long an answer is waited for: 1 to 3600000.
+    /// How long an answer is waited for.
     pub ask_wait: u64,
-    /// How long it is from one turn of the pools to the next: 1 to 86400000.
+    /// How long it is from one turn of the pools to the next.
     pub pool_turn: u64,
     /// The networks of the pools, in their order. A call has its units from the first pool that has no
     /// network, or whose network holds the call signal address of who opens it. The last pool has none.
@@ -62,19 +65,19 @@ impl ConfigParts {
         ConfigParts {
             identifier,
             address,
-            limit: 100_000,
-            call_limit: 20_000,
-            time_to_live: 60,
-            endpoints: 1_000,
-            calls: 1_000,
-            kept: 4_096,
-            window: 10_000,
-            silence: 30_000,
-            delay: 500,
-            retries: 3,
-            asks: 3,
-            ask_wait: 5_000,
-            pool_turn: 1_000,
+            limit: Key::Limit.default(),
+            call_limit: Key::CallLimit.default(),
+            time_to_live: Key::TimeToLive.default(),
+            endpoints: Key::Endpoints.default(),
+            calls: Key::Calls.default(),
+            kept: Key::Kept.default(),
+            window: Key::Window.default(),
+            silence: Key::Silence.default(),
+            delay: Key::Delay.default(),
+            retries: Key::Retries.default(),
+            asks: Key::Asks.default(),
+            ask_wait: Key::AskWait.default(),
+            pool_turn: Key::PoolTurn.default(),
             networks,
         }
     }
@@ -120,47 +123,22 @@ impl Model for Config {
     ghost invariant = { λ c. IsConfig c.parts };
 }
 
-fn is_outside(low: u64, high: u64, number: u64) -> bool
-    ensures { result ≡ is_outside low high number }
+/// The first of the keys whose number is outside its range.
+fn first_outside<'a>(keys: &'a [Key], parts: &ConfigParts) -> Option<&'a Key>
+    ensures { option_copied result ≡ find (λ key. is_outside parts.now key) keys.now }
 {
-    number < low || high < number
+    keys.iter().find(|key| !key.takes(key.get(parts)))
 }
 
-/// The key of the first number that is outside its range.
+/// The path of the first key whose number is outside its range.
 #[tactic(auto, unfolding(crate::specs::Ranges::range_fault))]
 fn range_fault(parts: &ConfigParts) -> Option<&'static str>
     ensures { option_copied result ≡ range_fault parts.now }
 {
-    if is_outside(1, 1_000_000_000_000, parts.limit) {
-        Some("zone.limit")
-    } else if is_outside(1, 4_294_967_295, parts.call_limit) {
-        Some("zone.call_limit")
-    } else if is_outside(1, 4_294_967_295, parts.time_to_live) {
-        Some("zone.time_to_live")
-    } else if is_outside(1, 20_000, parts.endpoints) {
-        Some("zone.endpoints")
-    } else if is_outside(1, 20_000, parts.calls) {
-        Some("zone.calls")
-    } else if is_outside(1, 65_536, parts.kept) {
-        Some("zone.kept")
-    } else if is_outside(1, 3_600_000, parts.window) {
-        Some("zone.window")
-    } else if is_outside(1, 3_600_000, parts.silence) {
-        Some("zone.silence")
-    } else if is_outside(1, 65_535, parts.delay) {
-        Some("zone.delay")
-    } else if is_outside(1, 16, parts.retries) {
-        Some("zone.retries")
-    } else if is_outside(1, 16, parts.asks) {
-        Some("zone.asks")
-    } else if is_outside(1, 3_600_000, parts.ask_wait) {
-        Some("zone.ask_wait")
-    } else if is_outside(1, 86_400_000, parts.pool_turn) {
-        Some("zone.pool_turn")
-    } else if parts.networks.are_too_long() {
-        Some("pool.network")
-    } else {
-        None
+    match first_outside(&Key::ALL, parts) {
+        Some(key) => Some(key.path()),
+        None if parts.networks.are_too_long() => Some("pool.network"),
+        None => None,
     }
 }
 

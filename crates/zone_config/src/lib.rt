@@ -3,11 +3,13 @@
 #![tactic(auto)]
 
 mod config;
+mod key;
 mod moment;
 mod network;
 mod term;
 
 pub use config::{Config, ConfigFault, ConfigParts};
+pub use key::Key;
 pub use moment::Moment;
 pub use network::{Network, Networks};
 pub use term::Term;

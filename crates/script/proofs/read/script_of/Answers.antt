@@ -6,7 +6,7 @@ use Rattle.script.specs.declared.fault.ScriptFault.{ScriptFault}
 use Rattle.script.specs.declared.read.Script.{Script}
 use Rattle.script.proofs.Reading.{answer_from, readings, first_answer, last_answer, answer_more}
 use Rattle.script.proofs.Reading.{unread_line, misplaced_line}
-use Rattle.script.proofs.Parting.{rest_shorter}
+use Rattle.value_texts.proofs.Parting.{rest_shorter}
 use Rattle.script.proofs.read.script_of.Goals as goal
 
 pub loop-rest-init : goal.loop-rest-init

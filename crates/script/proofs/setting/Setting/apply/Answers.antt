@@ -1,7 +1,7 @@
 use Rattle.std.proofs.Common.{subst, sym}
 use Rattle.zone_config.specs.declared.config.ConfigParts.{ConfigParts}
 use Rattle.zone_config.specs.Ranges.{IsConfig}
-use Rattle.script.proofs.InRange.{stays_config, no_config_fault}
+use Rattle.zone_config.proofs.Staying.{stays_config, no_config_fault}
 use Rattle.script.proofs.setting.Setting.apply.Goals as goal
 
 pub unreachable-requires : goal.unreachable-requires
@@ -12,5 +12,5 @@ unreachable-requires c =
     let new : IsConfig c.set.new.parts =
     subst (λ (parts : ConfigParts). IsConfig parts) (sym c.set.ensures)
     (stays_config c.into_parts-parts.result c.self.inside.key c.self.inside.number
-    c.self.invariant.0 c.self.invariant.1 old) in
+    c.self.invariant old) in
     no_config_fault c.set.new.parts c.new.result c.in-Err.field-0 c.new.ensures c.in-Err.is new

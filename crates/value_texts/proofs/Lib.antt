@@ -1,0 +1,4 @@
+pub mod FourTests
+pub mod Parting
+pub mod Numbers
+pub mod Names

@@ -1,0 +1,101 @@
+-- The whole-number settings of a zone: for each key its name, its range and its default.
+use Rattle.std.specs.Prelude.{ℕ, Bool, ◌++◌, List, [], ◌∷◌, nat_le, ◌&&◌, Option, codes}
+use Rattle.std.specs.List.{find}
+use Rattle.std.specs.Str.{bytes_eq}
+use Rattle.zone_config.specs.declared.config.ConfigParts.{ConfigParts}
+use Rattle.zone_config.specs.declared.key.Key.{Key}
+use Rattle.zone_config.specs.declared.key.Key.TheVariants.{Limit, CallLimit, TimeToLive, Endpoints}
+use Rattle.zone_config.specs.declared.key.Key.TheVariants.{Calls, Kept, Window, Silence, Delay}
+use Rattle.zone_config.specs.declared.key.Key.TheVariants.{Retries, Asks, AskWait, PoolTurn}
+
+-- what is said of a key: its name, the least and the greatest number that it takes, and its number
+-- where nothing is set
+pub record Said : Type 0 where
+  pub name : List ℕ
+  pub least : ℕ
+  pub most : ℕ
+  pub default : ℕ
+
+abbrev said : List ℕ → ℕ → ℕ → ℕ → Said
+said name least most default =
+    record { name = name; least = least; most = most; default = default }
+
+abbrev pub said_of : Key → Said
+said_of Limit = said (codes "limit") 1 1000000000000 100000
+said_of CallLimit = said (codes "call_limit") 1 4294967295 20000
+said_of TimeToLive = said (codes "time_to_live") 1 4294967295 60
+said_of Endpoints = said (codes "endpoints") 1 20000 1000
+said_of Calls = said (codes "calls") 1 20000 1000
+said_of Kept = said (codes "kept") 1 65536 4096
+said_of Window = said (codes "window") 1 3600000 10000
+said_of Silence = said (codes "silence") 1 3600000 30000
+said_of Delay = said (codes "delay") 1 65535 500
+said_of Retries = said (codes "retries") 1 16 3
+said_of Asks = said (codes "asks") 1 16 3
+said_of AskWait = said (codes "ask_wait") 1 3600000 5000
+said_of PoolTurn = said (codes "pool_turn") 1 86400000 1000
+
+abbrev pub name_of : Key → List ℕ
+name_of key = (said_of key).name
+
+abbrev pub least_of : Key → ℕ
+least_of key = (said_of key).least
+
+abbrev pub most_of : Key → ℕ
+most_of key = (said_of key).most
+
+abbrev pub default_of : Key → ℕ
+default_of key = (said_of key).default
+
+-- its name among all settings
+abbrev pub path_of : Key → List ℕ
+path_of key = codes "zone." ++ name_of key
+
+-- the order in which the ranges are tested
+abbrev pub all_keys : List Key
+all_keys =
+    Limit ∷ CallLimit ∷ TimeToLive ∷ Endpoints ∷ Calls ∷ Kept ∷ Window ∷ Silence ∷ Delay ∷ Retries
+    ∷ Asks ∷ AskWait ∷ PoolTurn ∷ []
+
+abbrev pub has_name : List ℕ → Key → Bool
+has_name word key = bytes_eq word (name_of key)
+
+-- the key of this name
+abbrev pub key_of : List ℕ → Option Key
+key_of word = find (λ key. has_name word key) all_keys
+
+-- the number lies in the range of the key
+abbrev pub takes : Key → ℕ → Bool
+takes key number = nat_le (least_of key) number && nat_le number (most_of key)
+
+-- the number of a key
+abbrev pub number_in : ConfigParts → Key → ℕ
+number_in parts Limit = parts.limit
+number_in parts CallLimit = parts.call_limit
+number_in parts TimeToLive = parts.time_to_live
+number_in parts Endpoints = parts.endpoints
+number_in parts Calls = parts.calls
+number_in parts Kept = parts.kept
+number_in parts Window = parts.window
+number_in parts Silence = parts.silence
+number_in parts Delay = parts.delay
+number_in parts Retries = parts.retries
+number_in parts Asks = parts.asks
+number_in parts AskWait = parts.ask_wait
+number_in parts PoolTurn = parts.pool_turn
+
+-- the settings with another number under this key
+abbrev pub with_number : ConfigParts → Key → ℕ → ConfigParts
+with_number parts Limit number = record parts { limit = number }
+with_number parts CallLimit number = record parts { call_limit = number }
+with_number parts TimeToLive number = record parts { time_to_live = number }
+with_number parts Endpoints number = record parts { endpoints = number }
+with_number parts Calls number = record parts { calls = number }
+with_number parts Kept number = record parts { kept = number }
+with_number parts Window number = record parts { window = number }
+with_number parts Silence number = record parts { silence = number }
+with_number parts Delay number = record parts { delay = number }
+with_number parts Retries number = record parts { retries = number }
+with_number parts Asks number = record parts { asks = number }
+with_number parts AskWait number = record parts { ask_wait = number }
+with_number parts PoolTurn number = record parts { pool_turn = number }
