@@ -5,41 +5,43 @@ use Rattle.std.specs.Prelude.{Option, All, if◌then◌else◌}
 use Rattle.ras_module.specs.declared.reply.Reply.{Reply}
 use Rattle.ras_module.specs.declared.request.Request.{Request}
 use Rattle.ras_module.specs.declared.reply.Reply.TheVariants.{Rip}
-use Rattle.ras_codec.specs.Replies.{encoding_of}
+use Rattle.ras_writing.specs.Replies.{encoding_of}
 use Rattle.kept_replies.specs.declared.key.KeptKey.{KeptKey}
 use Rattle.kept_replies.specs.Kept.{KeptReplies}
 use Rattle.pools.specs.declared.interface.Lend.{Lend}
 use Rattle.pools.specs.declared.interface.Lend.TheVariants.{Lent, Refused, Wait}
 use Rattle.pools.specs.declared.interface.Figures.{Figures}
 use Rattle.pools.specs.Account.{IsAnswer}
-use Rattle.zone_services.specs.declared.change.Question.{Question}
+use Rattle.zone_tables.specs.declared.unit_request.UnitRequest.{UnitRequest}
 use Rattle.ras_core.specs.declared.job.Job.{Job}
 use Rattle.ras_core.specs.declared.job.Occasion.{Occasion}
 use Rattle.ras_core.specs.declared.job.Occasion.TheVariants.{First, Again}
 use Rattle.zone_events.specs.declared.outcome.Outcome.{Outcome}
 use Rattle.ras_core.specs.State.{State, Running}
-use Rattle.zone_services.specs.Zone.{Last}
-use Rattle.zone_services.specs.inside.Parts.{RunningZone}
-use Rattle.zone_services.specs.Plans.{Served, Plan, Asking}
-use Rattle.zone_services.specs.Pools.{figures_at, pools_after_answer, lasts_after}
-use Rattle.zone_services.specs.Requests.{seq_of}
+use Rattle.zone_tables.specs.Tables.{Last}
+use Rattle.zone_tables.specs.Parts.{RunningTables}
+use Rattle.ras_requests.specs.Plans.{Served, Plan, Asking}
+use Rattle.zone_tables.specs.Pools.{figures_at, pools_after_answer, lasts_after}
+use Rattle.ras_requests.specs.Requests.{seq_of}
 use Rattle.ras_core.specs.Keeping.{Progress, Task, answered, answered_by, dropped_for, in_progress}
 use Rattle.ras_core.specs.Keeping.{kept_with, plan_at, state_after, waits, with_answered_pool}
 use Rattle.zone_config.specs.Terms.{term_of}
 use Rattle.ras_core.specs.Machine.{Ending, Serving, ended, note_at, plan_ending}
-use Rattle.zone_services.specs.inside.Decisions.{Asks, ask_of, calls_after_answer, granted_by}
-use Rattle.zone_services.specs.inside.Decisions.{refused_by, reply_of}
+use Rattle.ras_requests.specs.Conclusions.{RequestsUnits, granted_by}
+use Rattle.zone_tables.specs.UnitRequests.{units_requested, calls_after_answer}
+use Rattle.ras_requests.specs.Conclusions.{refused_by}
+use Rattle.zone_tables.specs.UnitRequests.{reply_of}
 use Rattle.ras_core.specs.inside.Courses.{heard_at, Does}
 use Rattle.ras_core.specs.Soundness.{AreBornBefore}
-use Rattle.zone_services.specs.Soundness.{HasCounts}
+use Rattle.zone_tables.specs.Soundness.{HasCounts}
 use Rattle.ras_core.specs.Steps.{IsTimely, MayChoose, ask_in_plan, choices_of}
-use Rattle.zone_services.proofs.PoolFigures.{All-answer}
+use Rattle.zone_tables.proofs.PoolFigures.{All-answer}
 use Rattle.ras_core.proofs.Dropping.{born_kept_with}
 
 module _ (s : State) (lasts : List Last) (now : ℕ) (key : KeptKey) (request : Request)
-    (id : List ℕ) (q : Question) where
+    (id : List ℕ) (q : UnitRequest) where
   abbrev pub asking : Plan
-  asking = Asking (ask_of q) (granted_by s.zone q) (refused_by s.zone q)
+  asking = Asking (units_requested q) (granted_by s.zone q) (refused_by s.zone q)
 
   abbrev pub asked_task : Occasion → Task
   asked_task occasion = record {
@@ -57,13 +59,13 @@ module _ (s : State) (lasts : List Last) (now : ℕ) (key : KeptKey) (request : 
     given = None;
   }
 
-  abbrev pub asked_zone : Occasion → Lend → RunningZone
+  abbrev pub asked_zone : Occasion → Lend → RunningTables
   asked_zone occasion answer = heard_at (record {
     zone = record s.zone {
       calls = calls_after_answer q answer s.zone.calls;
       pools = pools_after_answer s.zone.pools q.pool answer;
     };
-    lasts = lasts_after lasts (Some (ask_of q)) (Some answer);
+    lasts = lasts_after lasts (Some (units_requested q)) (Some answer);
   }) occasion now (Some id)
 
   abbrev pub asked_kept : Occasion → Bool → Reply → KeptReplies
@@ -87,7 +89,7 @@ module _ (s : State) (lasts : List Last) (now : ℕ) (key : KeptKey) (request : 
   -- what a pool's answer makes of the request, where it is known whether it is to wait
   abbrev progress : (ℕ → Served) → Served → Lend → Bool → Progress
   progress lent refused answer w =
-      with_answered_pool s.zone (ask_of q) answer (if w
+      with_answered_pool s.zone (units_requested q) answer (if w
       then in_progress s.zone.config.delay request refused
       else answered (answered_by lent refused answer))
 
@@ -150,12 +152,12 @@ module _ (s : State) (lasts : List Last) (now : ℕ) (key : KeptKey) (request : 
   may_choose (Again born left) answer reply fits = fits
 
   ask_is : (occasion : Occasion)
-      → ask_in_plan (plan_at occasion now (Some id) asking) ≡ Some (ask_of q)
+      → ask_in_plan (plan_at occasion now (Some id) asking) ≡ Some (units_requested q)
   ask_is (First dropped) = refl
   ask_is (Again born left) = refl
 
   lasts_are : (occasion : Occasion) (answer : Lend)
-      → (asked_zone occasion answer).lasts ≡ lasts_after lasts (Some (ask_of q)) (Some answer)
+      → (asked_zone occasion answer).lasts ≡ lasts_after lasts (Some (units_requested q)) (Some answer)
   lasts_are (First dropped) answer = refl
   lasts_are (Again born left) answer = refl
 
@@ -165,7 +167,7 @@ module _ (s : State) (lasts : List Last) (now : ℕ) (key : KeptKey) (request : 
   pools_are (Again born left) answer = refl
 
   pub does_asked : (occasion : Occasion) (answer : Lend) (w : Bool)
-      (plan : Plan) → Asks s.zone plan q
+      (plan : Plan) → RequestsUnits s.zone plan q
       → w ≡ waits occasion answer → seq_of request ≡ q.seq
       → IsAnswer (figures_at s.zone.pools q.pool) q.units answer
       → IsTimely s now occasion → AreBornBefore s.steps s.kept
@@ -198,22 +200,22 @@ module _ (s : State) (lasts : List Last) (now : ℕ) (key : KeptKey) (request : 
 
 -- the same, of what the code has
 pub does_answered : (old : Running) (now : ℕ) (job : Job) (id : List ℕ)
-    (request : Request) (q : Question) (answer : Lend) (w : Bool) (reply : Reply)
-    (services : RunningZone) (kept : KeptReplies)
+    (request : Request) (q : UnitRequest) (answer : Lend) (w : Bool) (reply : Reply)
+    (tables : RunningTables) (kept : KeptReplies)
     → w ≡ waits job.occasion answer → seq_of request ≡ q.seq
     → IsAnswer (figures_at old.state.zone.pools q.pool) q.units answer
     → IsTimely old.state now job.occasion → AreBornBefore old.state.steps old.state.kept
     → reply ≡ reply_of q answer w old.state.zone.config.delay → length (encoding_of reply) ≤ 20000
-    → services ≡ heard_at (record {
+    → tables ≡ heard_at (record {
       zone = record old.state.zone {
         calls = calls_after_answer q answer old.state.zone.calls;
         pools = pools_after_answer old.state.zone.pools q.pool answer;
       };
-      lasts = lasts_after old.lasts (Some (ask_of q)) (Some answer);
+      lasts = lasts_after old.lasts (Some (units_requested q)) (Some answer);
     }) job.occasion now (Some id)
     → kept ≡ kept_with old.state.kept job.key job.occasion old.state.steps
     (state_after request reply w (term_of old.state.zone.config now))
-    → (plan : Plan) → Asks old.state.zone plan q
+    → (plan : Plan) → RequestsUnits old.state.zone plan q
     → Does old now (Serving (record {
       job = job;
       request = request;
@@ -225,10 +227,10 @@ pub does_answered : (old : Running) (now : ℕ) (job : Job) (id : List ℕ)
       dropped = dropped_for job.occasion;
       given = None;
     }) (record {
-      state = record old.state { zone = services.zone; kept = kept };
-      lasts = services.lasts;
+      state = record old.state { zone = tables.zone; kept = kept };
+      lasts = tables.lasts;
     })
-does_answered old now job id request q answer w reply services kept w_is seq fits timely before
+does_answered old now job id request q answer w reply tables kept w_is seq fits timely before
     reply_is few services_is kept_is plan asks =
     let s = old.state in
     let due = asked_running s old.lasts now job.key request id q job.occasion answer w in
@@ -245,10 +247,10 @@ does_answered old now job id request q answer w reply services kept w_is seq fit
     (state_after request r w (term_of s.zone.config now))) reply_is in
     subst (λ (r : Reply). Does old now course
     (asked_outcome s old.lasts now job.key request id q job.occasion answer r) (record {
-      state = record s { zone = services.zone; kept = kept };
-      lasts = services.lasts;
+      state = record s { zone = tables.zone; kept = kept };
+      lasts = tables.lasts;
     })) (sym reply_is)
-    (subst (λ (z : RunningZone). Does old now course (asked_outcome s old.lasts now job.key request
+    (subst (λ (z : RunningTables). Does old now course (asked_outcome s old.lasts now job.key request
     id q job.occasion answer told) (record {
       state = record s { zone = z.zone; kept = kept };
       lasts = z.lasts;

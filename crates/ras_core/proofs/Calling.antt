@@ -9,10 +9,10 @@ use Rattle.ras_module.specs.declared.request.Request.{Request}
 use Rattle.kept_replies.specs.declared.entry.KeptEntry.{KeptEntry}
 use Rattle.kept_replies.specs.declared.key.KeptKey.{KeptKey}
 use Rattle.kept_replies.specs.Kept.{AreBornApart, Passes, is_over, reply_in}
-use Rattle.ras_codec.specs.Replies.{encoding_of}
+use Rattle.ras_writing.specs.Replies.{encoding_of}
 use Rattle.zone_events.specs.declared.outcome.IgnoredCause.TheVariants.{Busy}
-use Rattle.zone_services.specs.Plans.{Plan}
-use Rattle.zone_services.specs.Requests.{HasReply, plan_of}
+use Rattle.ras_requests.specs.Plans.{Plan}
+use Rattle.ras_requests.specs.Requests.{HasReply, plan_of}
 use Rattle.ras_core.specs.State.{State}
 use Rattle.ras_core.specs.Keeping.{is_repeat}
 use Rattle.ras_core.specs.Machine.{Ignoring, Repeating, first, full_course, keyed_course}

@@ -5,35 +5,35 @@ use Rattle.std.specs.Prelude.{Option, IfSome}
 use Rattle.keyed.proofs.Decide.{same_some}
 use Rattle.ras_module.specs.declared.reply.Reply.{Reply}
 use Rattle.ras_module.specs.declared.request.Request.{Request}
-use Rattle.ras_codec.specs.Replies.{encoding_of}
+use Rattle.ras_writing.specs.Replies.{encoding_of}
 use Rattle.kept_replies.specs.declared.key.KeptKey.{KeptKey}
 use Rattle.kept_replies.specs.Kept.{KeptReplies}
 use Rattle.kept_replies.specs.declared.entry.KeptState.TheVariants.{Done}
-use Rattle.zone_services.specs.declared.change.Change.{Change}
-use Rattle.zone_services.specs.declared.change.Decision.{Decision}
+use Rattle.zone_tables.specs.declared.change.Change.{Change}
+use Rattle.ras_requests.specs.declared.conclusion.Decision.{Decision}
 use Rattle.ras_core.specs.declared.job.Job.{Job}
 use Rattle.ras_core.specs.declared.job.Occasion.{Occasion}
 use Rattle.ras_core.specs.declared.job.Occasion.TheVariants.{First, Again}
 use Rattle.zone_events.specs.declared.outcome.Outcome.{Outcome}
-use Rattle.zone_services.specs.Zone.{Zone, Last}
+use Rattle.zone_tables.specs.Tables.{Tables, Last}
 use Rattle.ras_core.specs.State.{State, Running}
-use Rattle.zone_services.specs.inside.Parts.{RunningZone}
-use Rattle.zone_services.specs.Plans.{Served, Plan, Settled, Naming, Asking, with_heard}
+use Rattle.zone_tables.specs.Parts.{RunningTables}
+use Rattle.ras_requests.specs.Plans.{Served, Plan, Settled, Naming, Asking, with_heard}
 use Rattle.ras_core.specs.Keeping.{Task, answered, dropped_for, kept_with, plan_at}
 use Rattle.ras_core.specs.Machine.{Serving, ended, note_at, plan_ending}
 use Rattle.pools.specs.declared.interface.Figures.{Figures}
-use Rattle.zone_services.specs.inside.Decisions.{served}
-use Rattle.zone_services.specs.inside.Changes.{after_change, changed}
+use Rattle.ras_requests.specs.Conclusions.{served}
+use Rattle.zone_tables.specs.Changes.{after_change, changed}
 use Rattle.ras_core.specs.inside.Courses.{heard_at, resolved, Does}
 use Rattle.ras_core.specs.Soundness.{AreBornBefore}
-use Rattle.zone_services.specs.Soundness.{CountsOneMore}
+use Rattle.zone_tables.specs.Soundness.{CountsOneMore}
 use Rattle.ras_core.specs.Steps.{IsUnusedIn, IsTimely, MayChoose, ask_in_plan, choices_of}
-use Rattle.zone_services.specs.Pools.{lasts_after}
-use Rattle.zone_services.proofs.ButLent.{counts_same, same_after_change}
+use Rattle.zone_tables.specs.Pools.{lasts_after}
+use Rattle.zone_tables.proofs.ButLent.{counts_same, same_after_change}
 use Rattle.ras_core.proofs.Dropping.{born_kept_with}
 
 -- the zone after a change, in which the endpoint was heard
-abbrev pub zone_after : Zone → List Last → ℕ → Occasion → Option (List ℕ) → Change → RunningZone
+abbrev pub zone_after : Tables → List Last → ℕ → Occasion → Option (List ℕ) → Change → RunningTables
 zone_after z lasts now occasion endpoint change =
     heard_at (changed (record { zone = z; lasts = lasts }) now change) occasion now endpoint
 
@@ -165,10 +165,10 @@ module _ (s : State) (lasts : List Last) (now : ℕ) (key : KeptKey) (request : 
 
 -- The same, of what the code has.
 pub does_carried : (old : Running) (now : ℕ) (job : Job) (endpoint : Option (List ℕ)) (d : Decision)
-    (given : Option (List ℕ)) (services : RunningZone) (kept : KeptReplies)
+    (given : Option (List ℕ)) (tables : RunningTables) (kept : KeptReplies)
     → IfSome given (IsUnusedIn old.state) → IsTimely old.state now job.occasion
     → AreBornBefore old.state.steps old.state.kept → length (encoding_of d.reply) ≤ 20000
-    → services ≡ zone_after old.state.zone old.lasts now job.occasion endpoint d.change
+    → tables ≡ zone_after old.state.zone old.lasts now job.occasion endpoint d.change
     → kept ≡ kept_with old.state.kept job.key job.occasion old.state.steps
     (Done d.reply (now + old.state.zone.config.window))
     → (plan : Plan) (request : Request) → resolved plan given ≡ Some (served old.state.zone now d)
@@ -183,10 +183,10 @@ pub does_carried : (old : Running) (now : ℕ) (job : Job) (endpoint : Option (L
       dropped = dropped_for job.occasion;
       given = given;
     }) (record {
-      state = record old.state { zone = services.zone; kept = kept };
-      lasts = services.lasts;
+      state = record old.state { zone = tables.zone; kept = kept };
+      lasts = tables.lasts;
     })
-does_carried old now job endpoint d given services kept unused timely before few services_is kept_is
+does_carried old now job endpoint d given tables kept unused timely before few services_is kept_is
     plan request is =
     let s = old.state in
     let course = Serving (record {
@@ -195,7 +195,7 @@ does_carried old now job endpoint d given services kept unused timely before few
       plan = plan_at job.occasion now endpoint plan;
     }) in
     let outcome = outcome_by s old.lasts now job.key request d.reply d.change job.occasion given in
-    subst (λ (z : RunningZone). Does old now course outcome (record {
+    subst (λ (z : RunningTables). Does old now course outcome (record {
       state = record s { zone = z.zone; kept = kept };
       lasts = z.lasts;
     })) (sym services_is)

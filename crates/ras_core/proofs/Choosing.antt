@@ -11,7 +11,7 @@ use Rattle.kept_replies.specs.declared.entry.KeptState.{KeptState}
 use Rattle.kept_replies.specs.declared.entry.KeptState.TheVariants.{Done, Pending}
 use Rattle.kept_replies.specs.declared.key.KeptKey.{KeptKey}
 use Rattle.kept_replies.specs.Kept.{NonePasses, Passes, births, is_over, reply_in}
-use Rattle.ras_codec.specs.Replies.{encoding_of}
+use Rattle.ras_writing.specs.Replies.{encoding_of}
 use Rattle.zone_events.specs.declared.due_item.DueItem.{DueItem}
 use Rattle.zone_events.specs.declared.due_item.DueItem.TheVariants.{RegistrationOver, Interrogate}
 use Rattle.zone_events.specs.declared.due_item.DueItem.TheVariants.{Silent, Retry, KeptOver, PoolTurn}
@@ -22,8 +22,8 @@ use Rattle.zone_events.specs.declared.outcome.IgnoredCause.TheVariants.{Busy, Un
 use Rattle.zone_events.specs.declared.outcome.Note.{Note}
 use Rattle.zone_events.specs.declared.outcome.Note.TheVariants as note
 use Rattle.zone_events.specs.declared.outcome.Outcome.{Outcome}
-use Rattle.zone_services.specs.Plans.{Plan}
-use Rattle.zone_services.specs.Requests.{endpoint_of, plan_of}
+use Rattle.ras_requests.specs.Plans.{Plan}
+use Rattle.ras_requests.specs.Requests.{endpoint_of, plan_of}
 use Rattle.ras_core.specs.declared.prepared.Message.{Message}
 use Rattle.ras_core.specs.declared.prepared.Message.TheVariants as message
 use Rattle.ras_core.specs.Prepared.{message_in}

@@ -7,8 +7,8 @@ use Rattle.std.specs.FinMap as fin
 use Rattle.keyed.proofs.Decide.{same_some}
 use Rattle.ras_module.specs.declared.address.Address.{Address}
 use Rattle.ras_module.specs.declared.request.Request.{Request}
-use Rattle.ras_codec.specs.Messages.{message_reading}
-use Rattle.ras_codec.specs.Replies.{encoding_of}
+use Rattle.ras_reading.specs.Messages.{message_reading}
+use Rattle.ras_writing.specs.Replies.{encoding_of}
 use Rattle.kept_replies.specs.declared.key.KeptKey.{KeptKey}
 use Rattle.kept_replies.specs.declared.entry.KeptEntry.{KeptEntry}
 use Rattle.kept_replies.specs.Kept.{reply_in}
@@ -20,8 +20,8 @@ use Rattle.zone_events.specs.declared.outcome.Note.{Note}
 use Rattle.zone_events.specs.declared.outcome.Note.TheVariants as note
 use Rattle.zone_events.specs.declared.outcome.Outcome.{Outcome}
 use Rattle.ras_core.specs.State.{State, Running}
-use Rattle.zone_services.specs.Plans.{Plan}
-use Rattle.zone_services.specs.Requests.{plan_of, HasReply}
+use Rattle.ras_requests.specs.Plans.{Plan}
+use Rattle.ras_requests.specs.Requests.{plan_of, HasReply}
 use Rattle.ras_core.specs.Keeping.{is_repeat}
 use Rattle.ras_core.specs.Turns.{IsNothingDueIn}
 use Rattle.ras_core.specs.Machine.{Ending, Course, Repeating, at_moment, course}

@@ -15,16 +15,16 @@ use Rattle.zone_events.specs.declared.outcome.Note.TheVariants as note
 use Rattle.zone_events.specs.declared.outcome.Outcome.{Outcome}
 use Rattle.zone_events.specs.Events.{noted_outcome}
 use Rattle.ras_core.specs.State.{Running}
-use Rattle.zone_services.specs.inside.Parts.{RunningZone}
+use Rattle.zone_tables.specs.Parts.{RunningTables}
 use Rattle.ras_core.specs.Turns.{IsDueIn, effect}
 use Rattle.ras_core.specs.Machine.{Course, Hearing, Doing, course_ending}
-use Rattle.zone_services.specs.Pools.{lasts_after}
-use Rattle.zone_services.specs.inside.Changes.{heard}
+use Rattle.zone_tables.specs.Pools.{lasts_after}
+use Rattle.zone_tables.specs.Changes.{heard}
 use Rattle.ras_core.specs.inside.Courses.{Does}
-use Rattle.zone_services.specs.inside.Leaving.{AreSameButLent}
+use Rattle.zone_tables.specs.Leaving.{AreSameButLent}
 use Rattle.ras_core.specs.Soundness.{AreBornBefore}
 use Rattle.ras_core.specs.Steps.{HasFewOctets, IsAllowed, ask_in, choices_of}
-use Rattle.zone_services.proofs.ButLent.{counts_same, same_after_end}
+use Rattle.zone_tables.proofs.ButLent.{counts_same, same_after_end}
 use Rattle.ras_core.proofs.Dropping.{born_same}
 
 -- An item is done: what is noted and what is left are as the machine has it. The machine is seen by
@@ -51,14 +51,14 @@ module _ (old value : Running) (is : old ≡ value) (now : ℕ) (item : DueItem)
       }))
 
 -- an endpoint gave a sign of life
-pub does_hear : (old : Running) (now : ℕ) (id : List ℕ) (services : RunningZone)
-    → services ≡ heard (record { zone = old.state.zone; lasts = old.lasts }) now (Some id)
+pub does_hear : (old : Running) (now : ℕ) (id : List ℕ) (tables : RunningTables)
+    → tables ≡ heard (record { zone = old.state.zone; lasts = old.lasts }) now (Some id)
     → Does old now (Hearing id) (noted_outcome note.Served None) (record {
-      state = record old.state { zone = services.zone };
-      lasts = services.lasts;
+      state = record old.state { zone = tables.zone };
+      lasts = tables.lasts;
     })
-does_hear old now id services is =
-    subst (λ (z : RunningZone). Does old now (Hearing id) (noted_outcome note.Served None) (record {
+does_hear old now id tables is =
+    subst (λ (z : RunningTables). Does old now (Hearing id) (noted_outcome note.Served None) (record {
       state = record old.state { zone = z.zone };
       lasts = z.lasts;
     })) (sym is) (record {

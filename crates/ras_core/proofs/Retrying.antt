@@ -17,9 +17,9 @@ use Rattle.ras_core.specs.declared.job.Job.{Job}
 use Rattle.ras_core.specs.declared.job.Occasion.TheVariants.{Again}
 use Rattle.zone_events.specs.declared.outcome.Outcome.{Outcome}
 use Rattle.ras_core.specs.State.{State}
-use Rattle.zone_services.specs.Zone.{Zone}
-use Rattle.zone_services.specs.Plans.{Plan, Settled, Naming, Asking}
-use Rattle.zone_services.specs.Requests.{plan_of, HasReply}
+use Rattle.zone_tables.specs.Tables.{Tables}
+use Rattle.ras_requests.specs.Plans.{Plan, Settled, Naming, Asking}
+use Rattle.ras_requests.specs.Requests.{plan_of, HasReply}
 use Rattle.ras_core.specs.Keeping.{Task, dropped_for}
 use Rattle.ras_core.specs.Machine.{Choices, again_course, note_at, plan_ending}
 use Rattle.ras_core.specs.Machine.{retry_course, retry_in_course, serving, with_answer, with_name}
@@ -32,7 +32,7 @@ if_ok_by_both P Q R (Ok x) h k f = f x h k
 if_ok_by_both P Q R (Err e) h k f = tt
 
 -- a request that is served comes to something
-pub plan_there : (z : Zone) (now : ℕ) (request : Request) → HasReply request
+pub plan_there : (z : Tables) (now : ℕ) (request : Request) → HasReply request
     → (plan : Plan) × (plan_of z now request ≡ Some plan)
 plan_there z now (Grq seq gatekeeper) h = (_, refl)
 plan_there z now (Rrq seq call_signal ras aliases gatekeeper time_to_live keep_alive endpoint) h =

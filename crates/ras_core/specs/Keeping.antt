@@ -20,11 +20,12 @@ use Rattle.ras_core.specs.declared.job.Job.{Job}
 use Rattle.ras_core.specs.declared.job.Occasion.{Occasion}
 use Rattle.ras_core.specs.declared.job.Occasion.TheVariants.{First, Again}
 use Rattle.zone_config.specs.declared.term.Term.{Term}
-use Rattle.zone_services.specs.Zone.{Zone}
+use Rattle.zone_tables.specs.Tables.{Tables}
 use Rattle.ras_core.specs.State.{State}
-use Rattle.zone_services.specs.Pools.{pools_after_answer}
-use Rattle.zone_services.specs.Plans.{Served, Ask, Plan, hearing}
-use Rattle.zone_services.specs.Requests.{seq_of}
+use Rattle.zone_tables.specs.Pools.{pools_after_answer}
+use Rattle.ras_requests.specs.Plans.{Served, Plan, hearing}
+use Rattle.zone_tables.specs.Pools.{RequestedUnits}
+use Rattle.ras_requests.specs.Requests.{seq_of}
 use Rattle.zone_config.specs.Terms.{term_of}
 
 -- whom a reply confirms is registered still; most replies confirm nobody
@@ -96,7 +97,7 @@ by_answer delay task lent refused answer =
     else answered (answered_by lent refused answer)
 
 -- and of the pool's figures
-abbrev pub with_answered_pool : Zone → Ask → Lend → Progress → Progress
+abbrev pub with_answered_pool : Tables → RequestedUnits → Lend → Progress → Progress
 with_answered_pool z ask answer p = record p {
   served = record p.served {
     zone = record p.served.zone { pools = pools_after_answer z.pools ask.pool answer };

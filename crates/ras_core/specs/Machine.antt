@@ -3,7 +3,7 @@ use Rattle.std.specs.Prelude.{ℕ, ◌+◌, ◌^◌, ◌==◌, nat_lt, max, is_s
 use Rattle.std.specs.Prelude.{Some, if◌then◌else◌}
 use Rattle.std.specs.FinMap.{get, len}
 use Rattle.ras_module.specs.declared.request.Request.{Request}
-use Rattle.ras_codec.specs.Replies.{encoding_of}
+use Rattle.ras_writing.specs.Replies.{encoding_of}
 use Rattle.pools.specs.declared.interface.Lend.{Lend}
 use Rattle.kept_replies.specs.declared.key.KeptKey.{KeptKey}
 use Rattle.kept_replies.specs.declared.entry.KeptEntry.{KeptEntry}
@@ -29,9 +29,10 @@ use Rattle.ras_core.specs.declared.prepared.Message.{Message}
 use Rattle.ras_core.specs.declared.prepared.Message.TheVariants as message
 use Rattle.ras_core.specs.Prepared.{message_in}
 use Rattle.ras_core.specs.State.{State}
-use Rattle.zone_services.specs.Zone.{with_live, heard_now}
-use Rattle.zone_services.specs.Plans.{Served, Ask, Plan, Settled, Naming, Asking}
-use Rattle.zone_services.specs.Requests.{endpoint_of, plan_of}
+use Rattle.zone_tables.specs.Tables.{with_live, heard_now}
+use Rattle.ras_requests.specs.Plans.{Served, Plan, Settled, Naming, Asking}
+use Rattle.zone_tables.specs.Pools.{RequestedUnits}
+use Rattle.ras_requests.specs.Requests.{endpoint_of, plan_of}
 use Rattle.ras_core.specs.Keeping.{Task, Progress, answered, by_answer, is_repeat, kept_after}
 use Rattle.ras_core.specs.Keeping.{dropped_for, plan_at, with_answered_pool}
 use Rattle.ras_core.specs.Turns.{effect}
@@ -182,7 +183,7 @@ abbrev pub with_name : State → ℕ → Task → (List ℕ → Served) → Opti
 with_name s now task named None = None
 with_name s now task named (Some id) = ended s now task (Some id) None (answered (named id))
 
-abbrev pub with_answer : State → ℕ → Task → Ask → (ℕ → Served) → Served → Option Lend → Ending
+abbrev pub with_answer : State → ℕ → Task → RequestedUnits → (ℕ → Served) → Served → Option Lend → Ending
 with_answer s now task ask lent refused None = None
 with_answer s now task ask lent refused (Some answer) =
     ended s now task None (Some answer) (with_answered_pool s.zone ask answer

@@ -2,8 +2,8 @@
 use Rattle.std.specs.Prelude.{ℕ, ◌≡◌, nat_lt, List, length, Option, None, Some, Result, Ok, Err}
 use Rattle.std.specs.Prelude.{if◌then◌else◌}
 use Rattle.ras_module.specs.declared.request.Request.{Request}
-use Rattle.ras_codec.specs.Messages.{message_reading}
-use Rattle.ras_codec.specs.declared.fault.ReadFault.{ReadFault}
+use Rattle.ras_reading.specs.Messages.{message_reading}
+use Rattle.ras_grammar.specs.declared.fault.ReadFault.{ReadFault}
 use Rattle.kept_replies.specs.declared.key.KeptKey.{KeptKey}
 use Rattle.zone_events.specs.declared.event.Event.{Event}
 use Rattle.zone_events.specs.declared.event.Event.TheVariants as event

@@ -6,7 +6,7 @@ use Rattle.kept_replies.specs.declared.entry.KeptEntry.{KeptEntry}
 use Rattle.kept_replies.specs.Kept.{KeptReplies, AreEntries, AreBornApart}
 use Rattle.ras_core.specs.State.{State}
 use Rattle.ras_core.specs.Machine.{most_steps}
-use Rattle.zone_services.specs.Soundness.{HasCounts, SoundZone}
+use Rattle.zone_tables.specs.Soundness.{HasCounts, SoundTables}
 
 -- each entry was born before so many steps were made
 abbrev pub AreBornBefore : ℕ → KeptReplies → Type 0
@@ -15,7 +15,7 @@ AreBornBefore steps kept =
 
 -- what holds of every state
 pub record Sound (s : State) : Type 0 where
-  pub zone : SoundZone s.zone
+  pub zone : SoundTables s.zone
   pub counts : All (HasCounts (2 ^ 62 + s.steps)) s.zone.pools
   pub few_kept : len s.kept ≤ s.zone.config.kept
   pub entries : AreEntries s.kept

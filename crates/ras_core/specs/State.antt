@@ -4,12 +4,12 @@ use Rattle.std.specs.FinMap.{empty}
 use Rattle.kept_replies.specs.Kept.{KeptReplies}
 use Rattle.pools.specs.declared.interface.Figures.{Figures}
 use Rattle.zone_config.specs.declared.config.ConfigParts.{ConfigParts}
-use Rattle.zone_services.specs.Zone.{Zone, empty_zone, Last}
+use Rattle.zone_tables.specs.Tables.{Tables, empty_tables, Last}
 
 -- The zone, the replies that are kept, the clock in milliseconds, the number of the next
 -- interrogation, the moment of the next turn of the pools, and how many steps were made.
 pub record State : Type 0 where
-  pub zone : Zone
+  pub zone : Tables
   pub kept : KeptReplies
   pub clock : ℕ
   pub interrogation_number : ℕ
@@ -19,7 +19,7 @@ pub record State : Type 0 where
 -- the state before the first step
 abbrev pub opening : ConfigParts → List Figures → State
 opening config pools = record {
-  zone = empty_zone config pools;
+  zone = empty_tables config pools;
   kept = empty;
   clock = 0;
   interrogation_number = 1;

@@ -15,10 +15,11 @@ use Rattle.zone_events.specs.declared.outcome.Note.{Note}
 use Rattle.zone_events.specs.declared.outcome.Note.TheVariants as note
 use Rattle.zone_events.specs.declared.outcome.Outcome.{Outcome}
 use Rattle.ras_core.specs.State.{State, Running}
-use Rattle.zone_services.specs.Soundness.{IsLentTo}
+use Rattle.zone_tables.specs.Soundness.{IsLentTo}
 use Rattle.ras_core.specs.Soundness.{Sound}
-use Rattle.zone_services.specs.Pools.{figures_at, lasts_after}
-use Rattle.zone_services.specs.Plans.{Ask, Plan, Settled, Naming, Asking}
+use Rattle.zone_tables.specs.Pools.{figures_at, lasts_after}
+use Rattle.zone_tables.specs.Pools.{RequestedUnits}
+use Rattle.ras_requests.specs.Plans.{Plan, Settled, Naming, Asking}
 use Rattle.ras_core.specs.Unused.{IsUnusedFor}
 use Rattle.ras_core.specs.Turns.{IsDueIn, IsNothingDueIn}
 use Rattle.ras_core.specs.Machine.{Choices, Course, Ignoring, Hearing, Repeating, Serving, Doing}
@@ -79,12 +80,12 @@ Run s [] after = after ≡ s
 Run s (entry ∷ entries) after = (mid : State) × Step s entry.0 entry.1 mid × Run mid entries after
 
 -- which pool is asked for how many units, where one is
-abbrev pub ask_in_plan : Plan → Option Ask
+abbrev pub ask_in_plan : Plan → Option RequestedUnits
 ask_in_plan (Settled served) = None
 ask_in_plan (Naming named) = None
 ask_in_plan (Asking ask lent refused) = Some ask
 
-abbrev pub ask_in : Course → Option Ask
+abbrev pub ask_in : Course → Option RequestedUnits
 ask_in (Serving task) = ask_in_plan task.plan
 ask_in other = None
 

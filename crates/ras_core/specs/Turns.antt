@@ -4,7 +4,7 @@ use Rattle.std.specs.Option.{option_map}
 use Rattle.std.specs.FinMap.{get}
 use Rattle.keyed.specs.Maps.{update}
 use Rattle.ras_module.specs.declared.reply.Reply.TheVariants.{Irq}
-use Rattle.ras_codec.specs.Replies.{encoding_of}
+use Rattle.ras_writing.specs.Replies.{encoding_of}
 use Rattle.registrations.specs.declared.registration.Registration.{Registration}
 use Rattle.registrations.specs.Registry.{after_ask}
 use Rattle.kept_replies.specs.Kept.{without_birth}
@@ -13,11 +13,11 @@ use Rattle.zone_events.specs.declared.due_item.DueItem.TheVariants.{Registration
 use Rattle.zone_events.specs.declared.due_item.DueItem.TheVariants.{Silent, Retry, KeptOver, PoolTurn}
 use Rattle.expiry.specs.Due.{IsDue, IsNothingDue}
 use Rattle.zone_events.specs.declared.outcome.Datagram.{Datagram}
-use Rattle.zone_services.specs.Zone.{with_live}
+use Rattle.zone_tables.specs.Tables.{with_live}
 use Rattle.zone_config.specs.declared.config.ConfigParts.{ConfigParts}
 use Rattle.expiry.specs.declared.times.Times.{Times}
 use Rattle.ras_core.specs.State.{State}
-use Rattle.zone_services.specs.Disengaging.{without_endpoint, without_silent}
+use Rattle.zone_tables.specs.Disengaging.{without_endpoint, without_silent}
 
 -- how long an endpoint in a call may be silent
 abbrev pub times_of : ConfigParts → Times

@@ -3,7 +3,7 @@
 use crate::job::Job;
 use ras_module::{EndpointId, Request};
 use zone_events::{Datagram, DueItem, IgnoredCause};
-use zone_services::Conclusion;
+use ras_requests::Conclusion;
 
 /// What an event calls for, before anything is done.
 #[derive(Drop)]

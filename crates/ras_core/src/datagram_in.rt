@@ -2,10 +2,10 @@
 
 ghost use Rattle.std.specs.Prelude.{◌≡◌, ◌≤◌, IfOk, IfSome, None, Some, length};
 ghost use Rattle.std.specs.FinMap as fin;
-ghost use Rattle.ras_codec.specs.Replies.{encoding_of};
+ghost use Rattle.ras_writing.specs.Replies.{encoding_of};
 ghost use Rattle.kept_replies.specs.Kept.{NonePasses, Passes, is_over};
-ghost use Rattle.zone_services.specs.Plans.{Plan};
-ghost use Rattle.zone_services.specs.Requests.{HasReply, plan_of};
+ghost use Rattle.ras_requests.specs.Plans.{Plan};
+ghost use Rattle.ras_requests.specs.Requests.{HasReply, plan_of};
 ghost use Rattle.ras_core.specs.Keeping.{is_repeat};
 ghost use Rattle.ras_core.specs.Machine.{Repeating, first, message_course, request_course};
 ghost use Rattle.ras_core.specs.Machine.{response_course, serving};
@@ -17,8 +17,9 @@ use crate::machine::Machine;
 use crate::prepared::Message;
 use kept_replies::{KeptEntry, KeptKey};
 use pools::Pool;
-use ras_codec::write_into;
+use ras_codec::write_reserved;
 use ras_module::{EndpointId, Octets, Reply, Request, Source};
+use ras_requests::decide;
 use std::alloc::AllocError;
 use zone_config::Moment;
 use zone_events::{Datagram, IgnoredCause};
@@ -79,7 +80,7 @@ impl<P: Pool> Machine<P> {
         ensures { CallsFor self.now.state now (response_course self.now.state (Some endpoint.now))
             result }
     {
-        if self.services.get(endpoint).is_none() {
+        if self.tables.get(endpoint).is_none() {
             return Course::Ignoring(IgnoredCause::UnknownEndpoint);
         }
         Course::Hearing(*endpoint)
@@ -94,7 +95,7 @@ impl<P: Pool> Machine<P> {
         }
         match entry.identifier() {
             None => true,
-            Some(id) => self.services.get(id).is_some(),
+            Some(id) => self.tables.get(id).is_some(),
         }
     }
 
@@ -114,7 +115,7 @@ impl<P: Pool> Machine<P> {
         ensures few { IfOk result (λ datagram. length datagram.bytes ≤ 20000) }
     {
         let mut bytes = Vec::with_capacity(self.alloc, reply.room())?;
-        write_into(reply, &mut bytes)?;
+        write_reserved(reply, &mut bytes);
         Ok(Datagram {
             to,
             bytes: Octets::from_vec(bytes),
@@ -134,7 +135,7 @@ impl<P: Pool> Machine<P> {
             → plan_of self.now.state.zone now request ≡ Some plan
             → CallsFor self.now.state now (serving job now request plan) course) }
     {
-        let conclusion = self.services.decide(now, &request)?;
+        let conclusion = decide(&self.tables, now, &request)?;
         Ok(Course::Serving(Task {
             job,
             request,

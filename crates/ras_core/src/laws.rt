@@ -4,8 +4,8 @@ ghost use Rattle.std.specs.Prelude.{◌≡◌, ◌≤◌, ◌+◌, ℕ, List, Is
 ghost use Rattle.std.specs.FinMap.{get};
 ghost use Rattle.ras_module.specs.declared.address.Address.{Address};
 ghost use Rattle.ras_module.specs.declared.request.Request.{Request};
-ghost use Rattle.ras_codec.specs.Messages.{message_reading};
-ghost use Rattle.ras_codec.specs.Replies.{encoding_of};
+ghost use Rattle.ras_reading.specs.Messages.{message_reading};
+ghost use Rattle.ras_writing.specs.Replies.{encoding_of};
 ghost use Rattle.kept_replies.specs.declared.entry.KeptEntry.{KeptEntry};
 ghost use Rattle.kept_replies.specs.Kept.{reply_in};
 ghost use Rattle.zone_events.specs.declared.outcome.Outcome.{Outcome};
@@ -13,7 +13,7 @@ ghost use Rattle.ras_core.specs.State.{Running, State};
 ghost use Rattle.ras_core.specs.Keeping.{is_repeat};
 ghost use Rattle.ras_core.specs.Turns.{IsNothingDueIn};
 ghost use Rattle.ras_core.specs.Steps.{EachState, IsWithinLimit, RunningRun, Step};
-ghost use Rattle.zone_services.specs.Requests.{HasReply};
+ghost use Rattle.ras_requests.specs.Requests.{HasReply};
 
 use zone_events::Event;
 use zone_events::Note;

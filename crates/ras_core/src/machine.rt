@@ -6,14 +6,14 @@ ghost use Rattle.registrations.specs.Registry.{IsListOf};
 ghost use Rattle.admission.specs.Calls.{in_use};
 ghost use Rattle.pools.specs.Account.{is_idle};
 ghost use Rattle.ras_core.specs.State.{opening};
-ghost use Rattle.zone_services.specs.Pools.{figures_of, figures_without_loans, lasts_of, lasts_after};
+ghost use Rattle.zone_tables.specs.Pools.{figures_of, figures_without_loans, lasts_of, lasts_after};
 ghost use Rattle.ras_core.specs.Machine.{Hearing, course, course_at, most_steps};
 ghost use Rattle.ras_core.specs.Prepared.{IsRead, event_at};
 ghost use Rattle.ras_core.specs.inside.Courses.{Does, IsChosen, IsReady, MayBeNamed, Stands};
 ghost use Rattle.ras_core.specs.inside.Courses.{course_of};
 ghost use Rattle.ras_core.specs.Steps.{HasFewOctets, Step, ask_in, choices_of};
 ghost use Rattle.ras_core.specs.Soundness.{AreBornBefore, Sound};
-ghost use Rattle.zone_services.specs.Soundness.{HasCounts};
+ghost use Rattle.zone_tables.specs.Soundness.{HasCounts};
 
 use crate::course::Course;
 use crate::fault::StepFault;
@@ -27,7 +27,8 @@ use std::alloc::{AllocError, Global};
 use std::marker::Model;
 use zone_config::{Config, Moment};
 use zone_events::{Note, Outcome};
-use zone_services::{Conclusion, Services};
+use ras_requests::Conclusion;
+use zone_tables::ZoneTables;
 
 /// The steps that a zone makes at most.
 const MOST_STEPS: u64 = 1 << 62;
@@ -37,7 +38,7 @@ const MOST_STEPS: u64 = 1 << 62;
 #[derive(Drop)]
 pub struct Machine<P: Pool> {
     pub(crate) alloc: Global,
-    pub(crate) services: Services<P>,
+    pub(crate) tables: ZoneTables<P>,
     pub(crate) kept: Kept,
     pub(crate) interrogation_number: RequestSeqNum,
     pub(crate) next_pool_turn: u64,
@@ -58,18 +59,18 @@ impl<P: Pool> Model for Machine<P> {
 
     ghost view = { λ m. record {
       state = record {
-        zone = m.services.zone;
+        zone = m.tables.zone;
         kept = m.kept.kept;
         clock = m.clock;
         interrogation_number = m.interrogation_number;
         next_pool_turn = m.next_pool_turn;
         steps = m.steps;
       };
-      lasts = m.services.lasts;
+      lasts = m.tables.lasts;
     } };
 
     ghost invariant = { λ m.
-        (m.kept.most ≡ m.services.zone.config.kept) × (m.steps ≤ most_steps) };
+        (m.kept.most ≡ m.tables.zone.config.kept) × (m.steps ≤ most_steps) };
 }
 
 impl<P: Pool> Machine<P> {
@@ -83,7 +84,7 @@ impl<P: Pool> Machine<P> {
         let next_pool_turn = config.parts().pool_turn;
         Machine {
             alloc,
-            services: Services::new(alloc, config, pools),
+            tables: ZoneTables::new(alloc, config, pools),
             kept,
             interrogation_number: RequestSeqNum::new(1).unwrap(),
             next_pool_turn,
@@ -120,28 +121,28 @@ impl<P: Pool> Machine<P> {
         let _small = self.clock.milliseconds();
         let _number = number_of(self.interrogation_number);
         let _kept = self.kept.len();
-        self.services.len()
+        self.tables.len()
     }
 
     /// Copies of the registrations, by rising identifier.
     pub fn list(&self) -> Result<RegistrationList, AllocError>
         ensures { IfOk result (IsListOf self.now.state.zone.live) }
     {
-        self.services.list()
+        self.tables.list()
     }
 
     /// Copies of the calls, by rising key.
     pub fn calls(&self) -> Result<CallList, AllocError>
         ensures { IfOk result (λ list. list ≡ fin.entries self.now.state.zone.calls) }
     {
-        self.services.calls()
+        self.tables.calls()
     }
 
     /// The units of all calls.
     pub fn in_use(&self) -> u64
         ensures { result ≡ in_use self.now.state.zone.calls }
     {
-        self.services.in_use()
+        self.tables.in_use()
     }
 
     /// The pools, in their order, with nothing lent.
@@ -150,8 +151,8 @@ impl<P: Pool> Machine<P> {
             ≡ figures_without_loans self.state.zone.pools }
         ensures lasts { lasts_of (map P.account result.items) ≡ self.lasts }
     {
-        let Machine { services, .. } = self;
-        services.close()
+        let Machine { tables, .. } = self;
+        tables.close()
     }
 
     /// Where what the machine keeps has its memory from.
@@ -183,7 +184,7 @@ impl<P: Pool> Machine<P> {
         if let Course::Serving(task) = course {
             if let Conclusion::Naming(_) = task.conclusion {
                 let told = self.kept.identifiers()?;
-                return Ok(Some(self.services.unused(&told)));
+                return Ok(Some(self.tables.unused(&told)));
             }
         }
         Ok(None)
@@ -220,7 +221,7 @@ impl<P: Pool> Machine<P> {
     fn hear_response(&mut self, now: Moment, endpoint: EndpointId) -> Outcome
         ensures { Does self.old now (Hearing endpoint) result self.new }
     {
-        self.services.hear(now, Some(endpoint));
+        self.tables.hear(now, Some(endpoint));
         Outcome::noted(Note::Served, None)
     }
 

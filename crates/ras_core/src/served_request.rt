@@ -2,13 +2,14 @@
 
 ghost use Rattle.std.specs.Prelude.{◌≡◌, ◌^◌, All, IfOk, IfSome, None, OnErr, Some};
 ghost use Rattle.ras_module.specs.declared.request.Request.{Request};
-ghost use Rattle.zone_services.specs.Plans.{Plan};
-ghost use Rattle.zone_services.specs.Requests.{endpoint_of, seq_of};
-ghost use Rattle.zone_services.specs.Soundness.{HasCounts};
-ghost use Rattle.zone_services.specs.inside.Changes.{IsPossible, IsRegistered};
-ghost use Rattle.zone_services.specs.inside.Decisions.{Asks, IsQuestion, leg_of_purpose};
-ghost use Rattle.zone_services.specs.inside.Decisions.{served};
-ghost use Rattle.zone_services.specs.inside.Parts.{usage_of};
+ghost use Rattle.ras_requests.specs.Plans.{Plan};
+ghost use Rattle.ras_requests.specs.Requests.{endpoint_of, seq_of};
+ghost use Rattle.zone_tables.specs.Soundness.{HasCounts};
+ghost use Rattle.zone_tables.specs.Changes.{IsPossible, IsRegistered};
+ghost use Rattle.ras_requests.specs.Conclusions.{RequestsUnits};
+ghost use Rattle.zone_tables.specs.UnitRequests.{IsUnitRequest, leg_of_purpose};
+ghost use Rattle.ras_requests.specs.Conclusions.{served};
+ghost use Rattle.zone_tables.specs.Parts.{usage_of};
 ghost use Rattle.ras_core.specs.Keeping.{plan_at};
 ghost use Rattle.ras_core.specs.Machine.{Serving};
 ghost use Rattle.ras_core.specs.Soundness.{AreBornBefore};
@@ -22,12 +23,13 @@ use crate::kept_entry::{keep, reserve, state_after};
 use crate::machine::Machine;
 use kept_replies::KeptState;
 use pools::Pool;
-use ras_codec::write_into;
+use ras_codec::write_reserved;
 use ras_module::{EndpointId, Octets, Request};
 use std::alloc::AllocError;
 use zone_config::Moment;
 use zone_events::{Datagram, Outcome};
-use zone_services::{Conclusion, Decision, Question, Services};
+use ras_requests::{Conclusion, Decision};
+use zone_tables::{UnitRequest, ZoneTables};
 
 /// The octets that are enough for a reply to a request for which a pool is asked.
 const SHORT_REPLY: usize = 64;
@@ -62,7 +64,7 @@ impl<P: Pool> Machine<P> {
                 let id = given.unwrap();
                 self.carry_out(now, job, endpoint, newcomer.under(id), Some(id))
             }
-            Conclusion::Asking(question) => self.ask(now, job, request, question),
+            Conclusion::Asking(question) => self.request_units(now, job, request, question),
         }
     }
 
@@ -92,11 +94,11 @@ impl<P: Pool> Machine<P> {
     {
         let Decision { reply, change } = decision;
         let output = self.datagram(job.key.source, &reply)?;
-        let term = self.services.config().term(now);
+        let term = self.tables.config().term(now);
         let occasion = job.occasion;
         reserve(&mut self.kept, now.milliseconds(), &job)?;
-        self.services.apply(now, change)?;
-        hear(&mut self.services, occasion, now, endpoint);
+        self.tables.apply(now, change)?;
+        hear(&mut self.tables, occasion, now, endpoint);
         let until = term.until;
         keep(&mut self.kept, job, self.steps, KeptState::Done { reply, until });
         Ok(Outcome {
@@ -108,16 +110,16 @@ impl<P: Pool> Machine<P> {
         })
     }
 
-    /// Asks a pool, and does what follows from its answer about a request. The memory is there before
+    /// RequestsUnits a pool, and does what follows from its answer about a request. The memory is there before
     /// the pool is asked.
-    fn ask(
+    fn request_units(
         &mut self,
         now: Moment,
         job: Job,
         request: Request,
-        question: Question,
+        question: UnitRequest,
     ) -> Result<Outcome, AllocError>
-        requires may { IsQuestion (usage_of self.old.state.zone) question }
+        requires may { IsUnitRequest (usage_of self.old.state.zone) question }
         requires leg { IfSome (leg_of_purpose question.purpose) (IsRegistered self.old.state.zone.live) }
         requires seq { seq_of request ≡ question.seq }
         requires counts { All (HasCounts (2 ^ 63)) self.old.state.zone.pools }
@@ -125,7 +127,7 @@ impl<P: Pool> Machine<P> {
         requires timely { IsTimely self.old.state now job.occasion }
         requires births { AreBornBefore self.old.state.steps self.old.state.kept }
         ensures does { IfOk result (λ outcome. (plan : Plan)
-            → Asks self.old.state.zone plan question
+            → RequestsUnits self.old.state.zone plan question
             → Does self.old now (Serving (record {
               job = job;
               request = request;
@@ -133,7 +135,7 @@ impl<P: Pool> Machine<P> {
             })) outcome self.new) }
         ensures err { OnErr result (self.new ≡ self.old) }
     {
-        let config = self.services.config();
+        let config = self.tables.config();
         let _small = config.call_limit();
         let delay = config.delay();
         let term = config.term(now);
@@ -141,12 +143,12 @@ impl<P: Pool> Machine<P> {
         let occasion = job.occasion;
         let mut bytes = Vec::with_capacity(self.alloc, SHORT_REPLY)?;
         reserve(&mut self.kept, now.milliseconds(), &job)?;
-        let answer = self.services.ask(&question)?;
+        let answer = self.tables.request_units(&question)?;
         let heard = Some(question.endpoint);
-        hear(&mut self.services, occasion, now, heard);
+        hear(&mut self.tables, occasion, now, heard);
         let waits = occasion.waits(answer);
         let reply = question.reply(answer, waits, delay);
-        write_into(&reply, &mut bytes).unwrap();
+        write_reserved(&reply, &mut bytes);
         let state = state_after(request, reply, waits, term);
         keep(&mut self.kept, job, self.steps, state);
         let bytes = Octets::from_vec(bytes);
@@ -176,14 +178,14 @@ fn endpoint_of(request: &Request) -> Option<EndpointId>
 
 /// Notes that the endpoint was heard that a request names as it comes, if it is registered.
 fn hear<P: Pool>(
-    services: &mut Services<P>,
+    tables: &mut ZoneTables<P>,
     occasion: Occasion,
     now: Moment,
     endpoint: Option<EndpointId>,
 )
-    ensures { services.new ≡ heard_at services.old occasion now endpoint }
+    ensures { tables.new ≡ heard_at tables.old occasion now endpoint }
 {
     if let Occasion::First { .. } = occasion {
-        services.hear(now, endpoint);
+        tables.hear(now, endpoint);
     }
 }

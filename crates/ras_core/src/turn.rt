@@ -26,8 +26,8 @@ impl<P: Pool> Machine<P> {
     {
         let times = self.times();
         let moment = now.milliseconds();
-        let registrations = self.services.registrations();
-        let calls = self.services.call_table();
+        let registrations = self.tables.registrations();
+        let calls = self.tables.calls_table();
         let next = self.next_pool_turn;
         due(registrations, calls, &self.kept, moment, next, &times)
     }
@@ -37,7 +37,7 @@ impl<P: Pool> Machine<P> {
         ensures same { result ≡ times_of self.now.state.zone.config }
         ensures asks { result.asks ≤ 16 }
     {
-        let parts = self.services.config().parts();
+        let parts = self.tables.config().parts();
         Times {
             silence: parts.silence,
             asks: parts.asks as u8,
@@ -115,7 +115,7 @@ impl<P: Pool> Machine<P> {
         requires { IsDueIn self.old.state now (DueItem.RegistrationOver id) }
         ensures { Does self.old now (Doing (DueItem.RegistrationOver id)) result self.new }
     {
-        self.services.lapse(&id);
+        self.tables.lapse(&id);
         Outcome::noted(Note::Done(DueItem::RegistrationOver(id)), None)
     }
 
@@ -124,7 +124,7 @@ impl<P: Pool> Machine<P> {
         requires { IsDueIn self.old.state now (DueItem.Silent id) }
         ensures { Does self.old now (Doing (DueItem.Silent id)) result self.new }
     {
-        self.services.silence(&id);
+        self.tables.silence(&id);
         Outcome::noted(Note::Done(DueItem::Silent(id)), None)
     }
 
@@ -142,12 +142,12 @@ impl<P: Pool> Machine<P> {
         requires { IsDueIn self.old.state now DueItem.PoolTurn }
         ensures { Does self.old now (Doing DueItem.PoolTurn) result self.new }
     {
-        self.services.turn_pools();
-        self.next_pool_turn = now.milliseconds() + self.services.config().pool_turn();
+        self.tables.turn_pools();
+        self.next_pool_turn = now.milliseconds() + self.tables.config().pool_turn();
         Outcome::noted(Note::Done(DueItem::PoolTurn), None)
     }
 
-    /// Asks an endpoint for a sign of life.
+    /// RequestsUnits an endpoint for a sign of life.
     fn interrogate(&mut self, now: Moment, id: EndpointId) -> Result<Outcome, AllocError>
         requires { IsDueIn self.old.state now (DueItem.Interrogate id) }
         ensures does { IfOk result (λ outcome.
@@ -156,9 +156,9 @@ impl<P: Pool> Machine<P> {
     {
         let _few = self.times();
         let seq = self.interrogation_number;
-        let to = self.services.get(&id).unwrap().ras;
+        let to = self.tables.get(&id).unwrap().ras;
         let output = self.datagram(to, &Reply::Irq { seq })?;
-        self.services.inquire(now, &id);
+        self.tables.interrogated(now, &id);
         self.interrogation_number = following(seq);
         let note = Note::Done(DueItem::Interrogate(id));
         Ok(Outcome::noted(note, Some(output)))

@@ -6,10 +6,10 @@ ghost use Rattle.registrations.specs.Registry.{IsListOf};
 ghost use Rattle.admission.specs.Calls.{in_use};
 ghost use Rattle.pools.specs.Account.{is_idle};
 ghost use Rattle.ras_core.specs.State.{opening};
-ghost use Rattle.zone_services.specs.Pools.{figures_of, figures_without_loans, lasts_of};
+ghost use Rattle.zone_tables.specs.Pools.{figures_of, figures_without_loans, lasts_of};
 ghost use Rattle.ras_core.specs.Machine.{course, most_steps};
 ghost use Rattle.ras_core.specs.Steps.{HasFewOctets, RunsOn, Step, ask_in, choices_of};
-ghost use Rattle.zone_services.specs.Pools.{lasts_after};
+ghost use Rattle.zone_tables.specs.Pools.{lasts_after};
 ghost use Rattle.ras_core.specs.Soundness.{Sound};
 
 use crate::fault::{NewFault, StepFault};

@@ -10,15 +10,15 @@ use Rattle.zone_events.specs.declared.due_item.DueItem.TheVariants.{Retry}
 use Rattle.zone_events.specs.declared.event.Event.{Event}
 use Rattle.zone_events.specs.declared.outcome.IgnoredCause.TheVariants.{Busy}
 use Rattle.zone_events.specs.declared.outcome.Outcome.{Outcome}
-use Rattle.zone_services.specs.declared.change.Conclusion.{Conclusion}
-use Rattle.zone_services.specs.declared.change.Conclusion.TheVariants as conclusion
-use Rattle.zone_services.specs.Plans.{Plan, Served, Settled, Naming, Asking}
-use Rattle.zone_services.specs.Pools.{lasts_after}
-use Rattle.zone_services.specs.Requests.{endpoint_of, plan_of, seq_of, HasReply}
-use Rattle.zone_services.specs.Soundness.{CountsOneMore}
-use Rattle.zone_services.specs.inside.Changes.{heard}
-use Rattle.zone_services.specs.inside.Decisions.{IsConclusion, IsFor}
-use Rattle.zone_services.specs.inside.Parts.{RunningZone}
+use Rattle.ras_requests.specs.declared.conclusion.Conclusion.{Conclusion}
+use Rattle.ras_requests.specs.declared.conclusion.Conclusion.TheVariants as conclusion
+use Rattle.ras_requests.specs.Plans.{Plan, Served, Settled, Naming, Asking}
+use Rattle.zone_tables.specs.Pools.{lasts_after}
+use Rattle.ras_requests.specs.Requests.{endpoint_of, plan_of, seq_of, HasReply}
+use Rattle.zone_tables.specs.Soundness.{CountsOneMore}
+use Rattle.zone_tables.specs.Changes.{heard}
+use Rattle.ras_requests.specs.Conclusions.{IsConclusion, IsFor}
+use Rattle.zone_tables.specs.Parts.{RunningTables}
 use Rattle.ras_core.specs.declared.course.Course as code
 use Rattle.ras_core.specs.declared.course.Course.TheVariants as course
 use Rattle.ras_core.specs.declared.course.Task as code_task
@@ -35,7 +35,7 @@ use Rattle.ras_core.specs.Steps.{choices_of}
 use Rattle.ras_core.specs.inside.Room.{IsPlaced}
 
 -- an endpoint is heard as its request is served for the first time
-abbrev pub heard_at : RunningZone → Occasion → ℕ → Option (List ℕ) → RunningZone
+abbrev pub heard_at : RunningTables → Occasion → ℕ → Option (List ℕ) → RunningTables
 heard_at z (First dropped) now endpoint = heard z now endpoint
 heard_at z (Again born left) now endpoint = z
 

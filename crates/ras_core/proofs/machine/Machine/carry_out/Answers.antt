@@ -1,23 +1,23 @@
 use Rattle.std.proofs.Common.{◌≡◌, ◌≤◌, ◌+◌, ◌∙◌, ℕ, Some, None, length, ap, subst, sym}
 use Rattle.std.specs.Prelude.{IfSome}
-use Rattle.ras_codec.specs.Replies.{encoding_of}
+use Rattle.ras_writing.specs.Replies.{encoding_of}
 use Rattle.kept_replies.specs.declared.entry.KeptState.TheVariants.{Done}
 use Rattle.zone_events.specs.declared.outcome.Datagram.{Datagram}
 use Rattle.kept_replies.specs.Kept.{Passes, is_over}
 use Rattle.zone_events.specs.declared.outcome.Outcome.{Outcome}
 use Rattle.ras_core.specs.State.{Running}
-use Rattle.zone_services.specs.inside.Parts.{RunningZone}
+use Rattle.zone_tables.specs.Parts.{RunningTables}
 use Rattle.ras_core.specs.inside.Parts.{running_of}
 use Rattle.zone_config.specs.declared.config.ConfigParts.{ConfigParts}
 use Rattle.zone_config.specs.Terms.{term_of}
 use Rattle.ras_core.specs.Keeping.{dropped_for, kept_with, plan_at}
 use Rattle.ras_core.specs.Machine.{Serving, note_at}
-use Rattle.zone_services.specs.inside.Decisions.{served}
-use Rattle.zone_services.specs.inside.Changes.{changed}
+use Rattle.ras_requests.specs.Conclusions.{served}
+use Rattle.zone_tables.specs.Changes.{changed}
 use Rattle.ras_core.specs.inside.Courses.{Does, heard_at, resolved}
 use Rattle.ras_core.specs.Soundness.{AreBornBefore}
 use Rattle.ras_core.specs.Steps.{IsTimely, IsUnusedIn}
-use Rattle.zone_services.proofs.Answered.{on_ok}
+use Rattle.zone_tables.proofs.Answered.{on_ok}
 use Rattle.ras_core.proofs.Carrying.{does_carried, zone_after}
 use Rattle.ras_core.proofs.Dropping.{over_of}
 use Rattle.ras_core.proofs.machine.Machine.carry_out.Goals as goal
@@ -39,26 +39,26 @@ returns-clause-does g c plan request is =
     let d = c.args.decision in
     let given = c.args.given in
     let old =
-    running_of i.services i.kept.kept i.clock i.interrogation_number i.next_pool_turn i.steps in
-    let services = c.hear.new.services in
+    running_of i.tables i.kept.kept i.clock i.interrogation_number i.next_pool_turn i.steps in
+    let tables = c.hear.new.tables in
     let kept = c.keep.new.kept.kept in
-    let applied : c.apply.new.self ≡ changed i.services now d.change =
+    let applied : c.apply.new.self ≡ changed i.tables now d.change =
     on_ok c.apply.result c.in_ok-apply.field-0 c.in_ok-apply.was c.apply.ensures.ok in
-    let services_is : services
-    ≡ zone_after i.services.zone i.services.lasts now job.occasion endpoint d.change =
-    c.hear.ensures ∙ ap (λ (z : RunningZone). heard_at z job.occasion now endpoint) applied in
-    let until_is : c.term-term.result.until ≡ now + i.services.zone.config.window =
+    let services_is : tables
+    ≡ zone_after i.tables.zone i.tables.lasts now job.occasion endpoint d.change =
+    c.hear.ensures ∙ ap (λ (z : RunningTables). heard_at z job.occasion now endpoint) applied in
+    let until_is : c.term-term.result.until ≡ now + i.tables.zone.config.window =
     ap (λ t. t.until) (c.term-term.ensures.same
     ∙ ap (λ (config : ConfigParts). term_of config now) c.config.ensures.same) in
     let kept_is : kept ≡ kept_with i.kept.kept job.key job.occasion i.steps
-    (Done d.reply (now + i.services.zone.config.window)) =
+    (Done d.reply (now + i.tables.zone.config.window)) =
     c.keep.ensures.kept
     ∙ (λ j. kept_with (c.reserve.ensures.kept j) job.key job.occasion i.steps
     (Done d.reply (until_is j))) in
     let few = subst (λ (o : Datagram). length o.bytes ≤ 20000) c.in_ok-output.ensures.encoded
     c.in_ok-output.ensures.few in
     let back = sym c.self.view_is in
-    let does = does_carried old now job endpoint d given services kept
+    let does = does_carried old now job endpoint d given tables kept
     (subst (λ (m : Running). IfSome given (IsUnusedIn m.state)) back c.requires.unused)
     (subst (λ (m : Running). IsTimely m.state now job.occasion) back c.requires.timely)
     (subst (λ (m : Running). AreBornBefore m.state.steps m.state.kept) back c.requires.births)
@@ -70,8 +70,8 @@ returns-clause-does g c plan request is =
       plan = plan_at job.occasion now endpoint plan;
     }) in
     let new : Running = record {
-      state = record old.state { zone = services.zone; kept = kept };
-      lasts = services.lasts;
+      state = record old.state { zone = tables.zone; kept = kept };
+      lasts = tables.lasts;
     } in
     let due : Outcome = record {
       answer = None;

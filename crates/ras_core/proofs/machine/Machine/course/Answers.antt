@@ -1,5 +1,5 @@
 use Rattle.std.proofs.Common.{subst, sym, None}
-use Rattle.zone_services.proofs.Answered.{if_ok_with}
+use Rattle.zone_tables.proofs.Answered.{if_ok_with}
 use Rattle.ras_core.specs.Prepared.{IsRead, event_at, message_in}
 use Rattle.ras_core.specs.Machine.{message_course}
 use Rattle.ras_core.specs.inside.Courses.{CallsFor, IsChosen}

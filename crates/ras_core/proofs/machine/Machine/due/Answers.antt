@@ -13,7 +13,7 @@ returns g c =
     let is = c.self.view_is in
     let live = c.registrations-registrations.ensures
     ∙ ap (λ (m : Running). m.state.zone.live) is in
-    let calls = c.call_table-calls.ensures ∙ ap (λ (m : Running). m.state.zone.calls) is in
+    let calls = c.calls_table-calls.ensures ∙ ap (λ (m : Running). m.state.zone.calls) is in
     subst (λ (q : ℕ × ℕ × Times × Live × OpenCalls × KeptReplies).
     MatchOption c.due.result (IsNothingDue q.0 q.1 q.2 q.3 q.4 q.5) (IsDue q.0 q.1 q.2 q.3 q.4 q.5))
     (λ j. (

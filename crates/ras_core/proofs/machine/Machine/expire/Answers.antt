@@ -3,7 +3,7 @@ use Rattle.zone_events.specs.declared.due_item.DueItem.TheVariants.{KeptOver}
 use Rattle.ras_core.specs.State.{Running}
 use Rattle.ras_core.specs.Soundness.{AreBornBefore}
 use Rattle.ras_core.specs.inside.Parts.{running_of}
-use Rattle.zone_services.proofs.ButLent.{same_after_end}
+use Rattle.zone_tables.proofs.ButLent.{same_after_end}
 use Rattle.ras_core.proofs.Dropping.{born_dropped}
 use Rattle.ras_core.proofs.Noting.{does_item}
 use Rattle.ras_core.proofs.machine.Machine.expire.Goals as goal
@@ -12,7 +12,7 @@ pub returns : goal.returns
 returns g c =
     let i = c.self.inside in
     let old =
-    running_of i.services i.kept.kept i.clock i.interrogation_number i.next_pool_turn i.steps in
+    running_of i.tables i.kept.kept i.clock i.interrogation_number i.next_pool_turn i.steps in
     let rows_are = sym c.drop_born.ensures.rows in
     let new : Running = record {
       state = record old.state { kept = c.drop_born.new.self.kept };

@@ -11,7 +11,7 @@ pub returns : goal.returns
 returns g c =
     let i = c.self.inside in
     let old =
-    running_of i.services i.kept.kept i.clock i.interrogation_number i.next_pool_turn i.steps in
+    running_of i.tables i.kept.kept i.clock i.interrogation_number i.next_pool_turn i.steps in
     let id = c.args.endpoint in
     let new : Running = record {
       state = record old.state { zone = c.hear.new.self.zone };

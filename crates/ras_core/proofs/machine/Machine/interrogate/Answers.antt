@@ -4,19 +4,19 @@ use Rattle.std.specs.FinMap as fin
 use Rattle.expiry.specs.declared.times.Times.{Times}
 use Rattle.zone_events.specs.declared.due_item.DueItem.TheVariants.{Interrogate}
 use Rattle.ras_core.specs.State.{Running}
-use Rattle.zone_services.specs.Zone.{Zone}
+use Rattle.zone_tables.specs.Tables.{Tables}
 use Rattle.ras_core.specs.Turns.{times_of}
 use Rattle.ras_core.specs.Turns.{IsDueIn, inquiry}
-use Rattle.zone_services.specs.inside.Leaving.{AreSameButLent}
+use Rattle.zone_tables.specs.Leaving.{AreSameButLent}
 use Rattle.ras_core.specs.inside.Parts.{running_of}
-use Rattle.zone_services.proofs.ButLent.{same_after_end}
+use Rattle.zone_tables.proofs.ButLent.{same_after_end}
 use Rattle.ras_core.proofs.Dropping.{born_same}
 use Rattle.ras_core.proofs.Noting.{does_item, tries_few_in}
 use Rattle.ras_core.proofs.machine.Machine.interrogate.Goals as goal
 
-pub inquire-requires : goal.inquire-requires
-inquire-requires g c =
-    let z = c.self.inside.services.zone in
+pub interrogated-requires : goal.interrogated-requires
+interrogated-requires g c =
+    let z = c.self.inside.tables.zone in
     let due = subst (λ (m : Running). IsDueIn m.state c.args.now (Interrogate c.args.id))
     (sym c.self.view_is) c.requires in
     tries_few_in (times_of z.config) c.args.now (fin.get z.live c.args.id) due.1
@@ -27,24 +27,24 @@ pub returns-clause-does : goal.returns-clause-does
 returns-clause-does g c =
     let i = c.self.inside in
     let old =
-    running_of i.services i.kept.kept i.clock i.interrogation_number i.next_pool_turn i.steps in
+    running_of i.tables i.kept.kept i.clock i.interrogation_number i.next_pool_turn i.steps in
     let number = c.following-self-inside in
     let new : Running = record {
       state = record old.state {
-        zone = c.inquire.new.self.zone;
+        zone = c.interrogated.new.self.zone;
         interrogation_number = number.result;
       };
-      lasts = c.inquire.new.self.lasts;
+      lasts = c.interrogated.new.self.lasts;
     } in
-    let there : fin.get i.services.zone.live c.args.id ≡ Some c.unwrap.result.now =
-    sym c.get.ensures ∙ ap option_copied c.unwrap.ensures in
-    let zone_is = sym c.inquire.ensures.zone in
+    let there : fin.get i.tables.zone.live c.args.id ≡ Some c.unwrap.result.now =
+    sym c.get.ensures.found ∙ ap option_copied c.unwrap.ensures in
+    let zone_is = sym c.interrogated.ensures.zone in
     does_item old _ c.self.view_is c.args.now (Interrogate c.args.id) c.requires
     (Some c.in_ok-output.output) c.noted.result c.noted.ensures new
     (ap (option_map (inquiry i.interrogation_number)) there
     ∙ ap Some (sym c.in_ok-output.ensures.encoded))
     (λ j. record old.state { zone = zone_is j; interrogation_number = sym number.ensures j })
-    c.inquire.ensures.lasts
-    (subst (λ (z : Zone). AreSameButLent i.services.zone.pools z.pools) zone_is
-    (same_after_end i.services.zone.pools None))
+    c.interrogated.ensures.lasts
+    (subst (λ (z : Tables). AreSameButLent i.tables.zone.pools z.pools) zone_is
+    (same_after_end i.tables.zone.pools None))
     (λ before. born_same i.kept.kept i.steps before) c.in_ok-output.ensures.few

@@ -2,7 +2,7 @@ use Rattle.std.proofs.Common.{◌<◌, ◌≤◌, ◌^◌, ◌+◌, All, ℕ, su
 use Rattle.std.specs.FinMap as map
 use Rattle.ras_core.specs.State.{Running}
 use Rattle.ras_core.specs.Soundness.{AreBornBefore, Sound}
-use Rattle.zone_services.specs.Soundness.{HasCounts}
+use Rattle.zone_tables.specs.Soundness.{HasCounts}
 use Rattle.ras_core.proofs.machine.Machine.len.Goals as goal
 
 pub returns-clause-sound : goal.returns-clause-sound

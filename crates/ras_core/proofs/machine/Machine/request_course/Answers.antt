@@ -2,7 +2,7 @@ use Rattle.std.proofs.Common.{◌≡◌, ◌≢◌, ◌∙◌, ap, subst, sym, N
 use Rattle.std.specs.Option.{option_copied}
 use Rattle.std.specs.FinMap as fin
 use Rattle.kept_replies.specs.Kept.{AreBornApart}
-use Rattle.zone_services.proofs.Answered.{if_ok_with}
+use Rattle.zone_tables.proofs.Answered.{if_ok_with}
 use Rattle.ras_core.specs.State.{Running}
 use Rattle.ras_core.specs.Machine.{serving}
 use Rattle.ras_core.specs.inside.Courses.{CallsFor, IsPlacedIn}

@@ -1,5 +1,5 @@
 use Rattle.std.proofs.Common.{subst}
-use Rattle.zone_services.proofs.Answered.{if_ok_with}
+use Rattle.zone_tables.proofs.Answered.{if_ok_with}
 use Rattle.ras_core.specs.inside.Courses.{IsChosen}
 use Rattle.ras_core.proofs.Choosing.{ready_of, responds}
 use Rattle.zone_events.specs.Events.{moment_in}

@@ -1,5 +1,5 @@
 use Rattle.std.proofs.Common.{subst, sym}
-use Rattle.zone_services.proofs.Answered.{if_ok_with}
+use Rattle.zone_tables.proofs.Answered.{if_ok_with}
 use Rattle.ras_core.specs.inside.Courses.{CallsFor, IsWaitingRequest}
 use Rattle.ras_core.proofs.Retrying.{plan_there}
 use Rattle.ras_core.proofs.machine.Machine.retry_course.Goals as goal

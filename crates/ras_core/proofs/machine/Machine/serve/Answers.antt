@@ -1,16 +1,16 @@
 use Rattle.std.proofs.Common.{◌≡◌, ◌∙◌, List, ℕ, Some, None, ap, subst, sym}
 use Rattle.std.specs.Prelude.{Option}
 use Rattle.std.specs.Option.{IsSomeAnd}
-use Rattle.zone_services.specs.declared.change.Conclusion.TheVariants as conclusion
-use Rattle.zone_services.specs.declared.change.Decision.{Decision}
-use Rattle.zone_services.specs.inside.Changes.{IsPossible}
-use Rattle.zone_services.specs.inside.Decisions.{IsConclusion, served}
-use Rattle.zone_services.proofs.Answered.{if_ok_with}
+use Rattle.ras_requests.specs.declared.conclusion.Conclusion.TheVariants as conclusion
+use Rattle.ras_requests.specs.declared.conclusion.Decision.{Decision}
+use Rattle.zone_tables.specs.Changes.{IsPossible}
+use Rattle.ras_requests.specs.Conclusions.{IsConclusion, served}
+use Rattle.zone_tables.proofs.Answered.{if_ok_with}
 use Rattle.ras_core.specs.Keeping.{plan_at}
 use Rattle.ras_core.specs.Machine.{Serving}
 use Rattle.ras_core.specs.Steps.{IsUnusedIn}
 use Rattle.ras_core.specs.inside.Courses.{Does, MayBeGiven, resolved}
-use Rattle.ras_core.proofs.Planning.{asks_of, names_of, possible_of}
+use Rattle.ras_core.proofs.Planning.{requests_units_of, names_of, possible_of}
 use Rattle.ras_core.proofs.machine.Machine.serve.Goals as goal
 
 pub carry_out-requires-clause-possible : goal.carry_out-requires-clause-possible
@@ -33,17 +33,17 @@ carry_out-requires-in-Naming-clause-possible g c =
     subst (λ (d : Decision). IsPossible z d.change) (sym c.under.ensures)
     (names.possible c.unwrap-id.result unused.unused.not_live)
 
-pub ask-requires-clause-may : goal.ask-requires-clause-may
-ask-requires-clause-may g c =
+pub request_units-requires-clause-may : goal.request_units-requires-clause-may
+request_units-requires-clause-may g c =
     let z = c.args.self.now.state.zone in
-    (asks_of z c.args.now c.args.task.request c.requires.task.served c.in-Asking.question
+    (requests_units_of z c.args.now c.args.task.request c.requires.task.served c.in-Asking.question
     (subst (IsConclusion z c.args.now c.args.task.request) c.in-Asking.is
     c.requires.task.concludes)).may
 
-pub ask-requires-clause-leg : goal.ask-requires-clause-leg
-ask-requires-clause-leg g c =
+pub request_units-requires-clause-leg : goal.request_units-requires-clause-leg
+request_units-requires-clause-leg g c =
     let z = c.args.self.now.state.zone in
-    (asks_of z c.args.now c.args.task.request c.requires.task.served c.in-Asking.question
+    (requests_units_of z c.args.now c.args.task.request c.requires.task.served c.in-Asking.question
     (subst (IsConclusion z c.args.now c.args.task.request) c.in-Asking.is
     c.requires.task.concludes)).registered
 

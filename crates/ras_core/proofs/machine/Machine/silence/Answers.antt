@@ -2,18 +2,18 @@ use Rattle.std.proofs.Common.{◌∙◌, refl, ap, sym, None}
 use Rattle.zone_events.specs.declared.due_item.DueItem.TheVariants.{Silent}
 use Rattle.zone_config.specs.declared.config.ConfigParts.{ConfigParts}
 use Rattle.ras_core.specs.State.{Running}
-use Rattle.zone_services.specs.Zone.{Zone}
+use Rattle.zone_tables.specs.Tables.{Tables}
 use Rattle.ras_core.specs.inside.Parts.{running_of}
 use Rattle.ras_core.proofs.Dropping.{born_same}
 use Rattle.ras_core.proofs.Noting.{does_item}
-use Rattle.zone_services.proofs.Departing.{settings_stay}
+use Rattle.zone_tables.proofs.Departing.{settings_stay}
 use Rattle.ras_core.proofs.machine.Machine.silence.Goals as goal
 
 pub invariant_of-self : goal.invariant_of-self
 invariant_of-self g c = (
-  c.self.invariant.0 ∙ sym (ap (λ (z : Zone). z.config.kept) c.silence.ensures.zone
+  c.self.invariant.0 ∙ sym (ap (λ (z : Tables). z.config.kept) c.silence.ensures.zone
       ∙ ap (λ (config : ConfigParts). config.kept)
-      (settings_stay c.self.inside.services.zone c.args.id)),
+      (settings_stay c.self.inside.tables.zone c.args.id)),
   c.self.invariant.1,
 )
 
@@ -21,12 +21,12 @@ pub returns : goal.returns
 returns g c =
     let i = c.self.inside in
     let old =
-    running_of i.services i.kept.kept i.clock i.interrogation_number i.next_pool_turn i.steps in
+    running_of i.tables i.kept.kept i.clock i.interrogation_number i.next_pool_turn i.steps in
     let left = c.silence.new.self in
     let new : Running =
     record { state = record old.state { zone = left.zone }; lasts = left.lasts } in
     does_item old _ c.self.view_is c.args.now (Silent c.args.id) c.requires
     None c.noted.result c.noted.ensures new
-    refl (ap (λ (z : Zone). record old.state { zone = z }) (sym c.silence.ensures.zone))
+    refl (ap (λ (z : Tables). record old.state { zone = z }) (sym c.silence.ensures.zone))
     c.silence.ensures.lasts c.silence.ensures.pools
     (λ before. born_same i.kept.kept i.steps before) tt

@@ -13,7 +13,7 @@ use Rattle.ras_core.proofs.machine.Machine.waiting.Goals as goal
 pub returns : goal.returns
 returns g c =
     let i = c.self.inside in
-    let s = (running_of i.services i.kept.kept i.clock i.interrogation_number i.next_pool_turn
+    let s = (running_of i.tables i.kept.kept i.clock i.interrogation_number i.next_pool_turn
     i.steps).state in
     let key = c.in-Some.key.now in
     let entry = c.in-Some.entry.now in

@@ -1,9 +1,9 @@
 use Rattle.std.proofs.Common.{◌^◌, ◌+◌, All, sym, subst}
 use Rattle.ras_core.specs.State.{State}
 use Rattle.ras_core.specs.Soundness.{AreBornBefore}
-use Rattle.zone_services.specs.Soundness.{HasCounts}
+use Rattle.zone_tables.specs.Soundness.{HasCounts}
 use Rattle.ras_core.proofs.Dropping.{born_nothing}
-use Rattle.zone_services.proofs.PoolFigures.{All-idle}
+use Rattle.zone_tables.proofs.PoolFigures.{All-idle}
 use Rattle.ras_core.proofs.zone.Zone.new.Goals as goal
 
 pub invariant_of-result : goal.invariant_of-result

@@ -1,23 +1,24 @@
 use Rattle.std.proofs.Common.{rules, ℕ, ◌≡◌, ◌∙◌, Some, None, ap, subst, sym}
 use Rattle.std.specs.Prelude.{IfSome}
-use Rattle.ras_codec.specs.Replies.{encoding_of}
+use Rattle.ras_writing.specs.Replies.{encoding_of}
 use Rattle.kept_replies.specs.Kept.{Passes, is_over}
 use Rattle.zone_events.specs.declared.outcome.Outcome.{Outcome}
 use Rattle.zone_config.specs.declared.config.ConfigParts.{ConfigParts}
 use Rattle.ras_core.specs.State.{Running}
-use Rattle.zone_services.specs.inside.Parts.{RunningZone}
+use Rattle.zone_tables.specs.Parts.{RunningTables}
 use Rattle.ras_core.specs.inside.Parts.{running_of}
-use Rattle.zone_services.specs.Pools.{pools_after_answer, lasts_after}
+use Rattle.zone_tables.specs.Pools.{pools_after_answer, lasts_after}
 use Rattle.ras_core.specs.Keeping.{dropped_for, kept_with, plan_at, state_after}
 use Rattle.zone_config.specs.Terms.{term_of}
 use Rattle.ras_core.specs.Machine.{Serving, note_at}
-use Rattle.zone_services.specs.inside.Decisions.{Asks, ask_of, calls_after_answer, reply_of}
+use Rattle.ras_requests.specs.Conclusions.{RequestsUnits}
+use Rattle.zone_tables.specs.UnitRequests.{units_requested, calls_after_answer, reply_of}
 use Rattle.ras_core.specs.inside.Courses.{heard_at, Does}
 use Rattle.ras_core.specs.Soundness.{AreBornBefore}
 use Rattle.ras_core.specs.Steps.{IsTimely}
 use Rattle.ras_core.proofs.Asking.{does_answered}
 use Rattle.ras_core.proofs.Dropping.{over_of}
-use Rattle.ras_core.proofs.machine.Machine.ask.Goals as goal
+use Rattle.ras_core.proofs.machine.Machine.request_units.Goals as goal
 
 pub reserve-requires-clause-over : goal.reserve-requires-clause-over
 reserve-requires-clause-over g c =
@@ -39,47 +40,47 @@ returns-clause-does g c plan asks =
     let w = c.waits-waits.result in
     let reply = c.reply-reply.result in
     let old =
-    running_of i.services i.kept.kept i.clock i.interrogation_number i.next_pool_turn i.steps in
-    let services = c.hear.new.services in
+    running_of i.tables i.kept.kept i.clock i.interrogation_number i.next_pool_turn i.steps in
+    let tables = c.hear.new.tables in
     let kept = c.keep.new.kept.kept in
-    let asked : RunningZone = record {
-      zone = record i.services.zone {
-        calls = calls_after_answer q answer i.services.zone.calls;
-        pools = pools_after_answer i.services.zone.pools q.pool answer;
+    let asked : RunningTables = record {
+      zone = record i.tables.zone {
+        calls = calls_after_answer q answer i.tables.zone.calls;
+        pools = pools_after_answer i.tables.zone.pools q.pool answer;
       };
-      lasts = lasts_after i.services.lasts (Some (ask_of q)) (Some answer);
+      lasts = lasts_after i.tables.lasts (Some (units_requested q)) (Some answer);
     } in
-    let asked_is : c.ask.new.self ≡ asked =
+    let asked_is : c.request_units.new.self ≡ asked =
     λ j. record { zone = c.in_ok-answer.ensures.zone j; lasts = c.in_ok-answer.ensures.lasts j } in
-    let services_is : services ≡ heard_at asked job.occasion now (Some id) =
-    c.hear.ensures ∙ ap (λ (z : RunningZone). heard_at z job.occasion now (Some id)) asked_is in
+    let services_is : tables ≡ heard_at asked job.occasion now (Some id) =
+    c.hear.ensures ∙ ap (λ (z : RunningTables). heard_at z job.occasion now (Some id)) asked_is in
     let config_is = c.config-config.ensures.same in
     let term_is = c.term-term.ensures.same
     ∙ ap (λ (config : ConfigParts). term_of config now) config_is in
     let kept_is : kept ≡ kept_with i.kept.kept job.key job.occasion i.steps
-    (state_after request reply w (term_of i.services.zone.config now)) =
+    (state_after request reply w (term_of i.tables.zone.config now)) =
     c.keep.ensures.kept
     ∙ (λ j. kept_with (c.reserve.ensures.kept j) job.key job.occasion i.steps
     ((c.state_after-state.ensures ∙ ap (state_after request reply w) term_is) j)) in
-    let reply_is : reply ≡ reply_of q answer w i.services.zone.config.delay =
+    let reply_is : reply ≡ reply_of q answer w i.tables.zone.config.delay =
     c.reply-reply.ensures ∙ ap (λ n. reply_of q answer w n)
     (c.delay-delay.ensures ∙ ap (λ (config : ConfigParts). config.delay) config_is) in
     let back = sym c.self.view_is in
-    let does = does_answered old now job id request q answer w reply services
+    let does = does_answered old now job id request q answer w reply tables
     kept c.waits-waits.ensures
     c.requires.seq c.in_ok-answer.ensures.answer
     (subst (λ (m : Running). IsTimely m.state now job.occasion) back c.requires.timely)
     (subst (λ (m : Running). AreBornBefore m.state.steps m.state.kept) back c.requires.births)
-    reply_is c.write_into.ensures.most services_is kept_is plan
-    (subst (λ (m : Running). Asks m.state.zone plan q) back asks) in
+    reply_is c.write_reserved.ensures.most services_is kept_is plan
+    (subst (λ (m : Running). RequestsUnits m.state.zone plan q) back asks) in
     let course = Serving (record {
       job = job;
       request = request;
       plan = plan_at job.occasion now (Some id) plan;
     }) in
     let new : Running = record {
-      state = record old.state { zone = services.zone; kept = kept };
-      lasts = services.lasts;
+      state = record old.state { zone = tables.zone; kept = kept };
+      lasts = tables.lasts;
     } in
     let bytes_is : c.from_vec-bytes.result ≡ encoding_of reply = search rules in
     let due : Outcome = record {
