@@ -46,14 +46,14 @@ denial z q reason = unchanged z (Arj q.seq reason)
 abbrev pub leg_told : AdmissionRequest → Address → Leg
 leg_told q told = record { endpoint = q.endpoint; told = told }
 
--- a call opens with so many units of a pool
+-- a call opens with these units of a pool
 abbrev pub opening_call : Tables → AdmissionRequest → ℕ → Address → ℕ → Served
 opening_call z q pool told units = record {
   reply = Acf q.seq units told;
   zone = with_calls z (insert z.calls q.call (new_call pool units (leg_told q told)));
 }
 
--- a new call: it has to have a place; it opens without units where it wants none; else the zone has
+-- a new call: it has to have a place; it opens without units if it wants none; else the zone has
 -- to have room, and the pool that serves the endpoint is asked
 abbrev pub making : Tables → AdmissionRequest → ℕ → Address → Plan
 making z q pool told =

@@ -24,7 +24,7 @@ room z = z.config.limit - in_use z.calls
 abbrev pub wanted : Tables → ℕ → ℕ
 wanted z asked = min asked z.config.call_limit
 
--- a call that needs no more than so many units gives the others back
+-- a call that needs no more than these units gives the others back
 abbrev pub lowering : Tables → BandwidthRequest → Call → ℕ → Served
 lowering z q call units = record {
   reply = Bcf q.seq units;
@@ -34,7 +34,7 @@ lowering z q call units = record {
   };
 }
 
--- a call that was lent so many units more
+-- a call that was lent these units more
 abbrev pub raising : Tables → BandwidthRequest → Call → ℕ → Served
 raising z q call more = record {
   reply = Bcf q.seq (call.units + more);

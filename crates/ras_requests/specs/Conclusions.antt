@@ -57,7 +57,7 @@ pub record Names (z : Tables) (now : ℕ) (plan : Plan) (n : Newcomer) : Type 0 
   pub possible : (id : List ℕ) → get z.live id ≡ None → IsPossible z (decision_under n id).change
   pub is : plan ≡ Naming (named_by z now n)
 
--- how it is served where so many units were lent, and where none were
+-- how it is served if these units were lent, and if none were
 abbrev pub granted_by : Tables → UnitRequest → ℕ → Served
 granted_by z q units = record {
   reply = granted_reply q q.purpose units;
@@ -67,7 +67,7 @@ granted_by z q units = record {
 abbrev pub refused_by : Tables → UnitRequest → Served
 refused_by z q = unchanged z (refused_reply q q.purpose)
 
--- It asks so, and may.
+-- It requests these units of this pool, and may.
 pub record RequestsUnits (z : Tables) (plan : Plan) (q : UnitRequest) : Type 0 where
   pub may : IsUnitRequest (usage_of z) q
   pub registered : IfSome (leg_of_purpose q.purpose) (IsRegistered z.live)

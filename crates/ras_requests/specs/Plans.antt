@@ -4,7 +4,7 @@ use Rattle.ras_module.specs.declared.reply.Reply.{Reply}
 use Rattle.zone_tables.specs.Pools.{RequestedUnits}
 use Rattle.zone_tables.specs.Tables.{Tables, with_live, heard_now}
 
--- what a request is answered, and what the zone is afterwards
+-- the reply to a request, and what the zone is afterwards
 pub record Served : Type 0 where
   pub reply : Reply
   pub zone : Tables

@@ -21,7 +21,7 @@ seq_of (Brq seq endpoint call asked) = seq
 seq_of (Drq seq endpoint call) = seq
 seq_of (Irr seq endpoint) = seq
 
--- its endpointIdentifier, where it has one
+-- its endpointIdentifier, if it has one
 abbrev pub endpoint_of : Request → Option (List ℕ)
 endpoint_of (Grq seq gatekeeper) = None
 endpoint_of (Rrq seq call_signal ras aliases gatekeeper time_to_live keep_alive endpoint) = endpoint
@@ -31,7 +31,7 @@ endpoint_of (Brq seq endpoint call asked) = Some endpoint
 endpoint_of (Drq seq endpoint call) = Some endpoint
 endpoint_of (Irr seq endpoint) = Some endpoint
 
--- what it comes to; an InfoRequestResponse is no request that is answered
+-- what it comes to; an InfoRequestResponse is no request that has a reply
 abbrev pub plan_of : Tables → ℕ → Request → Option Plan
 plan_of z now (Grq seq gatekeeper) = Some (Settled (unchanged z (discovery z seq gatekeeper)))
 plan_of z now

@@ -49,7 +49,7 @@ abbrev pub confirmation : Tables → RegistrationRequest → Address → List Al
 confirmation z q call_signal aliases id =
     Rcf q.seq call_signal aliases z.config.identifier id (granted z q.time_to_live)
 
--- the endpoint that names itself so, where it is registered
+-- the endpoint that names itself so, if it is registered
 abbrev pub named : Tables → Option (List ℕ) → Option Registration
 named z None = None
 named z (Some id) = get z.live id
@@ -105,7 +105,7 @@ entering z now q e None =
     then rejection z q ResourceUnavailable
     else Naming (addition z now q e)
 
--- where some of the aliases are held by endpoints with another call signal address, those are told
+-- if some of the aliases are held by endpoints with another call signal address, those are told
 abbrev pub unless_held : Tables → ℕ → RegistrationRequest → Entry → List Alias → Plan
 unless_held z now q e [] = entering z now q e (at_address z.live e.call_signal)
 unless_held z now q e (alias ∷ held) = rejection z q (DuplicateAlias (alias ∷ held))

@@ -12,13 +12,13 @@ use Rattle.admission.specs.Calls.{legs_of}
 use Rattle.zone_tables.specs.Tables.{Tables, with_live}
 use Rattle.ras_requests.specs.Plans.{Plan, Settled, unchanged}
 
--- by the identifier where one is given, and else by the call signal address
+-- by the identifier if one is given, and else by the call signal address
 abbrev pub leaving : Tables → Option (List ℕ) → Option Address → Option Registration
 leaving z (Some id) call_signal = get z.live id
 leaving z None (Some call_signal) = at_address z.live call_signal
 leaving z None None = None
 
--- the whole registration goes, but not while the endpoint is in a call
+-- the whole registration is removed, but not while the endpoint is in a call
 abbrev pub departure : Tables → ℕ → Option Registration → Plan
 departure z seq None = Settled (unchanged z (Urj seq NotCurrentlyRegistered))
 departure z seq (Some r) =

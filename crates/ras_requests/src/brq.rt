@@ -102,7 +102,7 @@ fn rejection(q: &BandwidthRequest, reason: BandRejectReason, allowed: u32) -> De
     })
 }
 
-/// A call keeps so many units, and gives the others back.
+/// A call keeps these units, and gives the others back.
 fn lowering(q: &BandwidthRequest, call: &Call, units: u32) -> Decision
     requires { units ≤ call.now.units }
     ensures { result ≡ record {

@@ -17,7 +17,7 @@ pub(crate) fn is_foreign<P: Pool>(tables: &ZoneTables<P>, name: &Option<Name>) -
     }
 }
 
-/// What a GatekeeperRequest is answered.
+/// The reply to a GatekeeperRequest.
 pub(crate) fn discover<P: Pool>(
     tables: &ZoneTables<P>,
     seq: RequestSeqNum,

@@ -89,7 +89,7 @@ fn confirmation<P: Pool>(
     }
 }
 
-/// A registration is kept alive where it is known and the endpoint hasn't moved.
+/// A registration is kept alive if it is known and the endpoint hasn't moved.
 fn keep_alive<P: Pool>(
     tables: &ZoneTables<P>,
     now: Moment,

@@ -19,7 +19,7 @@ pub struct UnregistrationRequest {
     pub endpoint: Option<EndpointId>,
 }
 
-/// Whom an UnregistrationRequest means: by its identifier where it has one, else by its
+/// The endpoint that an UnregistrationRequest names: by its identifier if it has one, else by its
 /// address.
 fn leaving<P: Pool>(tables: &ZoneTables<P>, q: &UnregistrationRequest) -> Option<EndpointId>
     ensures { result ≡ option_map (λ r. r.identifier)

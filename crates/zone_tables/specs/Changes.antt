@@ -91,7 +91,7 @@ pub record IsJoinable (calls : OpenCalls) (key : CallKey) (leg : Leg) : Type 0 w
   pub one : length call.legs ≡ 1
   pub other : leg_of call.legs leg.endpoint ≡ None
 
--- a call may keep so many units: it has so many more of this pool
+-- a call may keep these units: it has the others, too, of this pool
 pub record IsLowerable (calls : OpenCalls) (key : CallKey) (units pool back : ℕ) : Type 0 where
   pub call : Call
   pub there : get calls key ≡ Some call
@@ -114,7 +114,7 @@ leg_added (Leaving key endpoint) = None
 abbrev pub IsRegistered : Live → Leg → Type 0
 IsRegistered live leg = IsSome (get live leg.endpoint)
 
--- who goes takes part in no call
+-- an endpoint that is removed takes part in no call
 abbrev pub IsFree : OpenCalls → EndpointChange → Type 0
 IsFree calls (Renewal id deadline) = Unit {0}
 IsFree calls (Rewriting id e deadline) = Unit {0}

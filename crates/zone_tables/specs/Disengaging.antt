@@ -22,12 +22,12 @@ abbrev pub without_legs_of : Tables → List ℕ → Tables
 without_legs_of z endpoint =
     fold (λ left call. without_leg_of left call endpoint) z (keys z.calls)
 
--- the registration goes, with the endpoint's legs
+-- the registration is removed, with the endpoint's legs
 abbrev pub without_endpoint : Tables → List ℕ → Tables
 without_endpoint z endpoint =
     with_live (without_legs_of z endpoint) (remove z.live endpoint)
 
--- the legs of an endpoint go that is silent, and it stays registered
+-- the legs of a silent endpoint are removed, and it stays registered
 abbrev pub without_silent : Tables → List ℕ → Tables
 without_silent z endpoint =
     with_live (without_legs_of z endpoint) (update z.live endpoint after_calm)

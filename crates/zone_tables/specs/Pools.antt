@@ -24,7 +24,7 @@ pools_after_answer pools pool answer =
 abbrev pub figures_after_return : Figures → ℕ → Figures
 figures_after_return f n = record f { lent = f.lent - n }
 
--- so many units came back to a pool: no other pool changes
+-- these units came back to a pool: no other pool changes
 abbrev pub pools_after_return : List Figures → ℕ → ℕ → List Figures
 pools_after_return pools pool n =
     slice_set pools pool (figures_after_return (figures_at pools pool) n)
@@ -41,13 +41,13 @@ without_loans f = record f { lent = 0 }
 abbrev pub figures_without_loans : List Figures → List Figures
 figures_without_loans pools = map without_loans pools
 
--- so many units are asked of a pool
+-- the units that are requested of a pool
 pub record RequestedUnits : Type 0 where
   pub pool : ℕ
   pub units : ℕ
 
 -- The pool that was asked has that request, with the answer, as its last one; the last requests of
--- all others stay, and all stay where none was asked.
+-- all others stay, and all stay if none was asked.
 abbrev pub lasts_after : List Last → Option RequestedUnits → Option Lend → List Last
 lasts_after lasts (Some requested) (Some answer) = slice_set lasts requested.pool (Some (requested.units, answer))
 lasts_after lasts (Some requested) None = lasts

@@ -25,7 +25,7 @@ abbrev pub IsLentTo : List Figures → OpenCalls → Type 0
 IsLentTo pools calls =
     (pool : ℕ) → pool < length pools → (figures_at pools pool).lent ≡ in_use_of calls pool
 
--- fewer than so many requests were refused, and fewer were answered by a wait
+-- fewer requests than `most` were refused, and fewer were answered by a wait
 pub record HasCounts (most : ℕ) (f : Figures) : Type 0 where
   pub refusals : f.refusals < most
   pub waits : f.waits < most

@@ -12,12 +12,12 @@ use Rattle.registrations.specs.Registry.{Live}
 abbrev pub registered_with : Live → Alias → Option Registration
 registered_with live alias = find (λ r. has_alias r.aliases alias) (values live)
 
--- its call signal address, or the other where there is no such endpoint
+-- its call signal address, or the other if there is no such endpoint
 abbrev pub address_or : Option Address → Option Registration → Option Address
 address_or other None = other
 address_or other (Some r) = Some r.call_signal
 
--- the call signal address of whom the first alias names that is registered, else the other address
+-- the call signal address of the first alias that is registered, else the other address
 abbrev pub translation : Live → List Alias → Option Address → Option Address
 translation live [] other = other
 translation live (alias ∷ aliases) other =

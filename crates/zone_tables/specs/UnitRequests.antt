@@ -23,7 +23,7 @@ use Rattle.zone_tables.specs.Changes.{IsOpenable}
 abbrev pub units_requested : UnitRequest → RequestedUnits
 units_requested q = record { pool = q.pool; units = q.units }
 
--- the reply where so many units were lent, and the calls then
+-- the reply if these units were lent, and the calls then
 abbrev pub granted_reply : UnitRequest → Purpose → ℕ → Reply
 granted_reply q (purpose.Opening leg) units = Acf q.seq units leg.told
 granted_reply q (purpose.Raising had) units = Bcf q.seq (had + units)
@@ -32,12 +32,12 @@ abbrev pub granted_calls : UnitRequest → Purpose → ℕ → OpenCalls → Ope
 granted_calls q (purpose.Opening leg) units calls = insert calls q.call (new_call q.pool units leg)
 granted_calls q (purpose.Raising had) units calls = update calls q.call (with_units (had + units))
 
--- the reply where none were
+-- the reply if none were
 abbrev pub refused_reply : UnitRequest → Purpose → Reply
 refused_reply q (purpose.Opening leg) = Arj q.seq RequestDenied
 refused_reply q (purpose.Raising had) = Brj q.seq InsufficientResources had
 
--- what a call has with so many units more is a BandWidth (H.225.0)
+-- what a call has with these units is a BandWidth (H.225.0)
 abbrev pub IsBandWidth : Purpose → ℕ → Type 0
 IsBandWidth (purpose.Opening leg) units = Unit {0}
 IsBandWidth (purpose.Raising had) units = had + units < 2 ^ 32

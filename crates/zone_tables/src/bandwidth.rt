@@ -234,8 +234,8 @@ impl<P: Pool> Bandwidth<P> {
         self.pools.turn();
     }
 
-    /// Requests units of a pool for a call, which opens with them or gets them where they are lent. This
-    /// takes no memory.
+    /// Requests units of a pool for a call, which opens with them, or gets them, if they are lent.
+    /// This takes no memory.
     pub fn request_units(&mut self, request: &UnitRequest) -> Lend
         requires room { 0 < self.old.room }
         requires may { IsUnitRequest self.old.usage request.now }

@@ -16,14 +16,14 @@ pub enum EndpointChange {
     Removal(EndpointId),
 }
 
-/// What a request changes among the calls, where no pool is asked. Units are of 100 bit/s.
+/// What a request changes among the calls without asking a pool. Units are of 100 bit/s.
 #[derive(Clone, Copy)]
 pub enum CallChange {
     /// A call of this pool opens without units, with its first leg.
     Opening(CallKey, usize, Leg),
     /// The second endpoint joins a call.
     Joining(CallKey, Leg),
-    /// A call keeps so many units, and this pool gets so many back.
+    /// The units that a call keeps, its pool, and the units that the pool gets back.
     Lowering(CallKey, u32, usize, u32),
     /// An endpoint leaves a call.
     Leaving(CallKey, EndpointId),

@@ -43,7 +43,7 @@ impl Model for Endpoints {
 }
 
 impl Endpoints {
-    /// No endpoint, where so many may be.
+    /// No endpoint, and the most that there may be.
     pub fn new(alloc: Global, most: usize) -> Self
         requires { most ≤ 20000 }
         ensures { result ≡ record { live = map.empty; most = most } }

@@ -243,8 +243,8 @@ impl<P: Pool> ZoneTables<P> {
         }
     }
 
-    /// Requests units of a pool for a call, which opens with them or gets them where they are lent. The
-    /// memory is there before the pool is asked.
+    /// Requests units of a pool for a call, which opens with them, or gets them, if they are lent.
+    /// The memory is there before the pool is asked.
     pub fn request_units(&mut self, request: &UnitRequest) -> Result<Lend, AllocError>
         requires may { IsUnitRequest (usage_of self.old.zone) request.now }
         requires leg { IfSome (leg_of_purpose request.now.purpose) (IsRegistered self.old.zone.live) }
@@ -275,7 +275,7 @@ impl<P: Pool> ZoneTables<P> {
         let _after = self.bandwidth.len();
     }
 
-    /// A registration goes, with the endpoint's legs.
+    /// Removes a registration, with the endpoint's legs.
     pub fn lapse(&mut self, id: &EndpointId)
         ensures zone { self.new.zone ≡ without_endpoint self.old.zone id.now }
         ensures lasts { self.new.lasts ≡ self.old.lasts }
@@ -285,7 +285,7 @@ impl<P: Pool> ZoneTables<P> {
         self.endpoints.remove(id);
     }
 
-    /// The legs of an endpoint go that is silent.
+    /// Removes the legs of a silent endpoint, which stays registered.
     pub fn silence(&mut self, id: &EndpointId)
         ensures zone { self.new.zone ≡ without_silent self.old.zone id.now }
         ensures lasts { self.new.lasts ≡ self.old.lasts }

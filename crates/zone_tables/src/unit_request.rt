@@ -15,7 +15,7 @@ use ras_module::{
 pub enum Purpose {
     /// A call opens, with this leg.
     Opening(Leg),
-    /// A call that has so many units gets more.
+    /// A call that has these units gets more.
     Raising(u32),
 }
 
@@ -31,7 +31,7 @@ pub struct UnitRequest {
 }
 
 impl UnitRequest {
-    /// The reply where so many units were lent.
+    /// The reply if these units were lent.
     pub fn granted(&self, units: u32) -> Reply
         requires { IsBandWidth self.now.purpose units }
         ensures { result ≡ granted_reply self.now self.now.purpose units }
@@ -49,7 +49,7 @@ impl UnitRequest {
         }
     }
 
-    /// The reply where none were.
+    /// The reply if none were.
     pub fn refused(&self) -> Reply
         ensures { result ≡ refused_reply self.now self.now.purpose }
     {
