@@ -1,3 +1,4 @@
+pub use Rattle.ras_grammar.specs.declared.fault as ReadFaults
 pub use Rattle.ras_grammar.specs.Faults
 pub use Rattle.ras_grammar.specs.Grammar
 pub use Rattle.ras_reading.specs.Requests
