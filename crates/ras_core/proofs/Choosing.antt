@@ -180,7 +180,7 @@ module _ (s : State) (now : ℕ) where
   module _ (key : KeptKey) (dropped : Option ℕ)
       (over : IfSome dropped (Passes (is_over now) s.kept))
       (none : dropped ≡ None → fin.get s.kept key ≡ None
-          → fin.len s.kept ≡ s.zone.config.kept → NonePasses (is_over now) s.kept) where
+      → fin.len s.kept ≡ s.zone.config.kept → NonePasses (is_over now) s.kept) where
     full_ready : (request : Request) (plan : Plan) (w : Option ℕ) → dropped ≡ w
         → fin.get s.kept key ≡ None → fin.len s.kept ≡ s.zone.config.kept
         → IsReady s now (full_course now key request plan w)

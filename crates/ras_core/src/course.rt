@@ -2,8 +2,8 @@
 
 use crate::job::Job;
 use ras_module::{EndpointId, Request};
-use zone_events::{Datagram, DueItem, IgnoredCause};
 use ras_requests::Conclusion;
+use zone_events::{Datagram, DueItem, IgnoredCause};
 
 /// What an event calls for, before anything is done.
 #[derive(Drop)]

@@ -15,8 +15,7 @@ ghost use Rattle.ras_core.specs.Turns.{IsNothingDueIn};
 ghost use Rattle.ras_core.specs.Steps.{EachState, IsWithinLimit, RunningRun, Step};
 ghost use Rattle.ras_requests.specs.Requests.{HasReply};
 
-use zone_events::Event;
-use zone_events::Note;
+use zone_events::{Event, Note};
 
 /// A datagram that came before, from the same address with the same octets, gets the reply that is
 /// kept for it, and nothing changes but the clock and the number of steps: while its window isn't

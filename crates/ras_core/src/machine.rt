@@ -22,12 +22,12 @@ use admission::CallList;
 use kept_replies::Kept;
 use pools::{Pool, PoolSet};
 use ras_module::{EndpointId, RequestSeqNum};
+use ras_requests::Conclusion;
 use registrations::RegistrationList;
 use std::alloc::{AllocError, Global};
 use std::marker::Model;
 use zone_config::{Config, Moment};
 use zone_events::{Note, Outcome};
-use ras_requests::Conclusion;
 use zone_tables::ZoneTables;
 
 /// The steps that a zone makes at most.

@@ -25,10 +25,10 @@ use kept_replies::KeptState;
 use pools::Pool;
 use ras_codec::write_reserved;
 use ras_module::{EndpointId, Octets, Request};
+use ras_requests::{Conclusion, Decision};
 use std::alloc::AllocError;
 use zone_config::Moment;
 use zone_events::{Datagram, Outcome};
-use ras_requests::{Conclusion, Decision};
 use zone_tables::{UnitRequest, ZoneTables};
 
 /// The octets that are enough for a reply to a request for which a pool is asked.
@@ -100,7 +100,12 @@ impl<P: Pool> Machine<P> {
         self.tables.apply(now, change)?;
         hear(&mut self.tables, occasion, now, endpoint);
         let until = term.until;
-        keep(&mut self.kept, job, self.steps, KeptState::Done { reply, until });
+        keep(
+            &mut self.kept,
+            job,
+            self.steps,
+            KeptState::Done { reply, until },
+        );
         Ok(Outcome {
             answer: None,
             output: Some(output),

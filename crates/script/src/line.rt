@@ -5,9 +5,9 @@ ghost use Rattle.script.specs.Fields.{octets_of};
 ghost use Rattle.script.specs.Lines.{zone_line, set_line, pool_line, moment_of, event_of, at_line};
 ghost use Rattle.script.specs.Lines.{turn_line, line_of};
 
-use crate::words::Words;
 use crate::pool::PoolLine;
 use crate::setting::Setting;
+use crate::words::Words;
 use hex::FromHexError;
 use ras_core::{Event, Moment};
 use ras_module::{Address, Name, Octets};

@@ -51,13 +51,7 @@ struct Row {
 }
 
 impl Row {
-    fn new(
-        name: &'static str,
-        path: &'static str,
-        least: u64,
-        most: u64,
-        default: u64,
-    ) -> Row
+    fn new(name: &'static str, path: &'static str, least: u64, most: u64, default: u64) -> Row
         ensures name { result.name.now ≡ name.now }
         ensures path { result.path.now ≡ path.now }
         ensures least { result.least ≡ least }
