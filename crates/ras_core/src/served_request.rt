@@ -115,8 +115,8 @@ impl<P: Pool> Machine<P> {
         })
     }
 
-    /// RequestsUnits a pool, and does what follows from its answer about a request. The memory is there before
-    /// the pool is asked.
+    /// Requests units of a pool, and does what follows from its answer about a request. The memory is
+    /// there before the pool is asked.
     fn request_units(
         &mut self,
         now: Moment,

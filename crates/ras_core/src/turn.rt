@@ -119,7 +119,7 @@ impl<P: Pool> Machine<P> {
         Outcome::noted(Note::Done(DueItem::RegistrationOver(id)), None)
     }
 
-    /// An endpoint was asked as often as it is, and gave no sign of life.
+    /// The endpoint was interrogated `asks` times and never answered.
     fn silence(&mut self, now: Moment, id: EndpointId) -> Outcome
         requires { IsDueIn self.old.state now (DueItem.Silent id) }
         ensures { Does self.old now (Doing (DueItem.Silent id)) result self.new }
@@ -147,7 +147,7 @@ impl<P: Pool> Machine<P> {
         Outcome::noted(Note::Done(DueItem::PoolTurn), None)
     }
 
-    /// RequestsUnits an endpoint for a sign of life.
+    /// Asks an endpoint for a sign of life (H.225.0, InfoRequest).
     fn interrogate(&mut self, now: Moment, id: EndpointId) -> Result<Outcome, AllocError>
         requires { IsDueIn self.old.state now (DueItem.Interrogate id) }
         ensures does { IfOk result (λ outcome.
