@@ -29,4 +29,7 @@ pub use reason::{
     RegistrationRejectReason, UnregRejectReason,
 };
 pub use reply::Reply;
-pub use request::Request;
+pub use request::{
+    AdmissionRequest, BandwidthRequest, DisengageRequest, GatekeeperRequest, InfoRequestResponse,
+    RegistrationRequest, Request, UnregistrationRequest,
+};

@@ -1,6 +1,6 @@
 //! Numbers that are at least 1 by their types.
 
-ghost use Rattle.std.specs.Prelude.{◌≡◌, ◌<◌, SomeIff};
+ghost use Rattle.std.specs.Prelude.{◌≡◌, ◌<◌, ◌≤◌, SomeIff};
 
 use std::marker::Model;
 
@@ -38,6 +38,7 @@ impl RequestSeqNum {
     pub fn get(self) -> u16
         ensures same { result ≡ self }
         ensures some { 0 < result }
+        ensures few { result ≤ 65535 }
     {
         self.number
     }

@@ -1,4 +1,5 @@
-//! What an endpoint asks of the gatekeeper.
+//! What an endpoint asks of the gatekeeper: the requests of H.225.0, each with what the gatekeeper
+//! looks at.
 
 ghost use Rattle.std.specs.Prelude.{◌≡◌, IfOk};
 
@@ -15,56 +16,77 @@ use std::alloc::AllocError;
 /// order, doubles included; bandwidth is in units of 100 bit/s, for both directions of a call.
 #[derive(PartialEq, Eq, Drop)]
 pub enum Request {
-    /// GatekeeperRequest: which gatekeeper is there?
-    Grq {
-        seq: RequestSeqNum,
-        gatekeeper: Option<Name>,
-    },
-    /// RegistrationRequest: to register, or to keep a registration alive.
-    Rrq {
-        seq: RequestSeqNum,
-        call_signal: Option<Address>,
-        ras: Option<Address>,
-        aliases: AliasList,
-        gatekeeper: Option<Name>,
-        time_to_live: Option<TimeToLive>,
-        keep_alive: bool,
-        endpoint: Option<EndpointId>,
-    },
-    /// UnregistrationRequest: to leave the zone.
-    Urq {
-        seq: RequestSeqNum,
-        call_signal: Option<Address>,
-        endpoint: Option<EndpointId>,
-    },
-    /// AdmissionRequest: to open a call, or (`answer`) to answer one.
-    Arq {
-        seq: RequestSeqNum,
-        endpoint: EndpointId,
-        dest: AliasList,
-        dest_address: Option<Address>,
-        asked: u32,
-        call: CallKey,
-        answer: bool,
-    },
-    /// BandwidthRequest: another bandwidth for a call.
-    Brq {
-        seq: RequestSeqNum,
-        endpoint: EndpointId,
-        call: CallKey,
-        asked: u32,
-    },
-    /// DisengageRequest: to leave a call.
-    Drq {
-        seq: RequestSeqNum,
-        endpoint: EndpointId,
-        call: CallKey,
-    },
-    /// InfoRequestResponse: a sign of life, which has no reply.
-    Irr {
-        seq: RequestSeqNum,
-        endpoint: EndpointId,
-    },
+    Grq(GatekeeperRequest),
+    Rrq(RegistrationRequest),
+    Urq(UnregistrationRequest),
+    Arq(AdmissionRequest),
+    Brq(BandwidthRequest),
+    Drq(DisengageRequest),
+    Irr(InfoRequestResponse),
+}
+
+/// A GatekeeperRequest (H.225.0, GRQ): which gatekeeper is there?
+#[derive(Clone, Copy, PartialEq, Eq)]
+pub struct GatekeeperRequest {
+    pub seq: RequestSeqNum,
+    pub gatekeeper: Option<Name>,
+}
+
+/// A RegistrationRequest (H.225.0, RRQ): to register, or to keep a registration alive.
+#[derive(PartialEq, Eq, Drop)]
+pub struct RegistrationRequest {
+    pub seq: RequestSeqNum,
+    pub call_signal: Option<Address>,
+    pub ras: Option<Address>,
+    pub aliases: AliasList,
+    pub gatekeeper: Option<Name>,
+    pub time_to_live: Option<TimeToLive>,
+    pub keep_alive: bool,
+    pub endpoint: Option<EndpointId>,
+}
+
+/// An UnregistrationRequest (H.225.0, URQ): to leave the zone.
+#[derive(Clone, Copy, PartialEq, Eq)]
+pub struct UnregistrationRequest {
+    pub seq: RequestSeqNum,
+    pub call_signal: Option<Address>,
+    pub endpoint: Option<EndpointId>,
+}
+
+/// An AdmissionRequest (H.225.0, ARQ): to open a call, or (`answer`) to answer one.
+#[derive(PartialEq, Eq, Drop)]
+pub struct AdmissionRequest {
+    pub seq: RequestSeqNum,
+    pub endpoint: EndpointId,
+    pub dest: AliasList,
+    pub dest_address: Option<Address>,
+    pub asked: u32,
+    pub call: CallKey,
+    pub answer: bool,
+}
+
+/// A BandwidthRequest (H.225.0, BRQ): another bandwidth for a call.
+#[derive(Clone, Copy, PartialEq, Eq)]
+pub struct BandwidthRequest {
+    pub seq: RequestSeqNum,
+    pub endpoint: EndpointId,
+    pub call: CallKey,
+    pub asked: u32,
+}
+
+/// A DisengageRequest (H.225.0, DRQ): to leave a call.
+#[derive(Clone, Copy, PartialEq, Eq)]
+pub struct DisengageRequest {
+    pub seq: RequestSeqNum,
+    pub endpoint: EndpointId,
+    pub call: CallKey,
+}
+
+/// An InfoRequestResponse (H.225.0, IRR): a sign of life, which has no reply.
+#[derive(Clone, Copy, PartialEq, Eq)]
+pub struct InfoRequestResponse {
+    pub seq: RequestSeqNum,
+    pub endpoint: EndpointId,
 }
 
 impl Request {
@@ -73,79 +95,48 @@ impl Request {
         ensures { IfOk result (λ copy. copy ≡ self.now) }
     {
         match self {
-            Request::Grq { seq, gatekeeper } => Ok(Request::Grq {
-                seq: *seq,
-                gatekeeper: *gatekeeper,
-            }),
-            Request::Rrq {
-                seq,
-                call_signal,
-                ras,
-                aliases,
-                gatekeeper,
-                time_to_live,
-                keep_alive,
-                endpoint,
-            } => Ok(Request::Rrq {
-                seq: *seq,
-                call_signal: *call_signal,
-                ras: *ras,
-                aliases: aliases.copy()?,
-                gatekeeper: *gatekeeper,
-                time_to_live: *time_to_live,
-                keep_alive: *keep_alive,
-                endpoint: *endpoint,
-            }),
-            Request::Urq {
-                seq,
-                call_signal,
-                endpoint,
-            } => Ok(Request::Urq {
-                seq: *seq,
-                call_signal: *call_signal,
-                endpoint: *endpoint,
-            }),
-            Request::Arq {
-                seq,
-                endpoint,
-                dest,
-                dest_address,
-                asked,
-                call,
-                answer,
-            } => Ok(Request::Arq {
-                seq: *seq,
-                endpoint: *endpoint,
-                dest: dest.copy()?,
-                dest_address: *dest_address,
-                asked: *asked,
-                call: *call,
-                answer: *answer,
-            }),
-            Request::Brq {
-                seq,
-                endpoint,
-                call,
-                asked,
-            } => Ok(Request::Brq {
-                seq: *seq,
-                endpoint: *endpoint,
-                call: *call,
-                asked: *asked,
-            }),
-            Request::Drq {
-                seq,
-                endpoint,
-                call,
-            } => Ok(Request::Drq {
-                seq: *seq,
-                endpoint: *endpoint,
-                call: *call,
-            }),
-            Request::Irr { seq, endpoint } => Ok(Request::Irr {
-                seq: *seq,
-                endpoint: *endpoint,
-            }),
+            Request::Grq(q) => Ok(Request::Grq(*q)),
+            Request::Rrq(q) => Ok(Request::Rrq(q.copy()?)),
+            Request::Urq(q) => Ok(Request::Urq(*q)),
+            Request::Arq(q) => Ok(Request::Arq(q.copy()?)),
+            Request::Brq(q) => Ok(Request::Brq(*q)),
+            Request::Drq(q) => Ok(Request::Drq(*q)),
+            Request::Irr(q) => Ok(Request::Irr(*q)),
         }
+    }
+}
+
+impl RegistrationRequest {
+    /// An equal request.
+    pub fn copy(&self) -> Result<RegistrationRequest, AllocError>
+        ensures { IfOk result (λ copy. copy ≡ self.now) }
+    {
+        Ok(RegistrationRequest {
+            seq: self.seq,
+            call_signal: self.call_signal,
+            ras: self.ras,
+            aliases: self.aliases.copy()?,
+            gatekeeper: self.gatekeeper,
+            time_to_live: self.time_to_live,
+            keep_alive: self.keep_alive,
+            endpoint: self.endpoint,
+        })
+    }
+}
+
+impl AdmissionRequest {
+    /// An equal request.
+    pub fn copy(&self) -> Result<AdmissionRequest, AllocError>
+        ensures { IfOk result (λ copy. copy ≡ self.now) }
+    {
+        Ok(AdmissionRequest {
+            seq: self.seq,
+            endpoint: self.endpoint,
+            dest: self.dest.copy()?,
+            dest_address: self.dest_address,
+            asked: self.asked,
+            call: self.call,
+            answer: self.answer,
+        })
     }
 }
