@@ -49,50 +49,50 @@ request_found octets request h =
 
 -- ---- messages that are not served
 
-served_some : (g : Grammar Request) (bits rest : List Bool) → (served g).reading bits ≡ Ok
-    (None, rest) → ⊥
-served_some g bits rest e =
-    let step = bind_ok (g.reading bits) (λ (x : Request × List Bool). Ok (Some x.0, x.1))
+served_some : {A : Type 0} (kind : A → Request) (g : Grammar A) (bits rest : List Bool)
+    → (served kind g).reading bits ≡ Ok (None, rest) → ⊥
+served_some {A} kind g bits rest e =
+    let step = bind_ok (g.reading bits) (λ (x : A × List Bool). Ok (Some (kind x.0), x.1))
     (None, rest) e in
-    let same = ok_is (Some step.0.0, step.0.1) (None, rest) step.2 in
-    let never : Some step.0.0 ≡ None = ap (λ (p : Option Request × List Bool). p.0) same in
+    let same = ok_is (Some (kind step.0.0), step.0.1) (None, rest) step.2 in
+    let never : Some (kind step.0.0) ≡ None = ap (λ (p : Option Request × List Bool). p.0) same in
     absurd (cc never)
 
-none_if : (test : Bool) (g : Grammar Request) (other : Grammar (Option Request)) (others : Bool)
-    (bits rest : List Bool)
+none_if : {A : Type 0} (test : Bool) (kind : A → Request) (g : Grammar A)
+    (other : Grammar (Option Request)) (others : Bool) (bits rest : List Bool)
     → (other.reading bits ≡ Ok (None, rest) → others ≡ false) → (either test
-    (served g) other).reading bits ≡ Ok (None, rest) → (test || others) ≡ false
-none_if true g other others bits rest h e = absurd (served_some g bits rest e)
-none_if false g other others bits rest h e = h e
+    (served kind g) other).reading bits ≡ Ok (None, rest) → (test || others) ≡ false
+none_if true kind g other others bits rest h e = absurd (served_some kind g bits rest e)
+none_if false kind g other others bits rest h e = h e
 
-if_none : (test : Bool) (g : Grammar Request) (other : Grammar (Option Request)) (others : Bool)
-    (bits : List Bool)
+if_none : {A : Type 0} (test : Bool) (kind : A → Request) (g : Grammar A)
+    (other : Grammar (Option Request)) (others : Bool) (bits : List Bool)
     → (others ≡ false → other.reading bits ≡ Ok (None, bits)) → (test || others) ≡ false →
-    (either test (served g) other).reading bits ≡ Ok (None, bits)
-if_none true g other others bits h e = absurd (cc e)
-if_none false g other others bits h e = h e
+    (either test (served kind g) other).reading bits ≡ Ok (None, bits)
+if_none true kind g other others bits h e = absurd (cc e)
+if_none false kind g other others bits h e = h e
 
 others_only : (index : ℕ) (bits rest : List Bool) → (root_alternative index).reading bits ≡ Ok
     (None, rest) → is_served index ≡ false
 others_only index bits rest =
-    none_if (nat_eq index 0) _ _ _ bits rest
-    (none_if (nat_eq index 3) _ _ _ bits rest
-    (none_if (nat_eq index 6) _ _ _ bits rest
-    (none_if (nat_eq index 9) _ _ _ bits rest
-    (none_if (nat_eq index 12) _ _ _ bits rest
-    (none_if (nat_eq index 15) _ _ _ bits rest
-    (none_if (nat_eq index 22) _ _ _ bits rest (λ e. refl)))))))
+    none_if (nat_eq index 0) _ _ _ _ bits rest
+    (none_if (nat_eq index 3) _ _ _ _ bits rest
+    (none_if (nat_eq index 6) _ _ _ _ bits rest
+    (none_if (nat_eq index 9) _ _ _ _ bits rest
+    (none_if (nat_eq index 12) _ _ _ _ bits rest
+    (none_if (nat_eq index 15) _ _ _ _ bits rest
+    (none_if (nat_eq index 22) _ _ _ _ bits rest (λ e. refl)))))))
 
 others_all : (index : ℕ) (bits : List Bool) → is_served index ≡ false →
     (root_alternative index).reading bits ≡ Ok (None, bits)
 others_all index bits =
-    if_none (nat_eq index 0) _ _ _ bits
-    (if_none (nat_eq index 3) _ _ _ bits
-    (if_none (nat_eq index 6) _ _ _ bits
-    (if_none (nat_eq index 9) _ _ _ bits
-    (if_none (nat_eq index 12) _ _ _ bits
-    (if_none (nat_eq index 15) _ _ _ bits
-    (if_none (nat_eq index 22) _ _ _ bits (λ e. refl)))))))
+    if_none (nat_eq index 0) _ _ _ _ bits
+    (if_none (nat_eq index 3) _ _ _ _ bits
+    (if_none (nat_eq index 6) _ _ _ _ bits
+    (if_none (nat_eq index 9) _ _ _ _ bits
+    (if_none (nat_eq index 12) _ _ _ _ bits
+    (if_none (nat_eq index 15) _ _ _ _ bits
+    (if_none (nat_eq index 22) _ _ _ _ bits (λ e. refl)))))))
 
 abbrev IsOther : List Bool → Type 0
 IsOther bits = (extended : Bool) × (five : List Bool) × (rest : List Bool) × (bits

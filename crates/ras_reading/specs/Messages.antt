@@ -4,6 +4,7 @@ use Rattle.std.specs.Prelude.{nat_eq, Option, Some, None, Result}
 use Rattle.std.specs.List.{list_any}
 use Rattle.per_bits.specs.Bits.{bits_of, number}
 use Rattle.ras_module.specs.declared.request.Request.{Request}
+use Rattle.ras_module.specs.declared.request.Request.TheVariants.{Grq, Rrq, Urq, Arq, Brq, Drq, Irr}
 use Rattle.ras_grammar.specs.declared.fault.ReadFault.{ReadFault}
 use Rattle.ras_grammar.specs.Grammar.{Grammar, ◌>>=◌, is, boolean, choice_index, either}
 use Rattle.ras_grammar.specs.Grammar.{if◌equals◌take◌else◌, value_of}
@@ -11,10 +12,11 @@ use Rattle.ras_reading.specs.Requests.{gatekeeper_request, registration_request}
 use Rattle.ras_reading.specs.Requests.{unregistration_request, admission_request, bandwidth_request}
 use Rattle.ras_reading.specs.Requests.{disengage_request, info_request_response}
 
-abbrev pub served : Grammar Request → Grammar (Option Request)
-served message = do
-  request ← message
-  is (Some request)
+-- a message that is served, as the request of its kind
+abbrev pub served : {A : Type 0} → (A → Request) → Grammar A → Grammar (Option Request)
+served kind message = do
+  parts ← message
+  is (Some (kind parts))
 
 abbrev pub not_served : Grammar (Option Request)
 not_served = is None
@@ -22,13 +24,13 @@ not_served = is None
 -- the messages before the extension marker, by their indexes
 abbrev pub root_alternative : ℕ → Grammar (Option Request)
 root_alternative index =
-    if index equals 0 take served gatekeeper_request
-    else if index equals 3 take served registration_request
-    else if index equals 6 take served unregistration_request
-    else if index equals 9 take served admission_request
-    else if index equals 12 take served bandwidth_request
-    else if index equals 15 take served disengage_request
-    else if index equals 22 take served info_request_response
+    if index equals 0 take served Grq gatekeeper_request
+    else if index equals 3 take served Rrq registration_request
+    else if index equals 6 take served Urq unregistration_request
+    else if index equals 9 take served Arq admission_request
+    else if index equals 12 take served Brq bandwidth_request
+    else if index equals 15 take served Drq disengage_request
+    else if index equals 22 take served Irr info_request_response
     else not_served
 
 abbrev pub root_message : Grammar (Option Request)

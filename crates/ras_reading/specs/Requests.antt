@@ -3,8 +3,13 @@ use Rattle.std.specs.Prelude.{ℕ, List, Bool, false, Option, Some, None, nat_eq
 use Rattle.std.specs.Prelude.{if◌then◌else◌}
 use Rattle.std.specs.List.{list_all}
 use Rattle.ras_module.specs.declared.call_key.CallKey.{CallKey}
-use Rattle.ras_module.specs.declared.request.Request.{Request}
-use Rattle.ras_module.specs.declared.request.Request.TheVariants.{Grq, Rrq, Urq, Arq, Brq, Drq, Irr}
+use Rattle.ras_module.specs.declared.request.GatekeeperRequest.{GatekeeperRequest}
+use Rattle.ras_module.specs.declared.request.RegistrationRequest.{RegistrationRequest}
+use Rattle.ras_module.specs.declared.request.UnregistrationRequest.{UnregistrationRequest}
+use Rattle.ras_module.specs.declared.request.AdmissionRequest.{AdmissionRequest}
+use Rattle.ras_module.specs.declared.request.BandwidthRequest.{BandwidthRequest}
+use Rattle.ras_module.specs.declared.request.DisengageRequest.{DisengageRequest}
+use Rattle.ras_module.specs.declared.request.InfoRequestResponse.{InfoRequestResponse}
 use Rattle.ras_reading.specs.declared.request.RegistrationAdditions.{RegistrationAdditions}
 use Rattle.ras_reading.specs.declared.request.AdmissionPreamble.{AdmissionPreamble}
 use Rattle.ras_grammar.specs.Grammar.{Grammar, ◌>>=◌, is, boolean, optional, skipped}
@@ -64,7 +69,7 @@ qseries_options = do
 
 -- GatekeeperRequest: requestSeqNum, protocolIdentifier, nonStandardData?, rasAddress, endpointType,
 -- gatekeeperIdentifier?; callServices?, endpointAlias? and the additions are not read
-unfoldable pub gatekeeper_request : Grammar Request
+unfoldable pub gatekeeper_request : Grammar GatekeeperRequest
 gatekeeper_request = do
   extended ← boolean
   has_non_standard_data ← boolean
@@ -77,7 +82,7 @@ gatekeeper_request = do
   ras ← transport_address
   type_of_endpoint ← endpoint_type
   gatekeeper ← optional has_gatekeeper identifier
-  is (Grq seq gatekeeper)
+  is (record { seq = seq; gatekeeper = gatekeeper })
 
 -- The additions of a RegistrationRequest: 1 timeToLive, 5 keepAlive, 6 endpointIdentifier
 unfoldable pub registration_additions : Bool → Grammar RegistrationAdditions
@@ -99,7 +104,7 @@ registration_additions extended = do
 -- RegistrationRequest: requestSeqNum, protocolIdentifier, nonStandardData?, discoveryComplete,
 -- callSignalAddress,
 -- rasAddress, terminalType, terminalAlias?, gatekeeperIdentifier?, endpointVendor; additions
-unfoldable pub registration_request : Grammar Request
+unfoldable pub registration_request : Grammar RegistrationRequest
 registration_request = do
   extended ← boolean
   has_non_standard_data ← boolean
@@ -116,12 +121,21 @@ registration_request = do
   gatekeeper ← optional has_gatekeeper identifier
   vendor ← vendor_identifier
   more ← registration_additions extended
-  is (Rrq seq call_signal ras aliases gatekeeper more.time_to_live more.keep_alive more.endpoint)
+  is (record {
+    seq = seq;
+    call_signal = call_signal;
+    ras = ras;
+    aliases = aliases;
+    gatekeeper = gatekeeper;
+    time_to_live = more.time_to_live;
+    keep_alive = more.keep_alive;
+    endpoint = more.endpoint;
+  })
 
 -- UnregistrationRequest: requestSeqNum, callSignalAddress, endpointAlias?, nonStandardData?,
 -- endpointIdentifier?; the
 -- additions are not read
-unfoldable pub unregistration_request : Grammar Request
+unfoldable pub unregistration_request : Grammar UnregistrationRequest
 unregistration_request = do
   extended ← boolean
   has_aliases ← boolean
@@ -132,7 +146,7 @@ unregistration_request = do
   aliases ← skipped has_aliases skipped_aliases
   non_standard_data ← skipped has_non_standard_data non_standard_parameter
   endpoint ← optional has_endpoint identifier
-  is (Urq seq call_signal endpoint)
+  is (record { seq = seq; call_signal = call_signal; endpoint = endpoint })
 
 -- The extension bit of an AdmissionRequest, and which of its components are there
 unfoldable pub admission_preamble : Grammar AdmissionPreamble
@@ -161,7 +175,7 @@ admission_preamble = do
 -- destExtraCallInfo?, srcInfo, srcCallSignalAddress?, bandWidth, callReferenceValue,
 -- nonStandardData?, callServices?,
 -- conferenceID, activeMC, answerCall; addition 1 callIdentifier
-unfoldable pub admission_request : Grammar Request
+unfoldable pub admission_request : Grammar AdmissionRequest
 admission_request = do
   there ← admission_preamble
   seq ← request_seq_num
@@ -183,12 +197,20 @@ admission_request = do
   present ← additions there.extended
   addition_0 ← skipped_addition present 0
   guid ← addition present 1 call_identifier
-  is (Arq seq endpoint dest dest_address asked (call_key conference guid) answer)
+  is (record {
+    seq = seq;
+    endpoint = endpoint;
+    dest = dest;
+    dest_address = dest_address;
+    asked = asked;
+    call = call_key conference guid;
+    answer = answer;
+  })
 
 -- BandwidthRequest: requestSeqNum, endpointIdentifier, conferenceID, callReferenceValue,
 -- callType?, bandWidth,
 -- nonStandardData?; addition 0 callIdentifier
-unfoldable pub bandwidth_request : Grammar Request
+unfoldable pub bandwidth_request : Grammar BandwidthRequest
 bandwidth_request = do
   extended ← boolean
   has_call_type ← boolean
@@ -202,12 +224,17 @@ bandwidth_request = do
   non_standard_data ← skipped has_non_standard_data non_standard_parameter
   present ← additions extended
   guid ← addition present 0 call_identifier
-  is (Brq seq endpoint (call_key conference guid) asked)
+  is (record {
+    seq = seq;
+    endpoint = endpoint;
+    call = call_key conference guid;
+    asked = asked;
+  })
 
 -- DisengageRequest: requestSeqNum, endpointIdentifier, conferenceID, callReferenceValue,
 -- disengageReason,
 -- nonStandardData?; addition 0 callIdentifier
-unfoldable pub disengage_request : Grammar Request
+unfoldable pub disengage_request : Grammar DisengageRequest
 disengage_request = do
   extended ← boolean
   has_non_standard_data ← boolean
@@ -219,11 +246,11 @@ disengage_request = do
   non_standard_data ← skipped has_non_standard_data non_standard_parameter
   present ← additions extended
   guid ← addition present 0 call_identifier
-  is (Drq seq endpoint (call_key conference guid))
+  is (record { seq = seq; endpoint = endpoint; call = call_key conference guid })
 
 -- InfoRequestResponse: nonStandardData?, requestSeqNum, endpointType, endpointIdentifier; the
 -- rest is not read
-unfoldable pub info_request_response : Grammar Request
+unfoldable pub info_request_response : Grammar InfoRequestResponse
 info_request_response = do
   extended ← boolean
   has_non_standard_data ← boolean
@@ -233,4 +260,4 @@ info_request_response = do
   seq ← request_seq_num
   type_of_endpoint ← endpoint_type
   endpoint ← identifier
-  is (Irr seq endpoint)
+  is (record { seq = seq; endpoint = endpoint })

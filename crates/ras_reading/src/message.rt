@@ -21,13 +21,13 @@ fn root_message(alloc: Global, decoder: &mut Decoder<'_>) -> Result<Option<Reque
     let mut ahead = decoder.ahead();
     let index = ahead.choice_index(24)?;
     let request = match index {
-        0 => Some(gatekeeper_request(&mut ahead)?),
-        3 => Some(registration_request(alloc, &mut ahead)?),
-        6 => Some(unregistration_request(&mut ahead)?),
-        9 => Some(admission_request(alloc, &mut ahead)?),
-        12 => Some(bandwidth_request(&mut ahead)?),
-        15 => Some(disengage_request(&mut ahead)?),
-        22 => Some(info_request_response(&mut ahead)?),
+        0 => Some(Request::Grq(gatekeeper_request(&mut ahead)?)),
+        3 => Some(Request::Rrq(registration_request(alloc, &mut ahead)?)),
+        6 => Some(Request::Urq(unregistration_request(&mut ahead)?)),
+        9 => Some(Request::Arq(admission_request(alloc, &mut ahead)?)),
+        12 => Some(Request::Brq(bandwidth_request(&mut ahead)?)),
+        15 => Some(Request::Drq(disengage_request(&mut ahead)?)),
+        22 => Some(Request::Irr(info_request_response(&mut ahead)?)),
         _ => None,
     };
     *decoder = ahead;
@@ -58,8 +58,7 @@ fn message(alloc: Global, octets: &[u8]) -> Result<Option<Request>, ReadFault>
 }
 
 /// The request that octets begin with, or None where they are a message that is not served. What
-/// follows
-/// is not read.
+/// follows is not read.
 pub fn read(alloc: Global, octets: &[u8]) -> Result<Option<Request>, ReadFault>
     ensures gives { IsUnlessMemory (message_reading octets.now) result }
 

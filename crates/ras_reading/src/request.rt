@@ -23,12 +23,15 @@ use crate::sequence::{
     skip_non_standard_data,
 };
 use ras_grammar::{Decoder, ReadFault};
-use ras_module::{EndpointId, Request, TimeToLive};
+use ras_module::{
+    AdmissionRequest, BandwidthRequest, DisengageRequest, EndpointId, GatekeeperRequest,
+    InfoRequestResponse, RegistrationRequest, TimeToLive, UnregistrationRequest,
+};
 use std::alloc::Global;
 
 /// GatekeeperRequest. What stands behind gatekeeperIdentifier is not read.
 #[tactic(auto, unfolding(crate::specs::Requests::gatekeeper_request))]
-pub fn gatekeeper_request(decoder: &mut Decoder<'_>) -> Result<Request, ReadFault>
+pub fn gatekeeper_request(decoder: &mut Decoder<'_>) -> Result<GatekeeperRequest, ReadFault>
     ensures { Gives gatekeeper_request.reading decoder.old result decoder.new }
 {
     let mut ahead = decoder.ahead();
@@ -44,7 +47,7 @@ pub fn gatekeeper_request(decoder: &mut Decoder<'_>) -> Result<Request, ReadFaul
     endpoint_type(&mut ahead)?;
     let gatekeeper = optional_identifier(&mut ahead, has_gatekeeper)?;
     *decoder = ahead;
-    Ok(Request::Grq { seq, gatekeeper })
+    Ok(GatekeeperRequest { seq, gatekeeper })
 }
 
 /// What is read of the additions of a RegistrationRequest.
@@ -133,7 +136,10 @@ fn registration_additions(
 
 /// RegistrationRequest.
 #[tactic(auto, unfolding(crate::specs::Requests::registration_request))]
-pub fn registration_request(alloc: Global, decoder: &mut Decoder<'_>) -> Result<Request, ReadFault>
+pub fn registration_request(
+    alloc: Global,
+    decoder: &mut Decoder<'_>,
+) -> Result<RegistrationRequest, ReadFault>
     ensures { GivesUnlessMemory registration_request.reading decoder.old result decoder.new }
 {
     let mut ahead = decoder.ahead();
@@ -153,7 +159,7 @@ pub fn registration_request(alloc: Global, decoder: &mut Decoder<'_>) -> Result<
     vendor_identifier(&mut ahead)?;
     let more = registration_additions(&mut ahead, extended)?;
     *decoder = ahead;
-    Ok(Request::Rrq {
+    Ok(RegistrationRequest {
         seq,
         call_signal,
         ras,
@@ -167,7 +173,7 @@ pub fn registration_request(alloc: Global, decoder: &mut Decoder<'_>) -> Result<
 
 /// UnregistrationRequest. Its additions are not read.
 #[tactic(auto, unfolding(crate::specs::Requests::unregistration_request))]
-pub fn unregistration_request(decoder: &mut Decoder<'_>) -> Result<Request, ReadFault>
+pub fn unregistration_request(decoder: &mut Decoder<'_>) -> Result<UnregistrationRequest, ReadFault>
     ensures { Gives unregistration_request.reading decoder.old result decoder.new }
 {
     let mut ahead = decoder.ahead();
@@ -181,7 +187,7 @@ pub fn unregistration_request(decoder: &mut Decoder<'_>) -> Result<Request, Read
     skip_non_standard_data(&mut ahead, has_non_standard_data)?;
     let endpoint = optional_identifier(&mut ahead, has_endpoint)?;
     *decoder = ahead;
-    Ok(Request::Urq {
+    Ok(UnregistrationRequest {
         seq,
         call_signal,
         endpoint: endpoint.map(EndpointId::new),
@@ -222,7 +228,10 @@ fn admission_preamble(decoder: &mut Decoder<'_>) -> Result<AdmissionPreamble, Re
 
 /// AdmissionRequest.
 #[tactic(auto, unfolding(crate::specs::Requests::admission_request))]
-pub fn admission_request(alloc: Global, decoder: &mut Decoder<'_>) -> Result<Request, ReadFault>
+pub fn admission_request(
+    alloc: Global,
+    decoder: &mut Decoder<'_>,
+) -> Result<AdmissionRequest, ReadFault>
     ensures { GivesUnlessMemory admission_request.reading decoder.old result decoder.new }
 {
     let mut ahead = decoder.ahead();
@@ -247,7 +256,7 @@ pub fn admission_request(alloc: Global, decoder: &mut Decoder<'_>) -> Result<Req
     skip_addition(&mut ahead, &present, 0)?;
     let guid = call_identifier_at(&mut ahead, &present, 1)?;
     *decoder = ahead;
-    Ok(Request::Arq {
+    Ok(AdmissionRequest {
         seq,
         endpoint,
         dest,
@@ -260,7 +269,7 @@ pub fn admission_request(alloc: Global, decoder: &mut Decoder<'_>) -> Result<Req
 
 /// BandwidthRequest.
 #[tactic(auto, unfolding(crate::specs::Requests::bandwidth_request))]
-pub fn bandwidth_request(decoder: &mut Decoder<'_>) -> Result<Request, ReadFault>
+pub fn bandwidth_request(decoder: &mut Decoder<'_>) -> Result<BandwidthRequest, ReadFault>
     ensures { Gives bandwidth_request.reading decoder.old result decoder.new }
 {
     let mut ahead = decoder.ahead();
@@ -277,7 +286,7 @@ pub fn bandwidth_request(decoder: &mut Decoder<'_>) -> Result<Request, ReadFault
     let present = additions(&mut ahead, extended)?;
     let guid = call_identifier_at(&mut ahead, &present, 0)?;
     *decoder = ahead;
-    Ok(Request::Brq {
+    Ok(BandwidthRequest {
         seq,
         endpoint,
         call: call_key(conference, guid),
@@ -287,7 +296,7 @@ pub fn bandwidth_request(decoder: &mut Decoder<'_>) -> Result<Request, ReadFault
 
 /// DisengageRequest.
 #[tactic(auto, unfolding(crate::specs::Requests::disengage_request))]
-pub fn disengage_request(decoder: &mut Decoder<'_>) -> Result<Request, ReadFault>
+pub fn disengage_request(decoder: &mut Decoder<'_>) -> Result<DisengageRequest, ReadFault>
     ensures { Gives disengage_request.reading decoder.old result decoder.new }
 {
     let mut ahead = decoder.ahead();
@@ -302,7 +311,7 @@ pub fn disengage_request(decoder: &mut Decoder<'_>) -> Result<Request, ReadFault
     let present = additions(&mut ahead, extended)?;
     let guid = call_identifier_at(&mut ahead, &present, 0)?;
     *decoder = ahead;
-    Ok(Request::Drq {
+    Ok(DisengageRequest {
         seq,
         endpoint,
         call: call_key(conference, guid),
@@ -311,7 +320,7 @@ pub fn disengage_request(decoder: &mut Decoder<'_>) -> Result<Request, ReadFault
 
 /// InfoRequestResponse. What stands behind endpointIdentifier is not read.
 #[tactic(auto, unfolding(crate::specs::Requests::info_request_response))]
-pub fn info_request_response(decoder: &mut Decoder<'_>) -> Result<Request, ReadFault>
+pub fn info_request_response(decoder: &mut Decoder<'_>) -> Result<InfoRequestResponse, ReadFault>
     ensures { Gives info_request_response.reading decoder.old result decoder.new }
 {
     let mut ahead = decoder.ahead();
@@ -324,5 +333,5 @@ pub fn info_request_response(decoder: &mut Decoder<'_>) -> Result<Request, ReadF
     endpoint_type(&mut ahead)?;
     let endpoint = endpoint_identifier(&mut ahead)?;
     *decoder = ahead;
-    Ok(Request::Irr { seq, endpoint })
+    Ok(InfoRequestResponse { seq, endpoint })
 }
