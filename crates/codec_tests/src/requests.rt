@@ -2,8 +2,9 @@
 
 use ras_codec::{ReadFault, read};
 use ras_module::{
-    Address, Alias, AliasList, BmpString, CallKey, DialledDigits, EndpointId, Name, Request,
-    RequestSeqNum,
+    Address, AdmissionRequest, Alias, AliasList, BandwidthRequest, BmpString, CallKey,
+    DialledDigits, DisengageRequest, EndpointId, GatekeeperRequest, InfoRequestResponse, Name,
+    RegistrationRequest, Request, RequestSeqNum, UnregistrationRequest,
 };
 use std::alloc::{AllocError, Global};
 use std::test::Fail;
@@ -54,21 +55,21 @@ pub fn is_read(alloc: Global, octets: &[u8], expected: Request) -> Result<bool, 
 
 #[test]
 fn gatekeeper_requests(rt: HostRuntime) -> Result<(), Fail> {
-    let any = Request::Grq {
+    let any = Request::Grq(GatekeeperRequest {
         seq: seq(1),
         gatekeeper: None,
-    };
+    });
     assert!(rt; is_read(rt.alloc(), &GRQ, any)?);
-    let other = Request::Grq {
+    let other = Request::Grq(GatekeeperRequest {
         seq: seq(1),
         gatekeeper: Name::new(&[0x78, 0x78]),
-    };
+    });
     assert!(rt; is_read(rt.alloc(), &GRQ_OF_XX, other)?);
     Ok(())
 }
 
 fn registration(alloc: Global, number: u16, host: u8, last: &[u8]) -> Result<Request, AllocError> {
-    Ok(Request::Rrq {
+    Ok(Request::Rrq(RegistrationRequest {
         seq: seq(number),
         call_signal: Some(address(host, 1720)),
         ras: Some(address(host, 1719)),
@@ -77,7 +78,7 @@ fn registration(alloc: Global, number: u16, host: u8, last: &[u8]) -> Result<Req
         time_to_live: None,
         keep_alive: false,
         endpoint: None,
-    })
+    }))
 }
 
 #[test]
@@ -86,7 +87,7 @@ fn registration_requests(rt: HostRuntime) -> Result<(), Fail> {
     assert!(rt; is_read(alloc, &RRQ_101, registration(alloc, 2, 5, b"1")?)?);
     assert!(rt; is_read(alloc, &RRQ_102, registration(alloc, 2, 6, b"2")?)?);
     assert!(rt; is_read(alloc, &RRQ_109_101, registration(alloc, 3, 7, b"91")?)?);
-    let kept = Request::Rrq {
+    let kept = Request::Rrq(RegistrationRequest {
         seq: seq(2),
         call_signal: Some(address(5, 1720)),
         ras: Some(address(5, 1719)),
@@ -95,18 +96,18 @@ fn registration_requests(rt: HostRuntime) -> Result<(), Fail> {
         time_to_live: None,
         keep_alive: true,
         endpoint: Some(endpoint(b'9')),
-    };
+    });
     assert!(rt; is_read(alloc, &KEEP_ALIVE, kept)?);
     Ok(())
 }
 
 #[test]
 fn unregistration_requests(rt: HostRuntime) -> Result<(), Fail> {
-    let expected = Request::Urq {
+    let expected = Request::Urq(UnregistrationRequest {
         seq: seq(5),
         call_signal: Some(address(5, 1720)),
         endpoint: Some(endpoint(b'1')),
-    };
+    });
     assert!(rt; is_read(rt.alloc(), &URQ, expected)?);
     Ok(())
 }
@@ -114,7 +115,7 @@ fn unregistration_requests(rt: HostRuntime) -> Result<(), Fail> {
 #[test]
 fn admission_requests(rt: HostRuntime) -> Result<(), Fail> {
     let alloc = rt.alloc();
-    let first = Request::Arq {
+    let first = Request::Arq(AdmissionRequest {
         seq: seq(3),
         endpoint: endpoint(b'1'),
         dest: aliases(alloc, b"2")?,
@@ -122,9 +123,9 @@ fn admission_requests(rt: HostRuntime) -> Result<(), Fail> {
         asked: 1280,
         call: CallKey { octets: [0x11; 16] },
         answer: false,
-    };
+    });
     assert!(rt; is_read(alloc, &ARQ, first)?);
-    let answer = Request::Arq {
+    let answer = Request::Arq(AdmissionRequest {
         seq: seq(4),
         endpoint: endpoint(b'2'),
         dest: aliases(alloc, b"2")?,
@@ -132,9 +133,9 @@ fn admission_requests(rt: HostRuntime) -> Result<(), Fail> {
         asked: 900,
         call: CallKey { octets: [0x11; 16] },
         answer: true,
-    };
+    });
     assert!(rt; is_read(alloc, &ARQ_ANSWER, answer)?);
-    let second = Request::Arq {
+    let second = Request::Arq(AdmissionRequest {
         seq: seq(7),
         endpoint: endpoint(b'1'),
         dest: aliases(alloc, b"2")?,
@@ -142,7 +143,7 @@ fn admission_requests(rt: HostRuntime) -> Result<(), Fail> {
         asked: 1280,
         call: CallKey { octets: [0x22; 16] },
         answer: false,
-    };
+    });
     assert!(rt; is_read(alloc, &ARQ_OF_A_SECOND_CALL, second)?);
     Ok(())
 }
@@ -150,28 +151,28 @@ fn admission_requests(rt: HostRuntime) -> Result<(), Fail> {
 #[test]
 fn requests_about_a_call(rt: HostRuntime) -> Result<(), Fail> {
     let call = CallKey { octets: [0x11; 16] };
-    let more = Request::Brq {
+    let more = Request::Brq(BandwidthRequest {
         seq: seq(7),
         endpoint: endpoint(b'1'),
         call,
         asked: 2000,
-    };
+    });
     assert!(rt; is_read(rt.alloc(), &BRQ, more)?);
-    let end = Request::Drq {
+    let end = Request::Drq(DisengageRequest {
         seq: seq(9),
         endpoint: endpoint(b'1'),
         call,
-    };
+    });
     assert!(rt; is_read(rt.alloc(), &DRQ, end)?);
     Ok(())
 }
 
 #[test]
 fn a_sign_of_life(rt: HostRuntime) -> Result<(), Fail> {
-    let alive = Request::Irr {
+    let alive = Request::Irr(InfoRequestResponse {
         seq: seq(1),
         endpoint: endpoint(b'1'),
-    };
+    });
     assert!(rt; is_read(rt.alloc(), &IRR, alive)?);
     Ok(())
 }
@@ -195,11 +196,11 @@ fn an_alias_of_another_kind_is_passed_over(rt: HostRuntime) -> Result<(), Fail> 
 fn a_call_identifier_of_zeros_is_none(rt: HostRuntime) -> Result<(), Fail> {
     let mut octets = DRQ;
     octets[34..].copy_from_slice(&[0; 16]);
-    let end = Request::Drq {
+    let end = Request::Drq(DisengageRequest {
         seq: seq(9),
         endpoint: endpoint(b'1'),
         call: CallKey { octets: [0x11; 16] },
-    };
+    });
     assert!(rt; is_read(rt.alloc(), &octets, end)?);
     Ok(())
 }

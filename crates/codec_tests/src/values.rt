@@ -1,8 +1,10 @@
 //! The values of messages: copies, orders, and what is refused.
 
 use ras_module::{
-    Address, Alias, AliasList, BandRejectReason, CallKey, Delay, DialledDigits, EndpointId, Name,
-    Octets, RegistrationRejectReason, Reply, ReplyAliases, Request, RequestSeqNum, TimeToLive,
+    Address, AdmissionRequest, Alias, AliasList, BandRejectReason, BandwidthRequest, CallKey,
+    Delay, DialledDigits, DisengageRequest, EndpointId, GatekeeperRequest, InfoRequestResponse,
+    Name, Octets, RegistrationRejectReason, RegistrationRequest, Reply, ReplyAliases, Request,
+    RequestSeqNum, TimeToLive, UnregistrationRequest,
 };
 use std::alloc::{AllocError, Global};
 use std::test::Fail;
@@ -54,11 +56,11 @@ fn aliases(alloc: Global, alias: &Alias, count: usize) -> Result<AliasList, Allo
 /// Discovery, and a registration that comes and goes, with these aliases.
 fn requests_of_the_zone(aliases: AliasList) -> (Request, Request, Request) {
     (
-        Request::Grq {
+        Request::Grq(GatekeeperRequest {
             seq: seq(),
             gatekeeper: Some(gatekeeper()),
-        },
-        Request::Rrq {
+        }),
+        Request::Rrq(RegistrationRequest {
             seq: seq(),
             call_signal: Some(ADDRESS),
             ras: None,
@@ -67,12 +69,12 @@ fn requests_of_the_zone(aliases: AliasList) -> (Request, Request, Request) {
             time_to_live: TimeToLive::new(60),
             keep_alive: true,
             endpoint: Some(endpoint()),
-        },
-        Request::Urq {
+        }),
+        Request::Urq(UnregistrationRequest {
             seq: seq(),
             call_signal: None,
             endpoint: Some(endpoint()),
-        },
+        }),
     )
 }
 
@@ -80,7 +82,7 @@ fn requests_of_the_zone(aliases: AliasList) -> (Request, Request, Request) {
 fn requests_of_a_call(dest: AliasList) -> (Request, Request, Request, Request) {
     let endpoint = endpoint();
     (
-        Request::Arq {
+        Request::Arq(AdmissionRequest {
             seq: seq(),
             endpoint,
             dest,
@@ -88,22 +90,22 @@ fn requests_of_a_call(dest: AliasList) -> (Request, Request, Request, Request) {
             asked: 1280,
             call: CALL,
             answer: true,
-        },
-        Request::Brq {
+        }),
+        Request::Brq(BandwidthRequest {
             seq: seq(),
             endpoint,
             call: CALL,
             asked: 2000,
-        },
-        Request::Drq {
+        }),
+        Request::Drq(DisengageRequest {
             seq: seq(),
             endpoint,
             call: CALL,
-        },
-        Request::Irr {
+        }),
+        Request::Irr(InfoRequestResponse {
             seq: seq(),
             endpoint,
-        },
+        }),
     )
 }
 
