@@ -21,7 +21,8 @@ use Rattle.ras_writing.specs.Replies.{digit_code, digits, bmp_string, alias_addr
 use Rattle.ras_writing.specs.Replies.{alias_addresses, alias_list}
 use Rattle.ras_writing.specs.Properties.{IsAlias, IsDigits, AreAliases}
 use Rattle.ras_grammar.proofs.Dialled.{both_true}
-use Rattle.ras_writing.proofs.Written.{AreEncodings, bmp_written, in_order-append}
+use Rattle.ras_writing.proofs.Written.{AreEncodings, in_order-append}
+use Rattle.ras_writing.proofs.TextsWritten.{bmp_written}
 
 code_few : (c : ℕ) → IsTrue (is_dialled c) → digit_code c ≤ 12
 code_few c h = grind (arith, nat_tests)

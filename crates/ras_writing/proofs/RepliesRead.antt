@@ -1,113 +1,57 @@
 -- Each reply is an encoding of itself.
 use Rattle.std.proofs.Common.{◌≡◌, ℕ, ◌+◌, ◌%◌, ◌≤◌, List, [], ◌∷◌, ◌++◌, Bool, true, false, length}
-use Rattle.std.proofs.Common.{refl, sym, subst, append-nil, arith, lit<, ◌<◌, ◌*◌, zero, suc}
-use Rattle.std.proofs.Common.{Some}
-use Rattle.std.specs.List.{AllByRecursion}
+use Rattle.std.proofs.Common.{refl, sym, subst, append-nil, arith, lit<, ◌*◌, ◌/◌, length-append}
+use Rattle.std.proofs.Common.{ap, ◌∙◌}
+use Rattle.std.proofs.lemmas.List.{length-replicate}
 use Rattle.per_bits.specs.Canonical as canonical
 use Rattle.per_bits.proofs.Agreement.{length_encodes, octets_encode}
-use Rattle.std.proofs.Common.{replicate, ◌/◌, ◌-◌, length-append, ap, ◌∙◌}
-use Rattle.std.proofs.lemmas.List.{length-replicate}
-use Rattle.per_bits.specs.Bits.{bits_of, binary, width, octets_for, pad_length, place_of}
-use Rattle.per_bits.specs.Canonical.{wide_encoding, pad}
-use Rattle.per_bits.proofs.Agreement.{width_least}
-use Rattle.per_bits.proofs.Binary.{length-binary}
+use Rattle.per_bits.specs.Bits.{bits_of, pad_length, place_of}
+use Rattle.per_bits.specs.Canonical.{pad, offset_encoding}
 use Rattle.per_bits.proofs.Results.{ok_is}
 use Rattle.ras_module.specs.declared.alias.Alias.{Alias}
 use Rattle.ras_module.specs.declared.reason.RegistrationRejectReason.{RegistrationRejectReason}
-use Rattle.ras_module.specs.declared.reason.RegistrationRejectReason.TheVariants as registration
 use Rattle.ras_module.specs.declared.reply.Reply.{Reply}
-use Rattle.ras_grammar.specs.Aliases as aliases
-use Rattle.ras_grammar.specs.Grammar.{value_of}
-use Rattle.ras_writing.specs.Properties.{AreAliases, IsReason, IsRegistrationConfirm, IsReply}
-use Rattle.ras_writing.specs.Properties.{ReadsBack}
-use Rattle.ras_writing.specs.Replies.{has_aliases, terminal_alias, time_to_live_octets}
-use Rattle.ras_writing.specs.Replies.{registration_confirm_front, registration_confirm_additions}
-use Rattle.ras_writing.specs.Replies.{registration_confirm, registration_reason}
-use Rattle.ras_writing.specs.Replies.{registration_reject, components, encoding_of}
-use Rattle.ras_writing.specs.Encoding.{in_order, padded_octets}
-use Rattle.ras_writing.proofs.AliasesWritten.{aliases_written}
-use Rattle.ras_writing.proofs.Written.{bits_of-octets_in, one_address_written, part_of}
-use Rattle.per_bits.specs.Bits.{octet}
-use Rattle.per_bits.specs.Canonical.{offset_encoding}
-use Rattle.ras_writing.specs.Encoding as encoding
 use Rattle.ras_module.specs.declared.address.Address.{Address}
-use Rattle.ras_writing.specs.Properties.{IsAddress, IsName}
 use Rattle.ras_module.specs.declared.reply.Reply.TheVariants.{Gcf, Grj, Rcf, Rrj, Acf, Irq, Rip}
 use Rattle.ras_module.specs.declared.reply.Reply.TheVariants.{Ucf, Urj, Arj, Bcf, Brj, Dcf, Drj}
 use Rattle.ras_module.specs.declared.reason.GatekeeperRejectReason.{GatekeeperRejectReason}
-use Rattle.ras_module.specs.declared.reason.GatekeeperRejectReason.TheVariants as gatekeeper
 use Rattle.ras_module.specs.declared.reason.UnregRejectReason.{UnregRejectReason}
-use Rattle.ras_module.specs.declared.reason.UnregRejectReason.TheVariants as unreg
 use Rattle.ras_module.specs.declared.reason.AdmissionRejectReason.{AdmissionRejectReason}
-use Rattle.ras_module.specs.declared.reason.AdmissionRejectReason.TheVariants as admission
 use Rattle.ras_module.specs.declared.reason.BandRejectReason.{BandRejectReason}
-use Rattle.ras_module.specs.declared.reason.BandRejectReason.TheVariants as band
 use Rattle.ras_module.specs.declared.reason.DisengageRejectReason.{DisengageRejectReason}
-use Rattle.ras_module.specs.declared.reason.DisengageRejectReason.TheVariants as disengage
-use Rattle.ras_writing.specs.Replies.{null_choice, transport_address}
-use Rattle.ras_writing.specs.Replies.{admission_confirm_additions, gatekeeper_confirm}
-use Rattle.ras_writing.specs.Replies.{admission_confirm, info_request, request_in_progress}
-use Rattle.ras_writing.specs.Replies.{protocol_identifier, gatekeeper_reject}
-use Rattle.ras_writing.specs.Replies.{unregistration_confirm}
-use Rattle.ras_writing.specs.Replies.{unregistration_reject, admission_reject, bandwidth_confirm}
-use Rattle.ras_writing.specs.Replies.{bandwidth_reject, disengage_confirm, disengage_reject}
-use Rattle.ras_writing.specs.Replies as replies
+use Rattle.ras_grammar.specs.Aliases as aliases
+use Rattle.ras_grammar.specs.Grammar.{value_of}
 use Rattle.ras_grammar.specs.Sequences as sequences
 use Rattle.ras_grammar.specs.Grammar as forms
+use Rattle.ras_writing.specs.Properties.{AreAliases, IsReason, IsRegistrationConfirm, IsReply}
+use Rattle.ras_writing.specs.Properties.{ReadsBack, IsAddress, IsName}
+use Rattle.ras_writing.specs.Replies.{has_aliases, terminal_alias, registration_confirm_front}
+use Rattle.ras_writing.specs.Replies.{registration_confirm_additions, registration_confirm}
+use Rattle.ras_writing.specs.Replies.{registration_reject, components, encoding_of, null_choice}
+use Rattle.ras_writing.specs.Replies.{transport_address, admission_confirm_additions}
+use Rattle.ras_writing.specs.Replies.{gatekeeper_confirm, admission_confirm, info_request}
+use Rattle.ras_writing.specs.Replies.{request_in_progress, protocol_identifier, gatekeeper_reject}
+use Rattle.ras_writing.specs.Replies.{unregistration_confirm, unregistration_reject}
+use Rattle.ras_writing.specs.Replies.{admission_reject, bandwidth_confirm, bandwidth_reject}
+use Rattle.ras_writing.specs.Replies.{disengage_confirm, disengage_reject}
+use Rattle.ras_writing.specs.Encoding.{in_order, padded_octets}
+use Rattle.ras_writing.specs.Encoding as encoding
+use Rattle.ras_writing.specs.Replies as replies
 use Rattle.ras_writing.specs.ReplyGrammar as grammar
 use Rattle.ras_writing.specs.ReplyGrammar.{reply_message, root_choice}
-use Rattle.ras_writing.proofs.Written.{IsEncoding, AreEncodings, done, one, part, none, alone, last}
-use Rattle.ras_writing.proofs.Written.{boolean_encoded}
-use Rattle.ras_writing.proofs.Written.{whole_encoded, index_encoded, small_encoded}
-use Rattle.ras_writing.proofs.Written.{identifier_written}
-use Rattle.ras_writing.proofs.Written.{address_written, inside_written, skipped_written}
-use Rattle.ras_writing.proofs.Written.{additions_written, front_written}
-
--- ---- reasons
-
-gatekeeper_reason_written : (reason : GatekeeperRejectReason) → AreEncodings
-    (root_choice 3 grammar.gatekeeper_reason) reason (null_choice 3
-    (replies.gatekeeper_reason reason))
-gatekeeper_reason_written gatekeeper.TerminalExcluded = one _ (boolean_encoded false) (one _
-    (index_encoded 3 1 (omega arith) (omega arith)) done)
-
-unreg_reason_written : (reason : UnregRejectReason) → AreEncodings
-    (root_choice 2 grammar.unreg_reason) reason (null_choice 2 (replies.unreg_reason reason))
-unreg_reason_written unreg.NotCurrentlyRegistered = one _ (boolean_encoded false) (one _
-    (index_encoded 2 0 (omega arith) (omega arith)) done)
-unreg_reason_written unreg.CallInProgress = one _ (boolean_encoded false) (one _ (index_encoded 2 1
-    (omega arith) (omega arith)) done)
-
-admission_reason_written : (reason : AdmissionRejectReason) → AreEncodings
-    (root_choice 7 grammar.admission_reason) reason (null_choice 7
-    (replies.admission_reason reason))
-admission_reason_written admission.CalledPartyNotRegistered = one _ (boolean_encoded false) (one _
-    (index_encoded 7 0 (omega arith) (omega arith)) done)
-admission_reason_written admission.RequestDenied = one _ (boolean_encoded false) (one _
-    (index_encoded 7 2 (omega arith) (omega arith)) done)
-admission_reason_written admission.InvalidEndpointIdentifier = one _ (boolean_encoded false) (one _
-    (index_encoded 7 6 (omega arith) (omega arith)) done)
-admission_reason_written admission.ResourceUnavailable = one _ (boolean_encoded false) (one _
-    (index_encoded 7 7 (omega arith) (omega arith)) done)
-
-band_reason_written : (reason : BandRejectReason) → AreEncodings
-    (root_choice 5 grammar.band_reason) reason (null_choice 5 (replies.band_reason reason))
-band_reason_written band.NotBound = one _ (boolean_encoded false) (one _ (index_encoded 5 0
-    (omega arith) (omega arith)) done)
-band_reason_written band.InvalidConferenceId = one _ (boolean_encoded false) (one _
-    (index_encoded 5 1
-    (omega arith) (omega arith)) done)
-band_reason_written band.InsufficientResources = one _ (boolean_encoded false) (one _
-    (index_encoded 5 3
-    (omega arith) (omega arith)) done)
-
-disengage_reason_written : (reason : DisengageRejectReason) → AreEncodings
-    (root_choice 1 grammar.disengage_reason) reason (null_choice 1
-    (replies.disengage_reason reason))
-disengage_reason_written disengage.NotRegistered = one _ (boolean_encoded false) (one _
-    (index_encoded 1 0 (omega arith) (omega arith)) done)
-disengage_reason_written disengage.RequestToDropOther = one _ (boolean_encoded false) (one _
-    (index_encoded 1 1 (omega arith) (omega arith)) done)
+use Rattle.ras_writing.proofs.AliasesWritten.{aliases_written}
+use Rattle.ras_writing.proofs.Written.{IsEncoding, AreEncodings, done, one, part, none, last}
+use Rattle.ras_writing.proofs.Written.{boolean_encoded, part_of, whole_encoded, index_encoded}
+use Rattle.ras_writing.proofs.Written.{small_encoded}
+use Rattle.ras_writing.proofs.TextsWritten.{identifier_written}
+use Rattle.ras_writing.proofs.AddressesWritten.{address_written, one_address_written}
+use Rattle.ras_writing.proofs.OpenTypesWritten.{bits_of-octets_in, inside_written}
+use Rattle.ras_writing.proofs.OpenTypesWritten.{additions_written}
+use Rattle.ras_writing.proofs.AdditionsWritten.{boolean_added, uuies_added, guid_added}
+use Rattle.ras_writing.proofs.AdditionsWritten.{time_to_live_written}
+use Rattle.ras_writing.proofs.ReasonsWritten.{gatekeeper_reason_written, unreg_reason_written}
+use Rattle.ras_writing.proofs.ReasonsWritten.{admission_reason_written, band_reason_written}
+use Rattle.ras_writing.proofs.ReasonsWritten.{disengage_reason_written, registration_reason_written}
 
 -- ---- what many messages share
 
@@ -150,145 +94,11 @@ model_written : AreEncodings (root_choice 1 grammar.call_model) tt (null_choice 
 model_written = one _ (boolean_encoded false) (one _ (index_encoded 1 0 (omega arith)
     (omega arith)) done)
 
-one_octet : length (encoding.in_order (encoding.octets (0 ∷ []) ∷ []) 0) ≡ 8 * 1
-unfolding octet
-one_octet = refl
-
-two_octets : length (encoding.in_order (encoding.octets (0 ∷ 0 ∷ []) ∷ []) 0) ≡ 8 * 2
-unfolding octet
-two_octets = refl
-
-guid_octets : length (encoding.in_order (encoding.boolean false ∷ encoding.octets
-    (replicate 16 0) ∷ []) 0) ≡ 8 * 17
-unfolding octet
-guid_octets = refl
-
--- ---- the additions that have a type
-
-zero_bits : in_order (encoding.octets (0 ∷ []) ∷ []) 0 ≡ (false ∷ []) ++ replicate 7 false
-unfolding octet
-zero_bits = refl
-
-boolean_added : AreEncodings (forms.optional true (forms.inside forms.boolean)) (Some false)
-    (encoding.size 1 ∷ encoding.octets (0 ∷ []) ∷ [])
-boolean_added = front_written forms.boolean 1 (encoding.octets (0 ∷ []) ∷ []) (false ∷ [])
-    (replicate 7 false) (omega arith) one_octet zero_bits refl
-
-abbrev ten_booleans : List encoding.Encoding
-ten_booleans =
-    encoding.boolean false ∷ encoding.boolean false ∷ encoding.boolean false ∷ encoding.boolean
-    false ∷ encoding.boolean false ∷ encoding.boolean false ∷ encoding.boolean false ∷
-    encoding.boolean false ∷ encoding.boolean false ∷ encoding.boolean false ∷ []
-
-uuies_written : AreEncodings grammar.uuies_requested tt ten_booleans
-unfolding grammar.uuies_requested
-uuies_written =
-    one _ (boolean_encoded false) (one _ (boolean_encoded false) (one _ (boolean_encoded false)
-    (one _ (boolean_encoded false) (one _ (boolean_encoded false) (one _ (boolean_encoded false)
-    (one _ (boolean_encoded false) (one _ (boolean_encoded false) (one _ (boolean_encoded false)
-    (one _ (boolean_encoded false) done)))))))))
-
-uuies_bits : in_order (encoding.octets (0 ∷ 0 ∷ []) ∷ []) 0 ≡ in_order ten_booleans 0 ++ replicate 6
-    false
-unfolding octet
-uuies_bits = refl
-
-uuies_added : AreEncodings (forms.optional true (forms.inside grammar.uuies_requested)) (Some tt)
-    (encoding.size 2 ∷ encoding.octets (0 ∷ 0 ∷ []) ∷ [])
-uuies_added = front_written grammar.uuies_requested 2 (encoding.octets (0 ∷ 0 ∷ []) ∷ [])
-    (in_order ten_booleans 0) (replicate 6 false) (omega arith) two_octets uuies_bits
-    (uuies_written.here 0 (omega arith))
-
-zeros_fit : (n : ℕ) → AllByRecursion (λ x. x < 256) (replicate n 0)
-zeros_fit zero = tt
-zeros_fit (suc n) = (lit< tt, zeros_fit n)
-
-abbrev guid_encoding : List encoding.Encoding
-guid_encoding = encoding.boolean false ∷ encoding.octets (replicate 16 0) ∷ []
-
-guid_written : AreEncodings sequences.call_identifier (replicate 16 0) guid_encoding
-unfolding sequences.call_identifier
-guid_written = record {
-  here = λ place _.
-      let zeros : List ℕ = replicate 16 0 in
-      let after = (place + 1) % 8 in
-      let octets = canonical.octets_encoding zeros after in (
-        false,
-        (
-          false ∷ [],
-          octets ++ [],
-          refl,
-          refl,
-          subst (λ (t : List Bool). (forms.octets 16).encodes zeros after t) (sym
-              (append-nil octets)) (octets_encode zeros after (zeros_fit 16)),
-        ),
-      );
-}
-
-guid_added : AreEncodings (forms.optional true (forms.inside sequences.call_identifier)) (Some
-    (replicate 16 0)) (encoding.size 17 ∷ guid_encoding)
-guid_added = front_written sequences.call_identifier 17 guid_encoding (in_order guid_encoding 0) []
-    (omega arith) guid_octets (sym (append-nil (in_order guid_encoding 0)))
-    (guid_written.here 0 (omega arith))
-
-registration_reason_written : (reason : RegistrationRejectReason) → IsReason reason
-    → AreEncodings grammar.registration_reject_reason reason (registration_reason reason)
-unfolding grammar.registration_reject_reason registration_reason
-registration_reason_written registration.DiscoveryRequired h = one _ (boolean_encoded false) (one _
-    (index_encoded 7 0 (omega arith) (omega arith)) done)
-registration_reason_written registration.InvalidCallSignalAddress h = one _ (boolean_encoded false)
-    (one _ (index_encoded 7 2 (omega arith) (omega arith)) done)
-registration_reason_written registration.InvalidRasAddress h = one _ (boolean_encoded false) (one _
-    (index_encoded 7 3 (omega arith) (omega arith)) done)
-registration_reason_written (registration.DuplicateAlias held) h = one _ (boolean_encoded false)
-    (one _ (index_encoded 7 4 (omega arith) (omega arith)) (last _ (aliases_written held h) done))
-registration_reason_written registration.ResourceUnavailable h = one _ (boolean_encoded true) (one _
-    (small_encoded 1 (omega arith)) (last _ (skipped_written 1 (encoding.octets (0 ∷ []) ∷ [])
-    (omega arith) one_octet) done))
-registration_reason_written registration.FullRegistrationRequired h = one _ (boolean_encoded true)
-    (one _ (small_encoded 4 (omega arith)) (last _ (skipped_written 1 (encoding.octets
-    (0 ∷ []) ∷ [])
-    (omega arith) one_octet) done))
-
 optional_written : (list : List Alias) → AreAliases list → AreEncodings (aliases.optional_aliases
     (has_aliases list)) list (terminal_alias list)
 unfolding terminal_alias
 optional_written [] h = done
 optional_written (x ∷ xs) h = aliases_written (x ∷ xs) h
-
-width_two : width (octets_for 4294967294 - 1) ≡ 2
-unfolding width
-width_two = refl
-
-time_to_live_length : (granted : ℕ) → length (in_order (encoding.whole 1 4294967295 granted ∷ [])
-    0) ≡ 8 * time_to_live_octets granted
-unfolding offset_encoding wide_encoding
-time_to_live_length granted =
-    let own = octets_for (granted - 1) in
-    let front = binary (width (octets_for 4294967294 - 1)) (own - 1) in
-    let rest = binary (8 * own) (granted - 1) in
-    let two : length front ≡ 2 = length-binary (width (octets_for 4294967294 - 1)) (own - 1)
-    ∙ width_two in
-    let zeros = pad ((0 + length front) % 8) in
-    omega (
-      arith,
-      length-append (front ++ (zeros ++ rest)) [],
-      length-append front
-          (zeros ++ rest),
-      length-append zeros rest,
-      length-replicate (pad_length
-          ((0 + length front) % 8)) false,
-      length-binary (8 * own) (granted - 1),
-    )
-
-time_to_live_written : (granted : ℕ) → 1 ≤ granted → granted ≤ 4294967295
-    → AreEncodings (forms.inside sequences.time_to_live) granted (encoding.size
-    (time_to_live_octets granted) ∷ encoding.whole 1 4294967295 granted ∷ [])
-time_to_live_written granted low high =
-    let most : width (granted - 1) ≤ 32 = width_least 32 (granted - 1) (omega arith) in
-    inside_written sequences.time_to_live (time_to_live_octets granted)
-    (encoding.whole 1 4294967295 granted ∷ []) (omega arith) (time_to_live_length granted)
-    (alone (whole_encoded 1 4294967295 granted low high (omega arith)))
 
 -- ---- the messages
 
