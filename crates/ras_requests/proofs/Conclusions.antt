@@ -6,13 +6,14 @@ use Rattle.std.specs.FinMap as fin
 use Rattle.ras_module.specs.declared.reply.Reply.{Reply}
 use Rattle.ras_module.specs.declared.reason.RegistrationRejectReason.TheVariants as reject
 use reject.{FullRegistrationRequired}
+use Rattle.ras_module.specs.declared.request.RegistrationRequest.{RegistrationRequest}
 use Rattle.registrations.specs.declared.registration.Registration.{Registration}
 use Rattle.registrations.specs.Registry.{IsConsistent}
 use Rattle.zone_tables.specs.declared.change.Change.TheVariants.{Endpoint}
 use Rattle.zone_tables.specs.declared.change.EndpointChange.TheVariants.{Renewal}
 use Rattle.zone_tables.specs.Tables.{Tables}
 use Rattle.ras_requests.specs.Rrq.{keep_alive, named, has_moved, confirmation, deadline}
-use Rattle.ras_requests.specs.Rrq.{RegistrationRequest, rejection}
+use Rattle.ras_requests.specs.Rrq.{rejection}
 use Rattle.ras_requests.specs.Conclusions.{Decides, served}
 use Rattle.ras_requests.specs.Plans.{Settled}
 use Rattle.zone_tables.proofs.Answered.{is_there}

@@ -4,9 +4,9 @@ use Rattle.std.proofs.Common.{ap, Some, arith}
 use Rattle.std.specs.Prelude.{nat_le, if◌then◌else◌}
 use Rattle.std.specs.FinMap as fin
 use Rattle.std.proofs.lemmas.Bool.Decides.{nat_tests}
+use Rattle.ras_module.specs.declared.request.BandwidthRequest.{BandwidthRequest}
 use Rattle.admission.specs.declared.call.Call.{Call}
 use Rattle.admission.specs.Calls.{in_use}
-use Rattle.ras_requests.specs.declared.brq.BandwidthRequest.{BandwidthRequest}
 use Rattle.zone_tables.specs.declared.unit_request.Purpose.TheVariants.{Raising}
 use Rattle.zone_tables.specs.Tables.{Tables}
 use Rattle.ras_requests.specs.Brq.{lowering, raising, resizing, room, staying, wanted}

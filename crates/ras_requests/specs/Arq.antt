@@ -1,16 +1,14 @@
 -- Admission of calls (H.323, 7.2.4; H.225.0: ARQ, ACF, ARJ). Each case applies where none above it
 -- does.
-use Rattle.std.specs.Prelude.{ℕ, ◌==◌, Bool, min, List, length, Option, None, Some}
-use Rattle.std.specs.Prelude.{if◌then◌else◌}
+use Rattle.std.specs.Prelude.{ℕ, ◌==◌, min, length, Option, None, Some, if◌then◌else◌}
 use Rattle.std.specs.FinMap.{get, insert, len}
 use Rattle.keyed.specs.Maps.{update}
 use Rattle.ras_module.specs.declared.address.Address.{Address}
-use Rattle.ras_module.specs.declared.alias.Alias.{Alias}
-use Rattle.ras_module.specs.declared.call_key.CallKey.{CallKey}
 use Rattle.ras_module.specs.declared.reason.AdmissionRejectReason.{AdmissionRejectReason}
 use Rattle.ras_module.specs.declared.reason.AdmissionRejectReason.TheVariants as reject
 use reject.{CalledPartyNotRegistered, RequestDenied, InvalidEndpointIdentifier, ResourceUnavailable}
 use Rattle.ras_module.specs.declared.reply.Reply.TheVariants.{Acf, Arj}
+use Rattle.ras_module.specs.declared.request.AdmissionRequest.{AdmissionRequest}
 use Rattle.zone_tables.specs.Translation.{translation}
 use Rattle.registrations.specs.declared.registration.Registration.{Registration}
 use Rattle.admission.specs.declared.call.Call.{Call}
@@ -21,16 +19,6 @@ use Rattle.zone_config.specs.Networks.{pool_of}
 use Rattle.ras_requests.specs.Standing.{Standing, NoCall, NoLeg, HasLeg, standing}
 use Rattle.ras_requests.specs.Brq.{room, wanted}
 use Rattle.ras_requests.specs.Plans.{Served, Plan, Settled, Asking, unchanged}
-
--- an AdmissionRequest (H.225.0, ARQ)
-pub record AdmissionRequest : Type 0 where
-  pub seq : ℕ
-  pub endpoint : List ℕ
-  pub dest : List Alias
-  pub dest_address : Option Address
-  pub asked : ℕ
-  pub call : CallKey
-  pub answer : Bool
 
 -- address translation: who answers a call is told its own address; who makes one is told that of
 -- the first alias that is registered, else the address that it gave

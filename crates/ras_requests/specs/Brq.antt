@@ -7,10 +7,10 @@ use Rattle.ras_module.specs.declared.reason.BandRejectReason.TheVariants.{NotBou
 use Rattle.ras_module.specs.declared.reason.BandRejectReason.TheVariants.{InvalidConferenceId}
 use Rattle.ras_module.specs.declared.reason.BandRejectReason.TheVariants.{InsufficientResources}
 use Rattle.ras_module.specs.declared.reply.Reply.TheVariants.{Bcf, Brj}
+use Rattle.ras_module.specs.declared.request.BandwidthRequest.{BandwidthRequest}
 use Rattle.registrations.specs.declared.registration.Registration.{Registration}
 use Rattle.admission.specs.declared.call.Call.{Call}
 use Rattle.admission.specs.Calls.{in_use, with_units}
-use Rattle.ras_requests.specs.declared.brq.BandwidthRequest.{BandwidthRequest}
 use Rattle.zone_tables.specs.Tables.{Tables, with_calls}
 use Rattle.zone_tables.specs.Pools.{pools_after_return}
 use Rattle.ras_requests.specs.Standing.{Standing, NoCall, NoLeg, HasLeg, standing}

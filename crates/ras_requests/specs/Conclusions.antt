@@ -4,7 +4,6 @@ use Rattle.std.specs.Prelude.{◌≡◌, ℕ, List, Option, None, Some, IfSome}
 use Rattle.std.specs.FinMap.{get}
 use Rattle.ras_module.specs.declared.reply.Reply.TheVariants.{Rcf}
 use Rattle.ras_module.specs.declared.request.Request.{Request}
-use Rattle.ras_module.specs.declared.request.Request.TheVariants.{Arq, Brq, Drq}
 use Rattle.registrations.specs.declared.registration.Registration.{Registration}
 use Rattle.zone_tables.specs.declared.change.Change.TheVariants.{Endpoint}
 use Rattle.zone_tables.specs.declared.change.EndpointChange.TheVariants.{Addition}
@@ -82,13 +81,6 @@ Concludes z now plan (conclusion.Asking q) = RequestsUnits z plan q
 abbrev pub IsConclusion : Tables → ℕ → Request → Conclusion → Type 0
 IsConclusion z now request c =
     (plan : Plan) → plan_of z now request ≡ Some plan → Concludes z now plan c
-
--- a request about a call
-abbrev pub IsAboutCalls : Request → Type 0
-IsAboutCalls (Arq seq endpoint dest dest_address asked call answer) = Unit {0}
-IsAboutCalls (Brq seq endpoint call asked) = Unit {0}
-IsAboutCalls (Drq seq endpoint call) = Unit {0}
-IsAboutCalls other = ⊥
 
 -- a question is put for this requestSeqNum and this endpoint
 abbrev pub IsFor : ℕ → Option (List ℕ) → Conclusion → Type 0

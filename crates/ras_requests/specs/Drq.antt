@@ -5,10 +5,10 @@ use Rattle.std.specs.FinMap.{get}
 use Rattle.ras_module.specs.declared.reason.DisengageRejectReason.TheVariants.{NotRegistered}
 use Rattle.ras_module.specs.declared.reason.DisengageRejectReason.TheVariants.{RequestToDropOther}
 use Rattle.ras_module.specs.declared.reply.Reply.TheVariants.{Dcf, Drj}
+use Rattle.ras_module.specs.declared.request.DisengageRequest.{DisengageRequest}
 use Rattle.registrations.specs.declared.registration.Registration.{Registration}
 use Rattle.admission.specs.declared.leg.Leg.{Leg}
 use Rattle.admission.specs.Calls.{leg_at}
-use Rattle.ras_requests.specs.declared.drq.DisengageRequest.{DisengageRequest}
 use Rattle.zone_tables.specs.Tables.{Tables}
 use Rattle.zone_tables.specs.Disengaging.{without_leg_of}
 use Rattle.ras_requests.specs.Plans.{Plan, Settled, unchanged}

@@ -4,6 +4,7 @@ use Rattle.std.specs.Cmp.Lexicographic.{pointwise}
 use Rattle.ras_module.specs.declared.reason.GatekeeperRejectReason.TheVariants.{TerminalExcluded}
 use Rattle.ras_module.specs.declared.reply.Reply.{Reply}
 use Rattle.ras_module.specs.declared.reply.Reply.TheVariants.{Gcf, Grj}
+use Rattle.ras_module.specs.declared.request.GatekeeperRequest.{GatekeeperRequest}
 use Rattle.zone_tables.specs.Tables.{Tables}
 
 -- a gatekeeper was named, and it is another one (H.225.0, gatekeeperIdentifier)
@@ -13,8 +14,8 @@ is_foreign z (Some name) = not (pointwise nat_eq name z.config.identifier)
 
 -- The gatekeeper makes itself known, with its name and its RAS address, to whoever asks for
 -- none or for this one.
-abbrev pub discovery : Tables → ℕ → Option (List ℕ) → Reply
-discovery z seq gatekeeper =
-    if is_foreign z gatekeeper
-    then Grj seq TerminalExcluded
-    else Gcf seq z.config.identifier z.config.address
+abbrev pub discovery : Tables → GatekeeperRequest → Reply
+discovery z q =
+    if is_foreign z q.gatekeeper
+    then Grj q.seq TerminalExcluded
+    else Gcf q.seq z.config.identifier z.config.address

@@ -12,6 +12,7 @@ use reject.{DiscoveryRequired, InvalidCallSignalAddress, InvalidRasAddress, Dupl
 use reject.{ResourceUnavailable, FullRegistrationRequired}
 use Rattle.ras_module.specs.declared.reply.Reply.{Reply}
 use Rattle.ras_module.specs.declared.reply.Reply.TheVariants.{Rcf, Rrj}
+use Rattle.ras_module.specs.declared.request.RegistrationRequest.{RegistrationRequest}
 use Rattle.ras_module.specs.Addresses.{same_address}
 use Rattle.ras_module.specs.Aliases.{without_doubles}
 use Rattle.registrations.specs.declared.registration.Registration.{Registration}
@@ -21,17 +22,6 @@ use Rattle.zone_tables.specs.declared.entry.Entry.{Entry}
 use Rattle.zone_tables.specs.Tables.{Tables, with_live, heard_now}
 use Rattle.ras_requests.specs.Plans.{Served, Plan, Settled, Naming, unchanged}
 use Rattle.ras_requests.specs.Grq.{is_foreign}
-
--- a RegistrationRequest (H.225.0, RRQ)
-pub record RegistrationRequest : Type 0 where
-  pub seq : ℕ
-  pub call_signal : Option Address
-  pub ras : Option Address
-  pub aliases : List Alias
-  pub gatekeeper : Option (List ℕ)
-  pub time_to_live : Option ℕ
-  pub keep_alive : Bool
-  pub endpoint : Option (List ℕ)
 
 -- the time to live that is granted, in seconds: what was asked, but no more than the zone's
 abbrev pub granted : Tables → Option ℕ → ℕ

@@ -5,9 +5,9 @@ use Rattle.ras_module.specs.declared.address.Address.{Address}
 use Rattle.ras_module.specs.declared.reason.UnregRejectReason.TheVariants.{NotCurrentlyRegistered}
 use Rattle.ras_module.specs.declared.reason.UnregRejectReason.TheVariants.{CallInProgress}
 use Rattle.ras_module.specs.declared.reply.Reply.TheVariants.{Ucf, Urj}
+use Rattle.ras_module.specs.declared.request.UnregistrationRequest.{UnregistrationRequest}
 use Rattle.registrations.specs.declared.registration.Registration.{Registration}
 use Rattle.registrations.specs.Registry.{at_address}
-use Rattle.ras_requests.specs.declared.urq.UnregistrationRequest.{UnregistrationRequest}
 use Rattle.admission.specs.Calls.{legs_of}
 use Rattle.zone_tables.specs.Tables.{Tables, with_live}
 use Rattle.ras_requests.specs.Plans.{Plan, Settled, unchanged}

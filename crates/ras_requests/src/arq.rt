@@ -12,46 +12,15 @@ use crate::brq::{room, wanted};
 use crate::conclusion::{Conclusion, Decision};
 use admission::{Call, Leg};
 use pools::Pool;
-use ras_module::{
-    Address, AdmissionRejectReason, AliasList, CallKey, EndpointId, Reply, RequestSeqNum,
-};
+use ras_module::{Address, AdmissionRejectReason, AdmissionRequest, Reply};
 use registrations::Registration;
-use std::marker::Model;
 use zone_config::Moment;
 use zone_tables::{CallChange, Change, Purpose, UnitRequest, ZoneTables};
-
-/// An AdmissionRequest (H.225.0, ARQ). The aliases that it calls stay where they were read.
-#[derive(Drop)]
-pub struct AdmissionRequest<'a> {
-    pub seq: RequestSeqNum,
-    pub endpoint: EndpointId,
-    pub dest: &'a AliasList,
-    pub dest_address: Option<Address>,
-    pub asked: u32,
-    pub call: CallKey,
-    pub answer: bool,
-}
-
-impl<'a> Model for AdmissionRequest<'a> {
-    ghost use Rattle.ras_requests.specs.Arq as arq;
-
-    ghost Value = { arq.AdmissionRequest };
-
-    ghost view = { λ q. record {
-      seq = q.seq;
-      endpoint = q.endpoint;
-      dest = q.dest.now;
-      dest_address = q.dest_address;
-      asked = q.asked;
-      call = q.call;
-      answer = q.answer;
-    } };
-}
 
 /// The address that an endpoint is told to call.
 fn destination<P: Pool>(
     tables: &ZoneTables<P>,
-    q: &AdmissionRequest<'_>,
+    q: &AdmissionRequest,
     caller: &Registration,
 ) -> Option<Address>
     ensures { result ≡ destination tables.now.zone q.now (Some caller.now) }
@@ -66,7 +35,7 @@ fn destination<P: Pool>(
 fn join<P: Pool>(
     tables: &ZoneTables<P>,
     now: Moment,
-    q: &AdmissionRequest<'_>,
+    q: &AdmissionRequest,
     call: &Call,
     told: Address,
 ) -> Decision
@@ -92,7 +61,7 @@ fn join<P: Pool>(
 fn make<P: Pool>(
     tables: &ZoneTables<P>,
     now: Moment,
-    q: &AdmissionRequest<'_>,
+    q: &AdmissionRequest,
     pool: usize,
     told: Address,
 ) -> Conclusion
@@ -129,7 +98,7 @@ fn make<P: Pool>(
 fn enter_call<P: Pool>(
     tables: &ZoneTables<P>,
     now: Moment,
-    q: &AdmissionRequest<'_>,
+    q: &AdmissionRequest,
     caller: &Registration,
     call: &Call,
 ) -> Decision
@@ -157,7 +126,7 @@ fn enter_call<P: Pool>(
 fn make_call<P: Pool>(
     tables: &ZoneTables<P>,
     now: Moment,
-    q: &AdmissionRequest<'_>,
+    q: &AdmissionRequest,
     caller: &Registration,
 ) -> Conclusion
     requires endpoint { fin.get tables.now.zone.live q.now.endpoint ≡ Some caller.now }
@@ -185,7 +154,7 @@ fn pool_of<P: Pool>(tables: &ZoneTables<P>, address: Address) -> usize
 pub(crate) fn admit<P: Pool>(
     tables: &ZoneTables<P>,
     now: Moment,
-    q: &AdmissionRequest<'_>,
+    q: &AdmissionRequest,
 ) -> Conclusion
     ensures concludes { Concludes tables.now.zone now (admission tables.now.zone q.now) result }
     ensures about { IsFor q.now.seq (Some q.now.endpoint) result }
@@ -201,7 +170,7 @@ pub(crate) fn admit<P: Pool>(
 }
 
 /// An AdmissionReject.
-fn denial(q: &AdmissionRequest<'_>, reason: AdmissionRejectReason) -> Decision
+fn denial(q: &AdmissionRequest, reason: AdmissionRejectReason) -> Decision
     ensures { result ≡ record {
       reply = Reply.Arj q.now.seq reason;
       change = Change.Nothing;
@@ -211,7 +180,7 @@ fn denial(q: &AdmissionRequest<'_>, reason: AdmissionRejectReason) -> Decision
 }
 
 /// The endpoint's leg, which keeps the address that it is told.
-fn leg_told(q: &AdmissionRequest<'_>, told: Address) -> Leg
+fn leg_told(q: &AdmissionRequest, told: Address) -> Leg
     ensures { result ≡ leg_told q.now told }
 {
     Leg {
@@ -221,7 +190,7 @@ fn leg_told(q: &AdmissionRequest<'_>, told: Address) -> Leg
 }
 
 /// A call that wants no units opens without asking a pool.
-fn opening_without_units(q: &AdmissionRequest<'_>, pool: usize, told: Address) -> Decision
+fn opening_without_units(q: &AdmissionRequest, pool: usize, told: Address) -> Decision
     ensures { result ≡ record {
       reply = Reply.Acf q.now.seq 0 told;
       change = Change.Calls (CallChange.Opening q.now.call pool (leg_told q.now told));

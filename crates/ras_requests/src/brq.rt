@@ -8,18 +8,9 @@ ghost use Rattle.ras_requests.specs.Conclusions.{Concludes, IsFor};
 use crate::conclusion::{Conclusion, Decision};
 use admission::Call;
 use pools::Pool;
-use ras_module::{BandRejectReason, CallKey, EndpointId, Reply, RequestSeqNum};
+use ras_module::{BandRejectReason, BandwidthRequest, Reply};
 use zone_config::Moment;
 use zone_tables::{CallChange, Change, Purpose, UnitRequest, ZoneTables};
-
-/// A BandwidthRequest (H.225.0, BRQ).
-#[derive(Clone, Copy)]
-pub struct BandwidthRequest {
-    pub seq: RequestSeqNum,
-    pub endpoint: EndpointId,
-    pub call: CallKey,
-    pub asked: u32,
-}
 
 /// The units that the zone has left.
 pub(crate) fn room<P: Pool>(tables: &ZoneTables<P>) -> u64

@@ -6,17 +6,9 @@ ghost use Rattle.ras_requests.specs.Conclusions.{Decides};
 
 use crate::conclusion::Decision;
 use pools::Pool;
-use ras_module::{CallKey, DisengageRejectReason, EndpointId, Reply, RequestSeqNum};
+use ras_module::{DisengageRejectReason, DisengageRequest, Reply};
 use zone_config::Moment;
 use zone_tables::{CallChange, Change, ZoneTables};
-
-/// A DisengageRequest (H.225.0, DRQ).
-#[derive(Clone, Copy)]
-pub struct DisengageRequest {
-    pub seq: RequestSeqNum,
-    pub endpoint: EndpointId,
-    pub call: CallKey,
-}
 
 /// What is decided about a DisengageRequest.
 pub(crate) fn disengage<P: Pool>(

@@ -4,7 +4,7 @@ ghost use Rattle.std.specs.Prelude.{◌≡◌};
 ghost use Rattle.ras_requests.specs.Grq.{discovery, is_foreign};
 
 use pools::Pool;
-use ras_module::{GatekeeperRejectReason, Name, Reply, RequestSeqNum};
+use ras_module::{GatekeeperRejectReason, GatekeeperRequest, Name, Reply};
 use zone_tables::ZoneTables;
 
 /// Whether another gatekeeper than this one is named.
@@ -18,22 +18,18 @@ pub(crate) fn is_foreign<P: Pool>(tables: &ZoneTables<P>, name: &Option<Name>) -
 }
 
 /// The reply to a GatekeeperRequest.
-pub(crate) fn discover<P: Pool>(
-    tables: &ZoneTables<P>,
-    seq: RequestSeqNum,
-    gatekeeper: &Option<Name>,
-) -> Reply
-    ensures { result ≡ discovery tables.now.zone seq gatekeeper.now }
+pub(crate) fn discover<P: Pool>(tables: &ZoneTables<P>, q: &GatekeeperRequest) -> Reply
+    ensures { result ≡ discovery tables.now.zone q.now }
 {
-    if is_foreign(tables, gatekeeper) {
+    if is_foreign(tables, &q.gatekeeper) {
         return Reply::Grj {
-            seq,
+            seq: q.seq,
             reason: GatekeeperRejectReason::TerminalExcluded,
         };
     }
     let parts = tables.config().parts();
     Reply::Gcf {
-        seq,
+        seq: q.seq,
         gatekeeper: parts.identifier,
         ras: parts.address,
     }

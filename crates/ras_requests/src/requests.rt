@@ -2,15 +2,15 @@
 
 ghost use Rattle.std.specs.Prelude.{IfOk};
 ghost use Rattle.ras_requests.specs.Requests.{HasReply, endpoint_of, seq_of};
-ghost use Rattle.ras_requests.specs.Conclusions.{IsAboutCalls, IsConclusion, IsFor};
+ghost use Rattle.ras_requests.specs.Conclusions.{IsConclusion, IsFor};
 
-use crate::arq::{AdmissionRequest, admit};
-use crate::brq::{BandwidthRequest, change_bandwidth};
+use crate::arq::admit;
+use crate::brq::change_bandwidth;
 use crate::conclusion::{Conclusion, Decision};
-use crate::drq::{DisengageRequest, disengage};
+use crate::drq::disengage;
 use crate::grq::discover;
-use crate::rrq::{RegistrationRequest, register};
-use crate::urq::{UnregistrationRequest, unregister};
+use crate::rrq::register;
+use crate::urq::unregister;
 use pools::Pool;
 use ras_module::Request;
 use std::alloc::AllocError;
@@ -29,101 +29,12 @@ pub fn decide<P: Pool>(
     ensures about { IfOk result (IsFor (seq_of request.now) (endpoint_of request.now)) }
 {
     match request {
-        Request::Grq { seq, gatekeeper } => {
-            let decision = Decision::reply(discover(tables, *seq, gatekeeper));
-            Ok(Conclusion::Settled(decision))
-        }
-        Request::Rrq {
-            seq,
-            call_signal,
-            ras,
-            aliases,
-            gatekeeper,
-            time_to_live,
-            keep_alive,
-            endpoint,
-        } => {
-            let q = RegistrationRequest {
-                seq: *seq,
-                call_signal: *call_signal,
-                ras: *ras,
-                aliases,
-                gatekeeper: *gatekeeper,
-                time_to_live: *time_to_live,
-                keep_alive: *keep_alive,
-                endpoint: *endpoint,
-            };
-            register(tables, now, &q)
-        }
-        Request::Urq {
-            seq,
-            call_signal,
-            endpoint,
-        } => {
-            let q = UnregistrationRequest {
-                seq: *seq,
-                call_signal: *call_signal,
-                endpoint: *endpoint,
-            };
-            Ok(Conclusion::Settled(unregister(tables, now, &q)))
-        }
-        _ => Ok(decide_call(tables, now, request)),
-    }
-}
-
-/// What is decided about a request about a call.
-fn decide_call<P: Pool>(tables: &ZoneTables<P>, now: Moment, request: &Request) -> Conclusion
-    requires { IsAboutCalls request.now }
-    ensures concludes { IsConclusion tables.now.zone now request.now result }
-    ensures about { IsFor (seq_of request.now) (endpoint_of request.now) result }
-{
-    match request {
-        Request::Arq {
-            seq,
-            endpoint,
-            dest,
-            dest_address,
-            asked,
-            call,
-            answer,
-        } => {
-            let q = AdmissionRequest {
-                seq: *seq,
-                endpoint: *endpoint,
-                dest,
-                dest_address: *dest_address,
-                asked: *asked,
-                call: *call,
-                answer: *answer,
-            };
-            admit(tables, now, &q)
-        }
-        Request::Brq {
-            seq,
-            endpoint,
-            call,
-            asked,
-        } => {
-            let q = BandwidthRequest {
-                seq: *seq,
-                endpoint: *endpoint,
-                call: *call,
-                asked: *asked,
-            };
-            change_bandwidth(tables, now, &q)
-        }
-        Request::Drq {
-            seq,
-            endpoint,
-            call,
-        } => {
-            let q = DisengageRequest {
-                seq: *seq,
-                endpoint: *endpoint,
-                call: *call,
-            };
-            Conclusion::Settled(disengage(tables, now, &q))
-        }
-        _ => unreachable!(),
+        Request::Grq(q) => Ok(Conclusion::Settled(Decision::reply(discover(tables, q)))),
+        Request::Rrq(q) => register(tables, now, q),
+        Request::Urq(q) => Ok(Conclusion::Settled(unregister(tables, now, q))),
+        Request::Arq(q) => Ok(admit(tables, now, q)),
+        Request::Brq(q) => Ok(change_bandwidth(tables, now, q)),
+        Request::Drq(q) => Ok(Conclusion::Settled(disengage(tables, now, q))),
+        Request::Irr(_) => unreachable!(),
     }
 }

@@ -12,44 +12,13 @@ use crate::conclusion::{Conclusion, Decision, Newcomer};
 use crate::grq::is_foreign;
 use pools::Pool;
 use ras_module::{
-    Address, AliasList, EndpointId, Name, RegistrationRejectReason, Reply, ReplyAliases,
-    RequestSeqNum, TimeToLive,
+    Address, EndpointId, RegistrationRejectReason, RegistrationRequest, Reply, ReplyAliases,
+    TimeToLive,
 };
 use registrations::Registration;
 use std::alloc::AllocError;
-use std::marker::Model;
 use zone_config::Moment;
 use zone_tables::{Change, EndpointChange, Entry, ZoneTables};
-
-/// A RegistrationRequest (H.225.0, RRQ). Its aliases stay where they were read.
-#[derive(Drop)]
-pub struct RegistrationRequest<'a> {
-    pub seq: RequestSeqNum,
-    pub call_signal: Option<Address>,
-    pub ras: Option<Address>,
-    pub aliases: &'a AliasList,
-    pub gatekeeper: Option<Name>,
-    pub time_to_live: Option<TimeToLive>,
-    pub keep_alive: bool,
-    pub endpoint: Option<EndpointId>,
-}
-
-impl<'a> Model for RegistrationRequest<'a> {
-    ghost use Rattle.ras_requests.specs.Rrq as rrq;
-
-    ghost Value = { rrq.RegistrationRequest };
-
-    ghost view = { λ q. record {
-      seq = q.seq;
-      call_signal = q.call_signal;
-      ras = q.ras;
-      aliases = q.aliases.now;
-      gatekeeper = q.gatekeeper;
-      time_to_live = q.time_to_live;
-      keep_alive = q.keep_alive;
-      endpoint = q.endpoint;
-    } };
-}
 
 /// The time to live that is granted.
 fn granted<P: Pool>(tables: &ZoneTables<P>, asked: Option<TimeToLive>) -> TimeToLive
@@ -63,7 +32,7 @@ fn granted<P: Pool>(tables: &ZoneTables<P>, asked: Option<TimeToLive>) -> TimeTo
 }
 
 /// When a registration of this moment ends, in milliseconds.
-fn deadline<P: Pool>(tables: &ZoneTables<P>, now: Moment, q: &RegistrationRequest<'_>) -> u64
+fn deadline<P: Pool>(tables: &ZoneTables<P>, now: Moment, q: &RegistrationRequest) -> u64
     ensures { result ≡ deadline tables.now.zone now q.now }
 {
     let granted = granted(tables, q.time_to_live);
@@ -72,7 +41,7 @@ fn deadline<P: Pool>(tables: &ZoneTables<P>, now: Moment, q: &RegistrationReques
 
 fn confirmation<P: Pool>(
     tables: &ZoneTables<P>,
-    q: &RegistrationRequest<'_>,
+    q: &RegistrationRequest,
     call_signal: Address,
     aliases: ReplyAliases,
     endpoint: EndpointId,
@@ -93,7 +62,7 @@ fn confirmation<P: Pool>(
 fn keep_alive<P: Pool>(
     tables: &ZoneTables<P>,
     now: Moment,
-    q: &RegistrationRequest<'_>,
+    q: &RegistrationRequest,
 ) -> Result<Decision, AllocError>
     ensures { IfOk result (Decides tables.now.zone now
         (keep_alive tables.now.zone now q.now (named tables.now.zone q.now.endpoint))) }
@@ -117,7 +86,7 @@ fn keep_alive<P: Pool>(
 fn register_fully<P: Pool>(
     tables: &ZoneTables<P>,
     now: Moment,
-    q: &RegistrationRequest<'_>,
+    q: &RegistrationRequest,
 ) -> Result<Conclusion, AllocError>
     ensures concludes { IfOk result (Concludes tables.now.zone now
         (full_registration tables.now.zone now q.now q.now.call_signal q.now.ras
@@ -149,7 +118,7 @@ fn register_fully<P: Pool>(
 fn enter<P: Pool>(
     tables: &ZoneTables<P>,
     now: Moment,
-    q: &RegistrationRequest<'_>,
+    q: &RegistrationRequest,
     entry: Entry,
 ) -> Result<Conclusion, AllocError>
     requires { registered_elsewhere tables.now.zone.live entry.call_signal entry.aliases ≡ [] }
@@ -184,7 +153,7 @@ fn enter<P: Pool>(
 pub(crate) fn register<P: Pool>(
     tables: &ZoneTables<P>,
     now: Moment,
-    q: &RegistrationRequest<'_>,
+    q: &RegistrationRequest,
 ) -> Result<Conclusion, AllocError>
     ensures concludes { IfOk result (Concludes tables.now.zone now
         (registration tables.now.zone now q.now)) }
@@ -201,7 +170,7 @@ pub(crate) fn register<P: Pool>(
 }
 
 /// A RegistrationReject.
-fn rejection(q: &RegistrationRequest<'_>, reason: RegistrationRejectReason) -> Decision
+fn rejection(q: &RegistrationRequest, reason: RegistrationRejectReason) -> Decision
     ensures { result ≡ record {
       reply = Reply.Rrj q.now.seq reason;
       change = Change.Nothing;
@@ -211,7 +180,7 @@ fn rejection(q: &RegistrationRequest<'_>, reason: RegistrationRejectReason) -> D
 }
 
 /// A request that is settled by a RegistrationReject.
-fn rejected(q: &RegistrationRequest<'_>, reason: RegistrationRejectReason) -> Conclusion
+fn rejected(q: &RegistrationRequest, reason: RegistrationRejectReason) -> Conclusion
     ensures { result ≡ Conclusion.Settled (record {
       reply = Reply.Rrj q.now.seq reason;
       change = Change.Nothing;

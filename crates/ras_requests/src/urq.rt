@@ -7,17 +7,9 @@ ghost use Rattle.ras_requests.specs.Conclusions.{Decides};
 
 use crate::conclusion::Decision;
 use pools::Pool;
-use ras_module::{Address, EndpointId, Reply, RequestSeqNum, UnregRejectReason};
+use ras_module::{EndpointId, Reply, UnregRejectReason, UnregistrationRequest};
 use zone_config::Moment;
 use zone_tables::{Change, EndpointChange, ZoneTables};
-
-/// An UnregistrationRequest (H.225.0, URQ).
-#[derive(Clone, Copy)]
-pub struct UnregistrationRequest {
-    pub seq: RequestSeqNum,
-    pub call_signal: Option<Address>,
-    pub endpoint: Option<EndpointId>,
-}
 
 /// The endpoint that an UnregistrationRequest names: by its identifier if it has one, else by its
 /// address.

@@ -1,5 +1,5 @@
 use Rattle.std.proofs.Common.{◌∙◌, sym, ap}
-use Rattle.ras_requests.specs.Rrq.{RegistrationRequest, confirmation, has_moved}
+use Rattle.ras_requests.specs.Rrq.{confirmation}
 use Rattle.ras_requests.proofs.Conclusions.{Decides-renewal}
 use Rattle.ras_requests.proofs.rrq.keep_alive.Goals as goal
 
@@ -10,10 +10,7 @@ returns g c =
     let r = c.in-Some-get.r.now in
     Decides-renewal z c.args.now q c.in-Some.id r c.confirmation.result c.deadline.result
     c.get.ensures.sound
-    (sym (ap (λ (q : RegistrationRequest). q.endpoint) c.q.view_is) ∙ c.in-Some.is)
-    (sym c.in-Some-get.ensures.found)
-    (sym (c.if-has_moved.ensures
-    ∙ ap (λ (q : RegistrationRequest). has_moved r q.ras) c.q.view_is))
+    c.in-Some.is (sym c.in-Some-get.ensures.found) (sym c.if-has_moved.ensures)
     (c.confirmation.ensures
     ∙ ap (λ xs. confirmation z q r.call_signal xs r.identifier) c.in_ok-copy.ensures)
     c.deadline.ensures
