@@ -4,7 +4,7 @@ use crate::making::{address, endpoint, no_alias, seq};
 use admission::{Calls, Leg};
 use expiry::{DueItem, Times, due};
 use kept_replies::{Kept, KeptKey};
-use ras_module::{CallKey, Delay, EndpointId, Octets, Reply, Request};
+use ras_module::{CallKey, Delay, DisengageRequest, EndpointId, Octets, Reply, Request};
 use registrations::{Registration, Registrations};
 use std::alloc::Global;
 use std::test::Fail;
@@ -77,11 +77,11 @@ fn pend(alloc: Global, kept: &mut Kept) -> Result<(), Fail> {
         return Err(Fail::from("there is no place"));
     }
     kept.reserve(0)?;
-    let request = Request::Drq {
+    let request = Request::Drq(DisengageRequest {
         seq: seq(7),
         endpoint: endpoint(FIRST),
         call: CALL,
-    };
+    });
     let reply = Reply::Rip {
         seq: seq(7),
         delay: Delay::new(1500).unwrap(),

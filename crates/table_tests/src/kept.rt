@@ -2,7 +2,9 @@
 
 use crate::making::{endpoint, no_alias, seq};
 use kept_replies::{Kept, KeptEntry, KeptKey, KeptList, KeptState, ReserveFault};
-use ras_module::{Address, CallKey, Delay, Name, Octets, Reply, Request, TimeToLive};
+use ras_module::{
+    Address, BandwidthRequest, CallKey, Delay, Name, Octets, Reply, Request, TimeToLive,
+};
 use std::alloc::{AllocError, Global};
 use std::test::Fail;
 
@@ -43,12 +45,12 @@ fn registered(alloc: Global, last: u8) -> Result<Reply, Fail> {
 }
 
 fn request() -> Request {
-    Request::Brq {
+    Request::Brq(BandwidthRequest {
         seq: seq(7),
         endpoint: endpoint(b'1'),
         call: CallKey { octets: [17; 16] },
         asked: 1280,
-    }
+    })
 }
 
 fn keep(kept: &mut Kept, key: KeptKey, born: u64, reply: Reply, until: u64) -> Result<(), Fail> {
