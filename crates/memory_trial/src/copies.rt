@@ -1,7 +1,7 @@
 //! The copies of values that take memory, made again where they were refused.
 
 use ras_module::{
-    Alias, AliasList, BmpString, CallKey, DialledDigits, EndpointId, Octets,
+    AdmissionRequest, Alias, AliasList, BmpString, CallKey, DialledDigits, EndpointId, Octets,
     RegistrationRejectReason, Reply, ReplyAliases, Request, RequestSeqNum,
 };
 use std::alloc::Global;
@@ -45,7 +45,7 @@ fn request(alloc: Global, seq: RequestSeqNum) -> Result<(), &'static str> {
     if distinct.len() != 1 {
         return Err(OTHERWISE);
     }
-    let request = Request::Arq {
+    let request = Request::Arq(AdmissionRequest {
         seq,
         endpoint: EndpointId::new(BmpString::new(&[48]).ok_or("no text")?),
         dest: list,
@@ -53,7 +53,7 @@ fn request(alloc: Global, seq: RequestSeqNum) -> Result<(), &'static str> {
         asked: 1280,
         call: CallKey { octets: [1; 16] },
         answer: false,
-    };
+    });
     let copy = request
         .copy()
         .or_else(|_| request.copy())
