@@ -165,47 +165,52 @@ module _ {S : Type 0} (old new : IndexMap CallKey Call S) (key : CallKey) (most 
       AreStored-change old new most s key r.unique (change call)
       (r.updates call (get_call old key ∙ there)) r.same_length (keeps (s.each key call there))
 
-  pub Becomes-rewrite : (change : Call → Call) → Rewrites change old new key → (call : Call)
+  pub Becomes-rewrite : AreStored new most
+      → (change : Call → Call) → Rewrites change old new key → (call : Call)
       → Some call ≡ fin.get t.calls key
       → Becomes t (table_of new most) (fin.insert t.calls key (change call))
-  Becomes-rewrite change r call is = subst (λ (u : CallTable). Becomes u (table_of new most)
+  Becomes-rewrite stored change r call is = subst (λ (u : CallTable). Becomes u (table_of new most)
       (fin.insert u.calls key (change call))) view (record {
         rows =
             entries_insert call_key_decides call_key_cmp_total call_key_cmp-IsAntisymmetric old new
             key (change call) (r.updates call (get_call old key ∙ stored_call call is));
         most = refl;
         room = omega (arith, r.same_room);
+        sound = IsConsistent-stored new most (table_of new most) stored refl;
       })
 
-  pub Becomes-update : (change : Call → Call) → Rewrites change old new key → (call : Call)
+  pub Becomes-update : AreStored new most
+      → (change : Call → Call) → Rewrites change old new key → (call : Call)
       → Some call ≡ fin.get t.calls key
       → Becomes t (table_of new most) (update t.calls key change)
-  Becomes-update change r call is =
+  Becomes-update stored change r call is =
       subst (Becomes t (table_of new most)) (sym (maps.update_there call_key_cmp_total
       call_key_cmp-IsAntisymmetric t.calls key call change (sym is)))
-      (Becomes-rewrite change r call is)
+      (Becomes-rewrite stored change r call is)
 
   -- one is opened
-  pub Adds-open : (call : Call) → hash.Updates same_call_key old new key (Some call)
+  pub Adds-open : AreStored new most → (call : Call) → hash.Updates same_call_key old new key (Some call)
       → spare old ≤ spare new + 1
       → Adds t (table_of new most) (fin.insert t.calls key call)
-  Adds-open call u room = subst
+  Adds-open stored call u room = subst
       (λ (v : CallTable). Adds v (table_of new most) (fin.insert v.calls key call)) view (record {
         rows = entries_insert call_key_decides call_key_cmp_total
             call_key_cmp-IsAntisymmetric old new key call u;
         most = refl;
         room = room;
+        sound = IsConsistent-stored new most (table_of new most) stored refl;
       })
 
   -- one ends
-  pub Becomes-end : hash.Updates same_call_key old new key None → spare old ≤ spare new
+  pub Becomes-end : AreStored new most → hash.Updates same_call_key old new key None → spare old ≤ spare new
       → Becomes t (table_of new most) (fin.remove t.calls key)
-  Becomes-end u room = subst
+  Becomes-end stored u room = subst
       (λ (v : CallTable). Becomes v (table_of new most) (fin.remove v.calls key)) view (record {
         rows = entries_remove call_key_decides call_key_cmp_total
             call_key_cmp-IsAntisymmetric old new key u;
         most = refl;
         room = room;
+        sound = IsConsistent-stored new most (table_of new most) stored refl;
       })
 
 -- what is added up over the stored calls

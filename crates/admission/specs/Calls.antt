@@ -113,18 +113,6 @@ freed_by endpoint call =
 abbrev pub freed_by_leave : OpenCalls → CallKey → List ℕ → Option (ℕ × ℕ)
 freed_by_leave calls key endpoint = option_and_then (freed_by endpoint) (get calls key)
 
--- what a change that takes no memory and no room makes of the table
-pub record Becomes (old new : CallTable) (calls : OpenCalls) : Type 0 where
-  pub rows : new.calls ≡ calls
-  pub most : new.most ≡ old.most
-  pub room : old.room ≤ new.room
-
--- what one more call makes of the table
-pub record Adds (old new : CallTable) (calls : OpenCalls) : Type 0 where
-  pub rows : new.calls ≡ calls
-  pub most : new.most ≡ old.most
-  pub room : old.room ≤ new.room + 1
-
 -- a call has one or two legs, of different endpoints, and its units are a BandWidth (H.225.0)
 pub record IsCall (call : Call) : Type 0 where
   pub legs : AreLegs call.legs
@@ -143,3 +131,23 @@ pub record IsConsistent (t : CallTable) : Type 0 where
   pub each : EachCall IsCall t.calls
   pub few : len t.calls ≤ t.most
   pub most : t.most ≤ 20000
+
+-- the table has what it had, and no less room
+pub record Stays (old new : CallTable) : Type 0 where
+  pub rows : new.calls ≡ old.calls
+  pub most : new.most ≡ old.most
+  pub room : old.room ≤ new.room
+
+-- what a change that takes no memory and no room makes of the table
+pub record Becomes (old new : CallTable) (calls : OpenCalls) : Type 0 where
+  pub rows : new.calls ≡ calls
+  pub most : new.most ≡ old.most
+  pub room : old.room ≤ new.room
+  pub sound : IsConsistent new
+
+-- what one more call makes of the table
+pub record Adds (old new : CallTable) (calls : OpenCalls) : Type 0 where
+  pub rows : new.calls ≡ calls
+  pub most : new.most ≡ old.most
+  pub room : old.room ≤ new.room + 1
+  pub sound : IsConsistent new

@@ -6,7 +6,7 @@ ghost use Rattle.std.specs.FinMap as map;
 ghost use Rattle.keyed.specs.Maps.{update};
 ghost use Rattle.ras_module.specs.CallKeys.{same_call_key};
 ghost use Rattle.indexmap.specs.IndexMap.{get};
-ghost use Rattle.admission.specs.Calls.{in_use, in_use_of, legs_in, leg_at, legs_of, new_call, with_leg, with_units, after_leave, freed_by_leave, IsInNoCall, IsConsistent, Becomes, Adds};
+ghost use Rattle.admission.specs.Calls.{in_use, in_use_of, legs_in, leg_at, legs_of, new_call, with_leg, with_units, after_leave, freed_by_leave, IsInNoCall, IsConsistent, Stays, Becomes, Adds};
 ghost use Rattle.admission.specs.Legs.{leg_of, without_leg, has_other};
 ghost use Rattle.admission.specs.inside.Stored.{Rewrites, with_legs_but};
 
@@ -62,6 +62,7 @@ impl Calls {
         requires few { most ≤ 20000 }
         ensures calls { result.calls ≡ map.empty }
         ensures most { result.most ≡ most }
+        ensures sound { IsConsistent result }
     {
         Calls {
             calls: IndexMap::new(alloc),
@@ -134,6 +135,7 @@ impl Calls {
     pub fn reserve(&mut self, more: usize) -> Result<(), AllocError>
         ensures calls { self.new.calls ≡ self.old.calls }
         ensures most { self.new.most ≡ self.old.most }
+        ensures sound { IsConsistent self.new }
         ensures ok { OnOk result (more ≤ self.new.room) }
         ensures room { self.old.room ≤ self.new.room }
         ensures succeeds { more ≤ self.old.room → IsOk result }
@@ -151,7 +153,7 @@ impl Calls {
         ensures other { map.len self.old.calls ≢ self.old.most
             → IsOkUnless result CallFault.Memory }
         ensures reserved { 0 < self.old.room → result ≢ Err CallFault.Memory }
-        ensures err { OnErr result (Becomes self.old self.new self.old.calls) }
+        ensures err { OnErr result (Stays self.old self.new) }
     {
         if self.calls.len() == self.most {
             return Err(CallFault::Full);
@@ -172,6 +174,7 @@ impl Calls {
         requires { leg_at self.old.calls key leg.endpoint ≡ None }
         ensures ok { OnOk result (Becomes self.old self.new
             (update self.old.calls key (with_leg leg))) }
+        ensures room { self.new.room ≡ self.old.room }
         ensures joins { IsOk result ↔ (length (legs_in (map.get self.old.calls key)) ≡ 1) }
         ensures two_legs { (result ≡ Err CallFault.TwoLegs)
             ↔ (length (legs_in (map.get self.old.calls key)) ≡ 2) }
@@ -192,6 +195,7 @@ impl Calls {
     pub fn set_units(&mut self, key: &CallKey, units: u32) -> Result<(), CallFault>
         ensures ok { OnOk result (Becomes self.old self.new
             (update self.old.calls key.now (with_units units))) }
+        ensures room { self.new.room ≡ self.old.room }
         ensures changes { IsOk result ↔ IsSome (map.get self.old.calls key.now) }
         ensures no_call { (result ≡ Err CallFault.NoCall)
             ↔ (map.get self.old.calls key.now ≡ None) }

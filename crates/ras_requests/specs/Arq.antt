@@ -38,7 +38,7 @@ leg_told q told = record { endpoint = q.endpoint; told = told }
 abbrev pub opening_call : Tables → AdmissionRequest → ℕ → Address → ℕ → Served
 opening_call z q pool told units = record {
   reply = Acf q.seq units told;
-  zone = with_calls z (insert z.calls q.call (new_call pool units (leg_told q told)));
+  tables = with_calls z (insert z.calls q.call (new_call pool units (leg_told q told)));
 }
 
 -- a new call: it has to have a place; it opens without units if it wants none; else the zone has
@@ -57,7 +57,7 @@ joining z q call told =
     if length call.legs == 1
     then Settled (record {
       reply = Acf q.seq (min q.asked call.units) told;
-      zone = with_calls z (update z.calls q.call (with_leg (leg_told q told)));
+      tables = with_calls z (update z.calls q.call (with_leg (leg_told q told)));
     })
     else Settled (denial z q ResourceUnavailable)
 

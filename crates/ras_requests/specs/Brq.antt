@@ -28,7 +28,7 @@ wanted z asked = min asked z.config.call_limit
 abbrev pub lowering : Tables → BandwidthRequest → Call → ℕ → Served
 lowering z q call units = record {
   reply = Bcf q.seq units;
-  zone = record z {
+  tables = record z {
     calls = update z.calls q.call (with_units units);
     pools = pools_after_return z.pools call.pool (call.units - units);
   };
@@ -38,7 +38,7 @@ lowering z q call units = record {
 abbrev pub raising : Tables → BandwidthRequest → Call → ℕ → Served
 raising z q call more = record {
   reply = Bcf q.seq (call.units + more);
-  zone = with_calls z (update z.calls q.call (with_units (call.units + more)));
+  tables = with_calls z (update z.calls q.call (with_units (call.units + more)));
 }
 
 -- it keeps what it has

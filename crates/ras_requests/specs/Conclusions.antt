@@ -22,7 +22,7 @@ use Rattle.zone_tables.specs.Changes.{after_change, IsRegistered, IsPossible}
 
 -- what a decision comes to
 abbrev pub served : Tables → ℕ → Decision → Served
-served z now d = record { reply = d.reply; zone = after_change now d.change z }
+served z now d = record { reply = d.reply; tables = after_change now d.change z }
 
 -- It decides so, and its change can be made.
 pub record Decides (z : Tables) (now : ℕ) (plan : Plan) (d : Decision) : Type 0 where
@@ -60,7 +60,7 @@ pub record Names (z : Tables) (now : ℕ) (plan : Plan) (n : Newcomer) : Type 0 
 abbrev pub granted_by : Tables → UnitRequest → ℕ → Served
 granted_by z q units = record {
   reply = granted_reply q q.purpose units;
-  zone = with_calls z (granted_calls q q.purpose units z.calls);
+  tables = with_calls z (granted_calls q q.purpose units z.calls);
 }
 
 abbrev pub refused_by : Tables → UnitRequest → Served

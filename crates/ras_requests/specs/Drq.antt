@@ -18,7 +18,7 @@ abbrev pub disengagement_of : Tables → DisengageRequest → Option Registratio
 disengagement_of z q None leg = Settled (unchanged z (Drj q.seq NotRegistered))
 disengagement_of z q (Some r) None = Settled (unchanged z (Drj q.seq RequestToDropOther))
 disengagement_of z q (Some r) (Some leg) =
-    Settled (record { reply = Dcf q.seq; zone = without_leg_of z q.call q.endpoint })
+    Settled (record { reply = Dcf q.seq; tables = without_leg_of z q.call q.endpoint })
 
 abbrev pub disengagement : Tables → DisengageRequest → Plan
 disengagement z q =

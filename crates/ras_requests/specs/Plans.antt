@@ -4,14 +4,14 @@ use Rattle.ras_module.specs.declared.reply.Reply.{Reply}
 use Rattle.zone_tables.specs.Pools.{RequestedUnits}
 use Rattle.zone_tables.specs.Tables.{Tables, with_live, heard_now}
 
--- the reply to a request, and what the zone is afterwards
+-- the reply to a request, and the tables afterwards
 pub record Served : Type 0 where
   pub reply : Reply
-  pub zone : Tables
+  pub tables : Tables
 
 -- a reply, and nothing changes
 abbrev pub unchanged : Tables → Reply → Served
-unchanged z reply = record { reply = reply; zone = z }
+unchanged z reply = record { reply = reply; tables = z }
 
 -- A request is served at once; or an unused identifier is handed out for it; or a pool is asked for
 -- units, which lends some of them or none.
@@ -33,7 +33,7 @@ map_plan change (Asking requested lent refused) =
 abbrev pub with_heard : ℕ → Option (List ℕ) → Served → Served
 with_heard now None served = served
 with_heard now (Some id) served =
-    record served { zone = with_live served.zone (heard_now now id served.zone.live) }
+    record served { tables = with_live served.tables (heard_now now id served.tables.live) }
 
 abbrev pub hearing : ℕ → Option (List ℕ) → Plan → Plan
 hearing now endpoint plan = map_plan (with_heard now endpoint) plan

@@ -57,14 +57,14 @@ keep_alive z now q (Some r) =
     then rejection z q FullRegistrationRequired
     else Settled (record {
       reply = confirmation z q r.call_signal r.aliases r.identifier;
-      zone = with_live z (update z.live r.identifier (with_deadline (deadline z now q)));
+      tables = with_live z (update z.live r.identifier (with_deadline (deadline z now q)));
     })
 
 -- the endpoint with this call signal address registers anew, and keeps its identifier
 abbrev pub refreshment : Tables → ℕ → RegistrationRequest → Entry → Registration → Served
 refreshment z now q e r = record {
   reply = confirmation z q e.call_signal e.aliases r.identifier;
-  zone = with_live z (heard_now now r.identifier
+  tables = with_live z (heard_now now r.identifier
       (update z.live r.identifier (after_rewrite e.ras e.aliases (deadline z now q))));
 }
 
@@ -84,7 +84,7 @@ new_registration z now q e id = record {
 abbrev pub addition : Tables → ℕ → RegistrationRequest → Entry → List ℕ → Served
 addition z now q e id = record {
   reply = confirmation z q e.call_signal e.aliases id;
-  zone = with_live z (insert z.live id (new_registration z now q e id));
+  tables = with_live z (insert z.live id (new_registration z now q e id));
 }
 
 -- an endpoint whose address is registered, or a new one, for which there has to be a place

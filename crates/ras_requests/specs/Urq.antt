@@ -24,7 +24,7 @@ departure z seq None = Settled (unchanged z (Urj seq NotCurrentlyRegistered))
 departure z seq (Some r) =
     if nat_lt 0 (legs_of z.calls r.identifier)
     then Settled (unchanged z (Urj seq CallInProgress))
-    else Settled (record { reply = Ucf seq; zone = with_live z (remove z.live r.identifier) })
+    else Settled (record { reply = Ucf seq; tables = with_live z (remove z.live r.identifier) })
 
 -- a URQ
 abbrev pub unregistration : Tables → UnregistrationRequest → Plan

@@ -23,7 +23,7 @@ fn destination<P: Pool>(
     q: &AdmissionRequest,
     caller: &Registration,
 ) -> Option<Address>
-    ensures { result ≡ destination tables.now.zone q.now (Some caller.now) }
+    ensures { result ≡ destination tables.now.tables q.now (Some caller.now) }
 {
     if q.answer {
         return Some(caller.call_signal);
@@ -39,10 +39,10 @@ fn join<P: Pool>(
     call: &Call,
     told: Address,
 ) -> Decision
-    requires endpoint { IsSome (fin.get tables.now.zone.live q.now.endpoint) }
-    requires call { fin.get tables.now.zone.calls q.now.call ≡ Some call.now }
+    requires endpoint { IsSome (fin.get tables.now.tables.live q.now.endpoint) }
+    requires call { fin.get tables.now.tables.calls q.now.call ≡ Some call.now }
     requires leg { leg_of call.now.legs q.now.endpoint ≡ None }
-    ensures decides { Decides tables.now.zone now (joining tables.now.zone q.now call.now told) result }
+    ensures decides { Decides tables.now.tables now (joining tables.now.tables q.now call.now told) result }
 {
     if call.legs.are_two() {
         return denial(q, AdmissionRejectReason::ResourceUnavailable);
@@ -65,11 +65,11 @@ fn make<P: Pool>(
     pool: usize,
     told: Address,
 ) -> Conclusion
-    requires endpoint { IsSome (fin.get tables.now.zone.live q.now.endpoint) }
-    requires call { fin.get tables.now.zone.calls q.now.call ≡ None }
-    requires pool { pool < length tables.now.zone.pools }
-    ensures concludes { Concludes tables.now.zone now
-        (making tables.now.zone q.now pool told) result }
+    requires endpoint { IsSome (fin.get tables.now.tables.live q.now.endpoint) }
+    requires call { fin.get tables.now.tables.calls q.now.call ≡ None }
+    requires pool { pool < length tables.now.tables.pools }
+    ensures concludes { Concludes tables.now.tables now
+        (making tables.now.tables q.now pool told) result }
     ensures about { IsFor q.now.seq (Some q.now.endpoint) result }
 {
     if tables.calls_len() == tables.config().calls() {
@@ -102,12 +102,12 @@ fn enter_call<P: Pool>(
     caller: &Registration,
     call: &Call,
 ) -> Decision
-    requires endpoint { fin.get tables.now.zone.live q.now.endpoint ≡ Some caller.now }
-    requires call { fin.get tables.now.zone.calls q.now.call ≡ Some call.now }
-    ensures decides { Decides tables.now.zone now
-        (admission_of tables.now.zone q.now (Some caller.now)
+    requires endpoint { fin.get tables.now.tables.live q.now.endpoint ≡ Some caller.now }
+    requires call { fin.get tables.now.tables.calls q.now.call ≡ Some call.now }
+    ensures decides { Decides tables.now.tables now
+        (admission_of tables.now.tables q.now (Some caller.now)
         (standing_in call.now (leg_of call.now.legs q.now.endpoint))
-        (destination tables.now.zone q.now (Some caller.now))) result }
+        (destination tables.now.tables q.now (Some caller.now))) result }
 {
     if let Some(leg) = call.legs.get(&q.endpoint) {
         return Decision::reply(Reply::Acf {
@@ -129,11 +129,11 @@ fn make_call<P: Pool>(
     q: &AdmissionRequest,
     caller: &Registration,
 ) -> Conclusion
-    requires endpoint { fin.get tables.now.zone.live q.now.endpoint ≡ Some caller.now }
-    requires call { fin.get tables.now.zone.calls q.now.call ≡ None }
-    ensures concludes { Concludes tables.now.zone now
-        (admission_of tables.now.zone q.now (Some caller.now) NoCall
-        (destination tables.now.zone q.now (Some caller.now))) result }
+    requires endpoint { fin.get tables.now.tables.live q.now.endpoint ≡ Some caller.now }
+    requires call { fin.get tables.now.tables.calls q.now.call ≡ None }
+    ensures concludes { Concludes tables.now.tables now
+        (admission_of tables.now.tables q.now (Some caller.now) NoCall
+        (destination tables.now.tables q.now (Some caller.now))) result }
     ensures about { IsFor q.now.seq (Some q.now.endpoint) result }
 {
     match destination(tables, q, caller) {
@@ -144,8 +144,8 @@ fn make_call<P: Pool>(
 
 /// The pool that serves the calls of an endpoint with this address.
 fn pool_of<P: Pool>(tables: &ZoneTables<P>, address: Address) -> usize
-    ensures pool { result ≡ pool_of tables.now.zone.config.networks address.ip }
-    ensures few { result < length tables.now.zone.pools }
+    ensures pool { result ≡ pool_of tables.now.tables.config.networks address.ip }
+    ensures few { result < length tables.now.tables.pools }
 {
     tables.config().parts().networks.pool_of(address.ip)
 }
@@ -156,7 +156,7 @@ pub(crate) fn admit<P: Pool>(
     now: Moment,
     q: &AdmissionRequest,
 ) -> Conclusion
-    ensures concludes { Concludes tables.now.zone now (admission tables.now.zone q.now) result }
+    ensures concludes { Concludes tables.now.tables now (admission tables.now.tables q.now) result }
     ensures about { IsFor q.now.seq (Some q.now.endpoint) result }
 {
     let Some(caller) = tables.get(&q.endpoint) else {

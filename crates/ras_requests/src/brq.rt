@@ -14,14 +14,14 @@ use zone_tables::{CallChange, Change, Purpose, UnitRequest, ZoneTables};
 
 /// The units that the zone has left.
 pub(crate) fn room<P: Pool>(tables: &ZoneTables<P>) -> u64
-    ensures { result ≡ room tables.now.zone }
+    ensures { result ≡ room tables.now.tables }
 {
     tables.config().parts().limit - tables.in_use()
 }
 
 /// The units that are asked for, but no more than a call may have.
 pub(crate) fn wanted<P: Pool>(tables: &ZoneTables<P>, asked: u32) -> u32
-    ensures { result ≡ wanted tables.now.zone asked }
+    ensures { result ≡ wanted tables.now.tables asked }
 {
     asked.min(tables.config().call_limit())
 }
@@ -33,9 +33,9 @@ fn resize<P: Pool>(
     q: &BandwidthRequest,
     call: &Call,
 ) -> Conclusion
-    requires call { fin.get tables.now.zone.calls q.now.call ≡ Some call.now }
-    ensures concludes { Concludes tables.now.zone now
-        (resizing tables.now.zone q.now call.now) result }
+    requires call { fin.get tables.now.tables.calls q.now.call ≡ Some call.now }
+    ensures concludes { Concludes tables.now.tables now
+        (resizing tables.now.tables q.now call.now) result }
     ensures about { IsFor q.now.seq (Some q.now.endpoint) result }
 {
     let _sound = tables.config();
@@ -64,7 +64,7 @@ pub(crate) fn change_bandwidth<P: Pool>(
     now: Moment,
     q: &BandwidthRequest,
 ) -> Conclusion
-    ensures concludes { Concludes tables.now.zone now (bandwidth tables.now.zone q.now) result }
+    ensures concludes { Concludes tables.now.tables now (bandwidth tables.now.tables q.now) result }
     ensures about { IsFor q.now.seq (Some q.now.endpoint) result }
 {
     if tables.get(&q.endpoint).is_none() {

@@ -16,7 +16,7 @@ pub(crate) fn disengage<P: Pool>(
     now: Moment,
     q: &DisengageRequest,
 ) -> Decision
-    ensures decides { Decides tables.now.zone now (disengagement tables.now.zone q.now) result }
+    ensures decides { Decides tables.now.tables now (disengagement tables.now.tables q.now) result }
 {
     if tables.get(&q.endpoint).is_none() {
         return rejection(q, DisengageRejectReason::NotRegistered);

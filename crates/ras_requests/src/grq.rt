@@ -9,7 +9,7 @@ use zone_tables::ZoneTables;
 
 /// Whether another gatekeeper than this one is named.
 pub(crate) fn is_foreign<P: Pool>(tables: &ZoneTables<P>, name: &Option<Name>) -> bool
-    ensures { result ≡ is_foreign tables.now.zone name.now }
+    ensures { result ≡ is_foreign tables.now.tables name.now }
 {
     match name {
         None => false,
@@ -19,7 +19,7 @@ pub(crate) fn is_foreign<P: Pool>(tables: &ZoneTables<P>, name: &Option<Name>) -
 
 /// The reply to a GatekeeperRequest.
 pub(crate) fn discover<P: Pool>(tables: &ZoneTables<P>, q: &GatekeeperRequest) -> Reply
-    ensures { result ≡ discovery tables.now.zone q.now }
+    ensures { result ≡ discovery tables.now.tables q.now }
 {
     if is_foreign(tables, &q.gatekeeper) {
         return Reply::Grj {

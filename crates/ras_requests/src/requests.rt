@@ -25,7 +25,7 @@ pub fn decide<P: Pool>(
     request: &Request,
 ) -> Result<Conclusion, AllocError>
     requires { HasReply request.now }
-    ensures concludes { IfOk result (IsConclusion tables.now.zone now request.now) }
+    ensures concludes { IfOk result (IsConclusion tables.now.tables now request.now) }
     ensures about { IfOk result (IsFor (seq_of request.now) (endpoint_of request.now)) }
 {
     match request {

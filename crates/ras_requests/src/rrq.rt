@@ -22,7 +22,7 @@ use zone_tables::{Change, EndpointChange, Entry, ZoneTables};
 
 /// The time to live that is granted.
 fn granted<P: Pool>(tables: &ZoneTables<P>, asked: Option<TimeToLive>) -> TimeToLive
-    ensures { result ≡ granted tables.now.zone asked }
+    ensures { result ≡ granted tables.now.tables asked }
 {
     let most = tables.config().time_to_live();
     match asked {
@@ -33,7 +33,7 @@ fn granted<P: Pool>(tables: &ZoneTables<P>, asked: Option<TimeToLive>) -> TimeTo
 
 /// When a registration of this moment ends, in milliseconds.
 fn deadline<P: Pool>(tables: &ZoneTables<P>, now: Moment, q: &RegistrationRequest) -> u64
-    ensures { result ≡ deadline tables.now.zone now q.now }
+    ensures { result ≡ deadline tables.now.tables now q.now }
 {
     let granted = granted(tables, q.time_to_live);
     now.milliseconds() + 1000 * u64::from(granted.get())
@@ -46,7 +46,7 @@ fn confirmation<P: Pool>(
     aliases: ReplyAliases,
     endpoint: EndpointId,
 ) -> Reply
-    ensures { result ≡ confirmation tables.now.zone q.now call_signal aliases endpoint }
+    ensures { result ≡ confirmation tables.now.tables q.now call_signal aliases endpoint }
 {
     Reply::Rcf {
         seq: q.seq,
@@ -64,8 +64,8 @@ fn keep_alive<P: Pool>(
     now: Moment,
     q: &RegistrationRequest,
 ) -> Result<Decision, AllocError>
-    ensures { IfOk result (Decides tables.now.zone now
-        (keep_alive tables.now.zone now q.now (named tables.now.zone q.now.endpoint))) }
+    ensures { IfOk result (Decides tables.now.tables now
+        (keep_alive tables.now.tables now q.now (named tables.now.tables q.now.endpoint))) }
 {
     let Some(id) = q.endpoint else {
         return Ok(rejection(q, RegistrationRejectReason::FullRegistrationRequired));
@@ -88,8 +88,8 @@ fn register_fully<P: Pool>(
     now: Moment,
     q: &RegistrationRequest,
 ) -> Result<Conclusion, AllocError>
-    ensures concludes { IfOk result (Concludes tables.now.zone now
-        (full_registration tables.now.zone now q.now q.now.call_signal q.now.ras
+    ensures concludes { IfOk result (Concludes tables.now.tables now
+        (full_registration tables.now.tables now q.now q.now.call_signal q.now.ras
         (without_doubles q.now.aliases))) }
     ensures about { IfOk result (IsFor q.now.seq q.now.endpoint) }
 {
@@ -121,10 +121,10 @@ fn enter<P: Pool>(
     q: &RegistrationRequest,
     entry: Entry,
 ) -> Result<Conclusion, AllocError>
-    requires { registered_elsewhere tables.now.zone.live entry.call_signal entry.aliases ≡ [] }
-    ensures concludes { IfOk result (Concludes tables.now.zone now
-        (entering tables.now.zone now q.now entry
-        (at_address tables.now.zone.live entry.call_signal))) }
+    requires { registered_elsewhere tables.now.tables.live entry.call_signal entry.aliases ≡ [] }
+    ensures concludes { IfOk result (Concludes tables.now.tables now
+        (entering tables.now.tables now q.now entry
+        (at_address tables.now.tables.live entry.call_signal))) }
     ensures about { IfOk result (IsFor q.now.seq q.now.endpoint) }
 {
     let told = entry.aliases.copy()?;
@@ -155,8 +155,8 @@ pub(crate) fn register<P: Pool>(
     now: Moment,
     q: &RegistrationRequest,
 ) -> Result<Conclusion, AllocError>
-    ensures concludes { IfOk result (Concludes tables.now.zone now
-        (registration tables.now.zone now q.now)) }
+    ensures concludes { IfOk result (Concludes tables.now.tables now
+        (registration tables.now.tables now q.now)) }
     ensures about { IfOk result (IsFor q.now.seq q.now.endpoint) }
 {
     if is_foreign(tables, &q.gatekeeper) {

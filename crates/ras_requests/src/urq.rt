@@ -15,7 +15,7 @@ use zone_tables::{Change, EndpointChange, ZoneTables};
 /// address.
 fn leaving<P: Pool>(tables: &ZoneTables<P>, q: &UnregistrationRequest) -> Option<EndpointId>
     ensures { result ≡ option_map (λ r. r.identifier)
-        (leaving tables.now.zone q.now.endpoint q.now.call_signal) }
+        (leaving tables.now.tables q.now.endpoint q.now.call_signal) }
 {
     let found = match q.endpoint {
         Some(id) => tables.get(&id),
@@ -30,7 +30,7 @@ pub(crate) fn unregister<P: Pool>(
     now: Moment,
     q: &UnregistrationRequest,
 ) -> Decision
-    ensures decides { Decides tables.now.zone now (unregistration tables.now.zone q.now) result }
+    ensures decides { Decides tables.now.tables now (unregistration tables.now.tables q.now) result }
 {
     let Some(id) = leaving(tables, q) else {
         return rejection(q, UnregRejectReason::NotCurrentlyRegistered);

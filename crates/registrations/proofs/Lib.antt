@@ -3,3 +3,4 @@ pub mod Covering
 pub mod Rows
 pub mod Consistent
 pub mod Agreement
+pub mod Unused

@@ -29,7 +29,7 @@ use Rattle.ras_module.specs.Addresses.{same_address}
 use Rattle.ras_module.specs.Same.{texts_decide, address_decides}
 use Rattle.registrations.specs.declared.registration.Registration.{Registration}
 use Rattle.registrations.specs.Registry.{Live, live_of, at_address, identifier_of, call_signal_of}
-use Rattle.registrations.specs.Registry.{Registry, Becomes, IsConsistent}
+use Rattle.registrations.specs.Registry.{Registry, Becomes, IsConsistent, IsSound}
 use Rattle.registrations.specs.inside.Stored.{IsTable}
 
 -- the first row of an identifier is what the map has
@@ -85,6 +85,22 @@ IsConsistent-rows rows most lowest table = record {
       let one = table.addresses.apart a.0 b.0 r s a.1 b.1 e in
       let same = same_some r s (sym a.1 ∙ (ap (slice_get rows) one ∙ b.1)) in
       sym a.2 ∙ (ap identifier_of same ∙ b.2));
+}
+
+pub IsSound-rows : (rows : List Registration) (most lowest : ℕ) → IsTable rows most lowest
+    → (t : Registry) → t.live ≡ live_of rows → t.most ≡ most → IsSound t
+IsSound-rows rows most lowest table t live_is most_is = record {
+  consistent = subst IsConsistent (sym live_is) (IsConsistent-rows rows most lowest table);
+  few = omega (arith, ap fin.len live_is, len_live rows most lowest table, table.few, most_is);
+}
+
+pub IsTable-empty : (most : ℕ) → most ≤ 20000 → IsTable [] most 1
+IsTable-empty most few = record {
+  ids = record { apart = λ i j r s p q e. some_none (sym p) };
+  addresses = record { apart = λ i j r s p q e. some_none (sym p) };
+  few = omega arith;
+  most_few = few;
+  low = omega arith;
 }
 
 -- what stands at the place of an identifier
@@ -151,11 +167,14 @@ module _ (rows : List Registration) (most lowest : ℕ) (id : List ℕ) (i : ℕ
       → IsTable (set rows i (f old)) most lowest
   IsTable-changed = IsTable-write rows most lowest i old (f old) table its_row.there keeps
 
-  pub Becomes-changed : (was value new : Registry) → was ≡ value → was.live ≡ live_of rows
+  pub Becomes-changed : (f old).call_signal ≡ old.call_signal
+      → (was value new : Registry) → was ≡ value → was.live ≡ live_of rows → new.most ≡ most
       → new.live ≡ live_of (set rows i (f old)) → new.most ≡ was.most → was.room ≤ new.room
       → Becomes value new (update value.live id f)
-  Becomes-changed was value new same live new_live most_is room =
+  Becomes-changed stays was value new same live few new_live most_is room =
       subst (λ (v : Registry). Becomes v new (update v.live id f)) same (record {
+        sound = IsSound-rows (set rows i (f old)) most lowest (IsTable-changed stays) new
+            new_live few;
         rows = new_live
             ∙ (live_write rows most lowest (live_of rows) id i old f table refl its_row keeps
             ∙ ap (λ m. update m id f) (sym live));

@@ -3,7 +3,7 @@ use Rattle.std.specs.Prelude.{◌≡◌, ◌≤◌, ◌+◌, ℕ, List, Option, 
 use Rattle.std.specs.List.{find}
 use Rattle.std.specs.Ordering.{nat_cmp}
 use Rattle.std.specs.Cmp.Lexicographic.{slice_cmp}
-use Rattle.std.specs.FinMap.{FinMap, get, values, entries}
+use Rattle.std.specs.FinMap.{FinMap, get, len, values, entries}
 use Rattle.keyed.specs.Places as places
 use Rattle.ras_module.specs.declared.address.Address.{Address}
 use Rattle.ras_module.specs.declared.alias.Alias.{Alias}
@@ -55,17 +55,12 @@ pub record IsUnused (live : Live) (taken : List (List ℕ)) (id : List ℕ) : Ty
   pub not_taken : Contains taken id → ⊥
   pub text : IsText 128 id
 
--- what a change that takes no memory and no room makes of the table
-pub record Becomes (old new : Registry) (live : Live) : Type 0 where
-  pub rows : new.live ≡ live
+-- the table has what it had, in the order that it was in, and no less room
+pub record Stays (old new : Registry) : Type 0 where
+  pub rows : new.live ≡ old.live
   pub most : new.most ≡ old.most
+  pub order : new.order ≡ old.order
   pub room : old.room ≤ new.room
-
--- what one more registration makes of the table
-pub record Adds (old new : Registry) (live : Live) : Type 0 where
-  pub rows : new.live ≡ live
-  pub most : new.most ≡ old.most
-  pub room : old.room ≤ new.room + 1
 
 -- a registration that is given another identifier
 abbrev pub with_identifier : List ℕ → Registration → Registration
@@ -97,3 +92,22 @@ pub record IsConsistent (live : Live) : Type 0 where
   pub own : (id : List ℕ) (r : Registration) → get live id ≡ Some r → r.identifier ≡ id
   pub apart : (i j : List ℕ) (r s : Registration) → get live i ≡ Some r → get live j ≡ Some s
       → r.call_signal ≡ s.call_signal → i ≡ j
+
+-- what holds of every table
+pub record IsSound (t : Registry) : Type 0 where
+  pub consistent : IsConsistent t.live
+  pub few : len t.live ≤ t.most
+
+-- what a change that takes no memory and no room makes of the table
+pub record Becomes (old new : Registry) (live : Live) : Type 0 where
+  pub rows : new.live ≡ live
+  pub most : new.most ≡ old.most
+  pub room : old.room ≤ new.room
+  pub sound : IsSound new
+
+-- what one more registration makes of the table
+pub record Adds (old new : Registry) (live : Live) : Type 0 where
+  pub rows : new.live ≡ live
+  pub most : new.most ≡ old.most
+  pub room : old.room ≤ new.room + 1
+  pub sound : IsSound new

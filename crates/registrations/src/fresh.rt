@@ -3,6 +3,7 @@
 ghost use Rattle.std.specs.Prelude.{◌≡◌, ◌≤◌, ◌||◌, nat_eq, length};
 ghost use Rattle.std.specs.List.{list_any};
 ghost use Rattle.std.specs.Cmp.Lexicographic.{pointwise};
+ghost use Rattle.ras_module.specs.Texts.{IsText};
 ghost use Rattle.registrations.specs.Registry.{live_of, IsUnused};
 
 use crate::number::numbered;
@@ -24,15 +25,19 @@ pub(crate) fn unused_from(items: &[Registration], taken: &[EndpointId], start: u
     unreachable!()
 }
 
-fn is_used(items: &[Registration], taken: &[EndpointId], id: &EndpointId) -> bool
-    ensures { result ≡ (list_any (λ r. pointwise nat_eq r.identifier id.now) items.now
+/// Whether a registration has the identifier, or it is taken.
+pub(crate) fn is_used(items: &[Registration], taken: &[EndpointId], id: &EndpointId) -> bool
+    ensures used { result ≡ (list_any (λ r. pointwise nat_eq r.identifier id.now) items.now
         || list_any (λ i. pointwise nat_eq i id.now) taken.now) }
+    ensures text { IsText 128 id.now }
 {
     is_registered(items, id) || taken.contains(id)
 }
 
 fn is_registered(items: &[Registration], id: &EndpointId) -> bool
-    ensures { result ≡ list_any (λ r. pointwise nat_eq r.identifier id.now) items.now }
+    ensures registered { result ≡ list_any (λ r. pointwise nat_eq r.identifier id.now) items.now }
+    ensures text { IsText 128 id.now }
 {
-    items.iter().any(|r| r.identifier == *id)
+    let characters = id.as_slice();
+    items.iter().any(|r| r.identifier.as_slice() == characters)
 }

@@ -15,7 +15,6 @@ pub(crate) fn numbered(number: u64) -> EndpointId
     let digits = digits_of(number);
     let start = first_of(&digits);
     let characters = BmpString::new(&digits[start..]).unwrap();
-    let _text = characters.as_slice();
     EndpointId::new(characters)
 }
 

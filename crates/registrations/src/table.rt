@@ -8,10 +8,10 @@ ghost use Rattle.std.specs.FinMap as map;
 ghost use Rattle.keyed.specs.Maps.{update};
 ghost use Rattle.keyed.specs.Places.{IsPlaceOf};
 ghost use Rattle.ras_module.specs.Addresses.{same_address};
-ghost use Rattle.registrations.specs.Registry.{at_address, IsUnused, IsListOf, IsConsistent, IsNumbered, Becomes, Adds, live_of, identifier_of, with_identifier, with_deadline, after_rewrite, after_hear, after_ask, after_calm};
+ghost use Rattle.registrations.specs.Registry.{at_address, IsUnused, IsListOf, IsConsistent, IsNumbered, IsSound, Stays, Becomes, Adds, live_of, identifier_of, with_identifier, with_deadline, after_rewrite, after_hear, after_ask, after_calm};
 
 use crate::fault::AddFault;
-use crate::fresh::unused_from;
+use crate::fresh::{is_used, unused_from};
 use crate::list::{RegistrationList, rising};
 use crate::number::{number_in, numbered};
 use crate::registration::Registration;
@@ -57,6 +57,7 @@ impl Registrations {
         requires { most ≤ 20000 }
         ensures live { result.live ≡ map.empty }
         ensures most { result.most ≡ most }
+        ensures sound { IsSound result }
     {
         Registrations {
             items: Vec::new(alloc),
@@ -123,8 +124,7 @@ impl Registrations {
     pub fn is_unused(&self, id: &EndpointId, taken: &[EndpointId]) -> bool
         ensures { IsTrue result ↔ IsUnused self.now.live taken.now id.now }
     {
-        let _text = id.as_slice();
-        self.get(id).is_none() && !taken.contains(id)
+        !is_used(&self.items, taken, id)
     }
 
     /// An identifier that no registration has, and that is not taken: any such one.
@@ -136,10 +136,8 @@ impl Registrations {
 
     /// Makes room for so many more.
     pub fn reserve(&mut self, more: usize) -> Result<(), AllocError>
-        ensures live { self.new.live ≡ self.old.live }
-        ensures most { self.new.most ≡ self.old.most }
+        ensures stays { Stays self.old self.new }
         ensures ok { OnOk result (more ≤ self.new.room) }
-        ensures room { self.old.room ≤ self.new.room }
         ensures succeeds { more ≤ self.old.room → IsOk result }
     {
         self.items.reserve(more)
@@ -159,7 +157,7 @@ impl Registrations {
             (map.insert self.old.live id (with_identifier id registration))) }
         ensures full { (result ≡ Err AddFault.Full) ↔ (map.len self.old.live ≡ self.old.most) }
         ensures reserved { 0 < self.old.room → result ≢ Err AddFault.Memory }
-        ensures err { OnErr result (Becomes self.old self.new self.old.live) }
+        ensures err { OnErr result (Stays self.old self.new) }
     {
         let identifier = self.unused(taken);
         let registration = Registration {
@@ -178,7 +176,7 @@ impl Registrations {
             (map.insert self.old.live registration.identifier registration)) }
         ensures full { (result ≡ Err AddFault.Full) ↔ (map.len self.old.live ≡ self.old.most) }
         ensures reserved { 0 < self.old.room → result ≢ Err AddFault.Memory }
-        ensures err { OnErr result (Becomes self.old self.new self.old.live) }
+        ensures err { OnErr result (Stays self.old self.new) }
     {
         if self.items.len() == self.most {
             return Err(AddFault::Full);

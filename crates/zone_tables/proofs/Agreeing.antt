@@ -11,15 +11,16 @@ use Rattle.ras_module.specs.declared.alias.Alias.{Alias}
 use Rattle.ras_module.specs.declared.address.Address.{Address}
 use Rattle.aliases.specs.Held.{Held, with_aliases, without_holder}
 use Rattle.registrations.specs.declared.registration.Registration.{Registration}
-use Rattle.registrations.specs.Registry.{Live, IsConsistent, after_hear, after_rewrite}
+use Rattle.registrations.specs.Registry.{Live, IsConsistent, Registry, after_hear, after_rewrite}
 use Rattle.registrations.specs.Agreement.{Agree}
 use Rattle.registrations.proofs.Consistent.{IsAt-found}
 use Rattle.registrations.proofs.Agreement.{Agree-insert, Agree-rewrite, Agree-update, conflicts_are}
-use Rattle.registrations.proofs.Agreement.{free_for_new, free_for_old}
+use Rattle.registrations.proofs.Agreement.{free_for_new, free_for_old, one_holder}
 use Rattle.zone_tables.proofs.Answered.{is_there}
 use Rattle.zone_tables.specs.declared.entry.Entry.{Entry}
 use Rattle.zone_tables.specs.Tables.{heard_now}
-use Rattle.zone_tables.specs.Parts.{Roll}
+use Rattle.zone_tables.specs.Parts.{IsSoundRoll, Roll}
+use Rattle.zone_tables.specs.inside.Stored.{AreStored}
 use Rattle.zone_tables.specs.Changes.{IsAddable, IsRewritable}
 
 module _ (roll : Roll) (held : Held) (agree : Agree roll.live held) where
@@ -67,3 +68,12 @@ pub is_there_after : (live : Live) (id : List ℕ)
 is_there_after live id f old is =
     is_there (fin.get (update live id f) id) (f old)
     ((Changed-update nat_list_cmp_total exact_bytes live id f).here ∙ ap (option_map f) is)
+
+-- what holds of the endpoints as they are stored
+pub IsSoundRoll-stored : (t : Registry) (held : Held) → AreStored t held
+    → IsSoundRoll (record { live = t.live; most = t.most })
+IsSoundRoll-stored t held stored = record {
+  consistent = stored.sound.consistent;
+  aliases = one_holder t.live held stored.agree;
+  few = stored.sound.few;
+}

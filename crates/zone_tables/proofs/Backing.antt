@@ -1,9 +1,10 @@
 -- Calls stay backed by the pools, within the limits, as they open, change and end.
 use Rattle.std.proofs.Common.{◌≡◌, ◌<◌, ◌≤◌, ◌+◌, ◌^◌, All, ℕ, Bool, true, false, List, length}
-use Rattle.std.proofs.Common.{refl, sym, ◌∙◌, ap, subst, arith, Some, None}
+use Rattle.std.proofs.Common.{get_or, refl, sym, ◌∙◌, ap, subst, arith, Some, None}
 use Rattle.std.specs.Prelude.{Option, IfOk, IsSome, IsTrue, Ok, Result, slice_set}
 use Rattle.std.specs.FinMap as fin
 use Rattle.std.proofs.lemmas.List.{length-map, length-set}
+use Rattle.std.proofs.lemmas.List.Elements.{All-map}
 use Rattle.keyed.proofs.Sums.{total-empty}
 use Rattle.ras_module.proofs.CallKeyOrder.{call_key_cmp_total, call_key_cmp-IsAntisymmetric}
 use Rattle.keyed.specs.Maps.{update}
@@ -16,7 +17,7 @@ use Rattle.admission.specs.declared.leg.Leg.{Leg}
 use Rattle.admission.specs.declared.table.Left.{Left}
 use Rattle.admission.specs.Calls.{CallTable, OpenCalls, EachCall, in_use, leg_at, legs_in}
 use Rattle.admission.specs.Calls.{units_from, units_of, new_call, with_leg, with_units, after_leave}
-use Rattle.admission.specs.Calls.{freed_by_leave}
+use Rattle.admission.specs.Calls.{freed_by_leave, IsConsistent}
 use Rattle.admission.specs.Legs.{has_other, leg_of}
 use Rattle.admission.proofs.StoredCalls.{EachCall-insert}
 use Rattle.admission.proofs.Soundness.{in_use-open, in_use-join, in_use-set_units, in_use-left}
@@ -34,7 +35,7 @@ use Rattle.zone_tables.specs.declared.unit_request.Purpose.TheVariants.{Opening,
 use Rattle.zone_tables.specs.Pools.{figures_at, figures_of, figures_after_return}
 use Rattle.zone_tables.specs.Pools.{pools_after_answer}
 use Rattle.zone_tables.specs.Pools.{pools_after_return, pools_after_end}
-use Rattle.zone_tables.specs.Parts.{Lending, Usage, IsBacked, with_usage}
+use Rattle.zone_tables.specs.Parts.{Lending, Usage, IsBacked, IsSoundUsage, with_usage}
 use Rattle.zone_tables.specs.UnitRequests.{IsEnterable, IsGrantable, IsPurpose}
 use Rattle.zone_tables.specs.UnitRequests.{IsUnitRequest, granted_calls, calls_after_answer}
 use Rattle.zone_tables.specs.Changes.{IsOpenable, IsJoinable, IsLowerable}
@@ -319,6 +320,13 @@ freed_as r left ok freed was named is =
 idle_lent : (a : Account) → IsTrue (is_idle a) → a.figures.lent ≡ 0
 idle_lent a idle = grind (arith, idle)
 
+-- no pool has lent more than its limit
+pub within_idle : (accounts : List Account) → All (λ a. IsTrue (is_idle a)) accounts
+    → All (λ f. f.lent ≤ f.limit) (figures_of accounts)
+within_idle accounts idle =
+    All-map (λ f. f.lent ≤ f.limit) (λ a. a.figures) accounts
+    (λ k d below. omega (arith, idle_lent (get_or accounts k d) (idle k d below)))
+
 pub IsBacked-start : (accounts : List Account) (most limit call_limit : ℕ)
     → All (λ a. IsTrue (is_idle a)) accounts → call_limit < 2 ^ 32
     → IsBacked (record {
@@ -340,4 +348,17 @@ IsBacked-start accounts most limit call_limit idle small = record {
   pools = EachCall-empty (λ call. call.pool < length (figures_of accounts));
   call_limit = EachCall-empty (λ call. call.units ≤ call_limit);
   limit = omega (arith, total-empty call_key_cmp_total call_key_cmp-IsAntisymmetric units_of);
+}
+
+-- what holds of the calls and the pools as they are held
+pub IsSoundUsage-held : (table : CallTable) (accounts : List Account) (limit call_limit : ℕ)
+    → IsBacked (usage_in table accounts limit call_limit) → IsConsistent table
+    → All (λ f. f.lent ≤ f.limit) (figures_of accounts)
+    → IsSoundUsage (usage_in table accounts limit call_limit)
+IsSoundUsage-held table accounts limit call_limit backed sound within = record {
+  backed = backed;
+  each = sound.each;
+  few = sound.few;
+  most = sound.most;
+  within = within;
 }

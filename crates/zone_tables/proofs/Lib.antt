@@ -8,3 +8,4 @@ pub mod Translating
 pub mod Legs
 pub mod ButLent
 pub mod Departing
+pub mod SoundParts

@@ -1,4 +1,4 @@
--- What a request may change in a zone, and when that change can be made.
+-- What a request may change in the tables of a zone, and when that change can be made.
 use Rattle.std.specs.Prelude.{◌≡◌, ◌≢◌, ◌+◌, ◌<◌, ℕ, List, [], length, Option, None, Some, IsSome}
 use Rattle.std.specs.Prelude.{IfSome}
 use Rattle.std.specs.FinMap.{get, insert, remove, len}
@@ -131,11 +131,11 @@ IsPossible z (Endpoint change) = IsEndpointChange (roll_of z) change × IsFree z
 IsPossible z (Calls change) =
     IsCallChange (usage_of z) change × IfSome (leg_added change) (IsRegistered z.live)
 
--- the running zone after a change, and after an endpoint was heard
+-- the tables after a change, and after an endpoint was heard
 abbrev pub changed : RunningTables → ℕ → Change → RunningTables
-changed z now change = record z { zone = after_change now change z.zone }
+changed z now change = record z { tables = after_change now change z.tables }
 
 abbrev pub heard : RunningTables → ℕ → Option (List ℕ) → RunningTables
 heard z now None = z
 heard z now (Some id) =
-    record z { zone = with_live z.zone (heard_now now id z.zone.live) }
+    record z { tables = with_live z.tables (heard_now now id z.tables.live) }

@@ -1,4 +1,4 @@
--- How an endpoint leaves its calls, and the zone.
+-- How an endpoint leaves its calls, and the tables of the zone.
 use Rattle.std.specs.Prelude.{ℕ, List}
 use Rattle.std.specs.List.{fold}
 use Rattle.std.specs.FinMap.{keys, remove}

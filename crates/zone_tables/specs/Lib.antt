@@ -7,3 +7,4 @@ pub mod UnitRequests
 pub mod Leaving
 pub mod Disengaging
 pub mod Translation
+pub mod inside

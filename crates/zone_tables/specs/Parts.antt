@@ -1,11 +1,13 @@
 -- The parts of a zone: its endpoints, and its calls with the pools that lend them their units.
-use Rattle.std.specs.Prelude.{ℕ, ◌≡◌, ◌≤◌, ◌<◌, ◌^◌, List, length}
-use Rattle.registrations.specs.Registry.{Live}
-use Rattle.admission.specs.Calls.{OpenCalls, EachCall, in_use}
+use Rattle.std.specs.Prelude.{ℕ, ◌≡◌, ◌≤◌, ◌<◌, ◌^◌, List, length, All}
+use Rattle.std.specs.FinMap.{len}
+use Rattle.registrations.specs.Registry.{Live, IsConsistent}
+use Rattle.admission.specs.Calls.{OpenCalls, EachCall, IsCall, in_use}
 use Rattle.pools.specs.declared.interface.Figures.{Figures}
 use Rattle.zone_tables.specs.Tables.{Tables, Last}
 use Rattle.zone_config.specs.declared.config.ConfigParts.{ConfigParts}
-use Rattle.zone_tables.specs.Soundness.{HaveEndpoints, IsLentTo}
+use Rattle.zone_config.specs.Ranges.{IsConfig}
+use Rattle.zone_tables.specs.Soundness.{HaveAliasesApart, HaveEndpoints, IsLentTo}
 
 -- the endpoints, and how many there may be
 pub record Roll : Type 0 where
@@ -50,6 +52,20 @@ pub record IsBacked (u : Usage) : Type 0 where
   pub call_limit : EachCall (λ call. call.units ≤ u.call_limit) u.calls
   pub limit : in_use u.calls ≤ u.limit
 
+-- what holds of the endpoints
+pub record IsSoundRoll (roll : Roll) : Type 0 where
+  pub consistent : IsConsistent roll.live
+  pub aliases : HaveAliasesApart roll.live
+  pub few : len roll.live ≤ roll.most
+
+-- what holds of the calls and the pools
+pub record IsSoundUsage (u : Usage) : Type 0 where
+  pub backed : IsBacked u
+  pub each : EachCall IsCall u.calls
+  pub few : len u.calls ≤ u.most
+  pub most : u.most ≤ 20000
+  pub within : All (λ f. f.lent ≤ f.limit) u.pools
+
 -- the endpoints and the calls of a zone with these settings
 pub record AreParts (config : ConfigParts) (roll : Roll) (u : Usage) : Type 0 where
   pub endpoints : roll.most ≡ config.endpoints
@@ -59,7 +75,14 @@ pub record AreParts (config : ConfigParts) (roll : Roll) (u : Usage) : Type 0 wh
   pub pools : length u.pools ≡ length config.networks
   pub legs : HaveEndpoints roll.live u.calls
 
--- the zone of a gatekeeper as it runs: beside it, the last request of each pool with its answer
+-- the settings, the endpoints and the calls of a zone
+pub record AreSoundParts (config : ConfigParts) (roll : Roll) (u : Usage) : Type 0 where
+  pub settings : IsConfig config
+  pub endpoints : IsSoundRoll roll
+  pub calls : IsSoundUsage u
+  pub parts : AreParts config roll u
+
+-- the tables as the gatekeeper runs: beside them, the last request of each pool with its answer
 pub record RunningTables : Type 0 where
-  pub zone : Tables
+  pub tables : Tables
   pub lasts : List Last

@@ -1,4 +1,4 @@
--- What holds of every zone.
+-- What holds of the tables of every zone.
 use Rattle.std.specs.Prelude.{◌≡◌, ◌<◌, ◌≤◌, ◌+◌, ℕ, List, length, Some, IsSome, Contains, All}
 use Rattle.std.specs.FinMap.{get, len}
 use Rattle.ras_module.specs.declared.alias.Alias.{Alias}
@@ -34,7 +34,7 @@ pub record HasCounts (most : ℕ) (f : Figures) : Type 0 where
 abbrev pub CountsOneMore : List Figures → List Figures → Type 0
 CountsOneMore old new = (most : ℕ) → All (HasCounts most) old → All (HasCounts (most + 1)) new
 
--- what holds of every zone
+-- what holds of the tables of every zone
 pub record SoundTables (z : Tables) : Type 0 where
   pub settings : IsConfig z.config
   pub endpoints : IsConsistent z.live

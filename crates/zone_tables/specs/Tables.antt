@@ -1,4 +1,4 @@
--- What a zone has.
+-- What the tables of a zone have.
 use Rattle.std.specs.Prelude.{ℕ, List, Option}
 use Rattle.std.specs.FinMap.{empty}
 use Rattle.keyed.specs.Maps.{update}
@@ -8,14 +8,15 @@ use Rattle.pools.specs.declared.interface.Figures.{Figures}
 use Rattle.pools.specs.declared.interface.Lend.{Lend}
 use Rattle.zone_config.specs.declared.config.ConfigParts.{ConfigParts}
 
--- A zone: its settings, which endpoints are registered, the calls, and the figures of its pools.
+-- The tables of a zone: its settings, which endpoints are registered, the calls, and the figures of
+-- its pools.
 pub record Tables : Type 0 where
   pub config : ConfigParts
   pub live : Live
   pub calls : OpenCalls
   pub pools : List Figures
 
--- a zone in which nobody is registered and no call is open
+-- the tables in which nobody is registered and no call is open
 abbrev pub empty_tables : ConfigParts → List Figures → Tables
 empty_tables config pools = record {
   config = config;
@@ -24,11 +25,11 @@ empty_tables config pools = record {
   pools = pools;
 }
 
--- the zone in which this is registered instead
+-- the tables in which this is registered instead
 abbrev pub with_live : Tables → Live → Tables
 with_live z live = record z { live = live }
 
--- the zone in which these calls are open instead
+-- the tables in which these calls are open instead
 abbrev pub with_calls : Tables → OpenCalls → Tables
 with_calls z calls = record z { calls = calls }
 

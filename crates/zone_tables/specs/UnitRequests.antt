@@ -72,7 +72,7 @@ IsEnterable t q (Lent units) = IsGrantable t q q.purpose units
 IsEnterable t q Refused = Unit {0}
 IsEnterable t q Wait = Unit {0}
 
--- the request may be put: it is for some units, for which the zone has room
+-- the request may be put: it is for some units, which the limit of all calls allows
 pub record IsUnitRequest (u : Usage) (q : UnitRequest) : Type 0 where
   pub some : 1 ≤ q.units
   pub room : in_use u.calls + q.units ≤ u.limit

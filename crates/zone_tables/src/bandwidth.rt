@@ -4,7 +4,7 @@ ghost use Rattle.std.specs.Prelude.{◌≡◌, ◌<◌, ◌≤◌, ◌^◌, ℕ,
 ghost use Rattle.std.specs.Option.{option_copied};
 ghost use Rattle.std.specs.FinMap as fin;
 ghost use Rattle.keyed.specs.Maps.{update};
-ghost use Rattle.admission.specs.Calls.{EachCall, IsCall, after_leave, freed_by_leave, in_use, leg_at};
+ghost use Rattle.admission.specs.Calls.{IsConsistent, after_leave, freed_by_leave, in_use, leg_at};
 ghost use Rattle.admission.specs.Calls.{legs_of, new_call, with_leg, with_units};
 ghost use Rattle.pools.specs.Account.{IsAnswer, is_idle};
 ghost use Rattle.zone_tables.specs.Pools.{figures_at, figures_of, figures_without_loans, lasts_of};
@@ -13,7 +13,8 @@ ghost use Rattle.zone_tables.specs.Changes.{IsCallChange, IsJoinable, IsLowerabl
 ghost use Rattle.zone_tables.specs.UnitRequests.{IsEnterable, IsUnitRequest};
 ghost use Rattle.zone_tables.specs.UnitRequests.{units_requested, calls_after_answer};
 ghost use Rattle.zone_tables.specs.Changes.{calls_after, pools_after};
-ghost use Rattle.zone_tables.specs.Parts.{IsBacked, with_usage};
+ghost use Rattle.zone_config.specs.Ranges.{IsConfig};
+ghost use Rattle.zone_tables.specs.Parts.{IsSoundUsage, with_usage};
 ghost use Rattle.zone_tables.specs.Leaving.{HaveLeft};
 ghost use Rattle.zone_tables.specs.Soundness.{HasCounts};
 ghost use Rattle.zone_tables.specs.Pools.{lasts_after};
@@ -41,7 +42,7 @@ impl<P: Pool> Model for Bandwidth<P> {
     ghost use Rattle.std.specs.Coded.{codes};
     ghost use Rattle.std.specs.FinMap as fin;
     ghost use Rattle.zone_tables.specs.Pools.{figures_of, lasts_of};
-    ghost use Rattle.zone_tables.specs.Parts.{IsBacked, Lending};
+    ghost use Rattle.zone_tables.specs.Parts.{IsSoundUsage, Lending};
 
     ghost Value = { Lending };
 
@@ -59,7 +60,7 @@ impl<P: Pool> Model for Bandwidth<P> {
       room = b.calls.room;
     } };
 
-    ghost invariant = { λ b. IsBacked (record {
+    ghost invariant = { λ b. IsSoundUsage (record {
       calls = b.calls.calls;
       pools = figures_of b.pools;
       most = b.calls.most;
@@ -80,6 +81,8 @@ impl<P: Pool> Bandwidth<P> {
           call_limit = config.now.call_limit;
         } }
         ensures lasts { result.lasts ≡ lasts_of pools }
+        ensures sound { IsSoundUsage result.usage }
+        ensures settings { IsConfig config.now }
     {
         Bandwidth {
             calls: Calls::new(alloc, config.calls()),
@@ -91,13 +94,8 @@ impl<P: Pool> Bandwidth<P> {
 
     /// How many calls are open.
     pub fn len(&self) -> usize
-        ensures len { result ≡ fin.len self.now.usage.calls }
-        ensures few { fin.len self.now.usage.calls ≤ self.now.usage.most }
-        ensures calls { EachCall IsCall self.now.usage.calls }
-        ensures backed { IsBacked self.now.usage }
-        ensures pools { All (λ f. f.lent ≤ f.limit) self.now.usage.pools }
+        ensures { result ≡ fin.len self.now.usage.calls }
     {
-        let _set = self.pools.len();
         self.calls.len()
     }
 
@@ -158,6 +156,7 @@ impl<P: Pool> Bandwidth<P> {
             (calls_after change self.old.usage.calls)
             (pools_after change self.old.usage.calls self.old.usage.pools)) }
         ensures lasts { self.new.lasts ≡ self.old.lasts }
+        ensures sound { OnOk result (IsSoundUsage self.new.usage) }
         ensures err { OnErr result (self.new.usage ≡ self.old.usage) }
     {
         match change {
@@ -166,6 +165,7 @@ impl<P: Pool> Bandwidth<P> {
             CallChange::Lowering(key, units, pool, back) => self.lower(&key, units, pool, back),
             CallChange::Leaving(key, endpoint) => self.leave(&key, &endpoint),
         }
+        let _ = &self.calls;
         Ok(())
     }
 
@@ -220,11 +220,11 @@ impl<P: Pool> Bandwidth<P> {
     pub fn leave_all(&mut self, endpoint: &EndpointId)
         ensures left { HaveLeft endpoint.now self.old.usage self.new.usage }
         ensures lasts { self.new.lasts ≡ self.old.lasts }
+        ensures sound { IsSoundUsage self.new.usage }
     {
         while let Some(call) = self.calls.call_of(endpoint) {
             self.leave(&call, endpoint);
         }
-        let _sound = self.len();
     }
 
     /// The pools make a turn.
@@ -247,6 +247,7 @@ impl<P: Pool> Bandwidth<P> {
             (pools_after_answer self.old.usage.pools request.now.pool result) }
         ensures lasts { self.new.lasts ≡ lasts_after self.old.lasts
             (Some (units_requested request.now)) (Some result) }
+        ensures sound { IsSoundUsage self.new.usage }
     {
         let answer = self.pools.lend(request.pool, u64::from(request.units));
         enter(&mut self.calls, request, answer);
@@ -270,6 +271,7 @@ fn enter(calls: &mut Calls, request: &UnitRequest, answer: Lend)
     requires { IsEnterable calls.old request.now answer }
     ensures calls { calls.new.calls ≡ calls_after_answer request.now answer calls.old.calls }
     ensures most { calls.new.most ≡ calls.old.most }
+    ensures sound { IsConsistent calls.old → IsConsistent calls.new }
 {
     let Lend::Lent(units) = answer else {
         return;

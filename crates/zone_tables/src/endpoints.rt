@@ -9,7 +9,7 @@ ghost use Rattle.registrations.specs.Agreement.{registered_elsewhere};
 ghost use Rattle.zone_tables.specs.Tables.{heard_now};
 ghost use Rattle.zone_tables.specs.Translation.{registered_with, translation};
 ghost use Rattle.zone_tables.specs.Changes.{IsAddable, IsEndpointChange, IsRewritable, after_endpoint_change};
-ghost use Rattle.zone_tables.specs.Soundness.{HaveAliasesApart};
+ghost use Rattle.zone_tables.specs.Parts.{IsSoundRoll};
 
 use crate::change::EndpointChange;
 use crate::entry::Entry;
@@ -30,7 +30,7 @@ pub struct Endpoints {
 impl Model for Endpoints {
     ghost use Rattle.std.specs.Coded.{codes};
     ghost use Rattle.std.specs.FinMap as map;
-    ghost use Rattle.registrations.specs.Agreement.{Agree};
+    ghost use Rattle.zone_tables.specs.inside.Stored.{AreStored};
     ghost use Rattle.zone_tables.specs.Parts.{Roll};
 
     ghost Value = { Roll };
@@ -39,14 +39,15 @@ impl Model for Endpoints {
 
     ghost view = { λ e. record { live = e.registrations.live; most = e.registrations.most } };
 
-    ghost invariant = { λ e. Agree e.registrations.live e.aliases.held };
+    ghost invariant = { λ e. AreStored e.registrations e.aliases.held };
 }
 
 impl Endpoints {
     /// No endpoint, and the most that there may be.
     pub fn new(alloc: Global, most: usize) -> Self
         requires { most ≤ 20000 }
-        ensures { result ≡ record { live = map.empty; most = most } }
+        ensures empty { result ≡ record { live = map.empty; most = most } }
+        ensures sound { IsSoundRoll result }
     {
         Endpoints {
             registrations: Registrations::new(alloc, most),
@@ -56,10 +57,7 @@ impl Endpoints {
 
     /// How many endpoints are registered.
     pub fn len(&self) -> usize
-        ensures len { result ≡ map.len self.now.live }
-        ensures few { map.len self.now.live ≤ self.now.most }
-        ensures endpoints { IsConsistent self.now.live }
-        ensures aliases { HaveAliasesApart self.now.live }
+        ensures { result ≡ map.len self.now.live }
     {
         self.registrations.len()
     }
@@ -83,7 +81,7 @@ impl Endpoints {
         ensures { IfOk result (λ held.
             held ≡ registered_elsewhere self.now.live address aliases.now) }
     {
-        let _endpoints = &self.registrations;
+        let _ = &self.registrations;
         self.aliases.conflicts(aliases, address)
     }
 
@@ -132,6 +130,7 @@ impl Endpoints {
     pub fn hear(&mut self, now: Moment, id: &EndpointId)
         ensures live { self.new.live ≡ heard_now now id.now self.old.live }
         ensures most { self.new.most ≡ self.old.most }
+        ensures sound { IsSoundRoll self.new }
     {
         if self.registrations.get(id).is_some() {
             self.registrations.hear(id, now.milliseconds());
@@ -143,6 +142,7 @@ impl Endpoints {
         requires { IsSomeAnd (map.get self.old.live id.now) (λ r. r.tries < 16) }
         ensures live { self.new.live ≡ update self.old.live id.now (after_ask now) }
         ensures most { self.new.most ≡ self.old.most }
+        ensures sound { IsSoundRoll self.new }
     {
         self.registrations.asked(id, now.milliseconds());
     }
@@ -151,6 +151,7 @@ impl Endpoints {
     pub fn calm(&mut self, id: &EndpointId)
         ensures live { self.new.live ≡ update self.old.live id.now after_calm }
         ensures most { self.new.most ≡ self.old.most }
+        ensures sound { IsSoundRoll self.new }
     {
         if self.registrations.get(id).is_some() {
             self.registrations.calm(id);
@@ -163,6 +164,7 @@ impl Endpoints {
         ensures live { OnOk result (self.new.live
             ≡ after_endpoint_change now change self.old.live) }
         ensures most { self.new.most ≡ self.old.most }
+        ensures sound { OnOk result (IsSoundRoll self.new) }
         ensures err { OnErr result (self.new ≡ self.old) }
     {
         match change {
@@ -173,6 +175,7 @@ impl Endpoints {
             EndpointChange::Addition(registration) => self.add(registration)?,
             EndpointChange::Removal(id) => self.remove(&id),
         }
+        let _ = &self.registrations;
         Ok(())
     }
 
@@ -202,7 +205,6 @@ impl Endpoints {
             ras,
             aliases,
         } = entry;
-        let _consistent = self.registrations.len();
         self.aliases.reserve(aliases.as_slice().len())?;
         self.aliases.drop_holder(&id);
         self.aliases.set_all(aliases.as_slice(), id, call_signal);
@@ -231,6 +233,7 @@ impl Endpoints {
     pub fn remove(&mut self, id: &EndpointId)
         ensures live { self.new.live ≡ map.remove self.old.live id.now }
         ensures most { self.new.most ≡ self.old.most }
+        ensures sound { IsSoundRoll self.new }
     {
         self.aliases.drop_holder(id);
         self.registrations.remove(id);

@@ -48,14 +48,14 @@ impl<P: Pool> Model for ZoneTables<P> {
     ghost use Rattle.std.specs.Coded.{codes};
     ghost use Rattle.std.specs.FinMap as map;
     ghost use Rattle.zone_tables.specs.Parts.{RunningTables};
-    ghost use Rattle.zone_tables.specs.Parts.{AreParts};
+    ghost use Rattle.zone_tables.specs.Parts.{AreSoundParts};
 
     ghost Value = { RunningTables };
 
     ghost coded = { Prim.hlevel (codes, map.code) };
 
     ghost view = { λ m. record {
-      zone = record {
+      tables = record {
         config = m.config;
         live = m.endpoints.live;
         calls = m.bandwidth.usage.calls;
@@ -64,16 +64,17 @@ impl<P: Pool> Model for ZoneTables<P> {
       lasts = m.bandwidth.lasts;
     } };
 
-    ghost invariant = { λ m. AreParts m.config m.endpoints m.bandwidth.usage };
+    ghost invariant = { λ m. AreSoundParts m.config m.endpoints m.bandwidth.usage };
 }
 
 impl<P: Pool> ZoneTables<P> {
-    /// A zone in which nobody is registered and no call is open.
+    /// The tables of a zone in which nobody is registered and no call is open.
     pub fn new(alloc: Global, config: Config, pools: PoolSet<P>) -> Self
         requires idle { All (λ a. IsTrue (is_idle a)) pools }
         requires each { length pools ≡ length config.networks }
-        ensures zone { result.zone ≡ empty_tables config (figures_of pools) }
+        ensures tables { result.tables ≡ empty_tables config (figures_of pools) }
         ensures lasts { result.lasts ≡ lasts_of pools }
+        ensures sound { SoundTables result.tables }
     {
         let endpoints = Endpoints::new(alloc, config.endpoints());
         let bandwidth = Bandwidth::new(alloc, &config, pools);
@@ -84,59 +85,57 @@ impl<P: Pool> ZoneTables<P> {
         }
     }
 
-    /// How many endpoints are registered. The zone is sound.
+    /// How many endpoints are registered.
     pub fn len(&self) -> usize
-        ensures len { result ≡ fin.len self.now.zone.live }
-        ensures sound { SoundTables self.now.zone }
+        ensures len { result ≡ fin.len self.now.tables.live }
+        ensures sound { SoundTables self.now.tables }
     {
-        let _settings = self.config.parts();
-        let _calls = self.bandwidth.len();
         self.endpoints.len()
     }
 
     /// The settings.
     pub fn config(&self) -> &Config
-        ensures same { result.now ≡ self.now.zone.config }
-        ensures asks { self.now.zone.config.asks ≤ 16 }
-        ensures sound { SoundTables self.now.zone }
+        ensures same { result.now ≡ self.now.tables.config }
+        ensures asks { self.now.tables.config.asks ≤ 16 }
+        ensures call_limit { self.now.tables.config.call_limit < 2 ^ 32 }
+        ensures sound { SoundTables self.now.tables }
     {
-        let _ranges = self.config.parts();
-        let _sound = self.len();
         &self.config
     }
 
     /// The table of the registrations.
     pub fn registrations(&self) -> &Registrations
-        ensures { result.now.live ≡ self.now.zone.live }
+        ensures { result.now.live ≡ self.now.tables.live }
     {
         self.endpoints.table()
     }
 
     /// The table of the calls.
     pub fn calls_table(&self) -> &Calls
-        ensures { result.now.calls ≡ self.now.zone.calls }
+        ensures { result.now.calls ≡ self.now.tables.calls }
     {
         self.bandwidth.table()
     }
 
     /// An identifier that no endpoint has, and that is not taken: any such one.
     pub fn unused(&self, taken: &[EndpointId]) -> EndpointId
-        ensures { IsUnused self.now.zone.live taken.now result }
+        ensures { IsUnused self.now.tables.live taken.now result }
     {
         self.endpoints.unused(taken)
     }
 
     /// The endpoint that is registered under this identifier.
     pub fn get(&self, id: &EndpointId) -> Option<&Registration>
-        ensures found { option_copied result ≡ fin.get self.now.zone.live id.now }
-        ensures sound { IsConsistent self.now.zone.live }
+        ensures found { option_copied result ≡ fin.get self.now.tables.live id.now }
+        ensures sound { IsConsistent self.now.tables.live }
+        ensures asks { self.now.tables.config.asks ≤ 16 }
     {
         self.endpoints.get(id)
     }
 
     /// The endpoint that is registered with this call signal address.
     pub fn by_address(&self, address: Address) -> Option<&Registration>
-        ensures { option_copied result ≡ at_address self.now.zone.live address }
+        ensures { option_copied result ≡ at_address self.now.tables.live address }
     {
         self.endpoints.by_address(address)
     }
@@ -148,7 +147,7 @@ impl<P: Pool> ZoneTables<P> {
         address: Address,
     ) -> Result<ReplyAliases, AllocError>
         ensures { IfOk result (λ held.
-            held ≡ registered_elsewhere self.now.zone.live address aliases.now) }
+            held ≡ registered_elsewhere self.now.tables.live address aliases.now) }
     {
         let held = self.endpoints.conflicts(aliases.as_slice(), address)?;
         Ok(ReplyAliases::new(held).unwrap())
@@ -157,56 +156,56 @@ impl<P: Pool> ZoneTables<P> {
     /// The call signal address of whom the first of the aliases names that is registered, else the
     /// other address.
     pub fn translate(&self, aliases: &[Alias], other: Option<Address>) -> Option<Address>
-        ensures { result ≡ translation self.now.zone.live aliases.now other }
+        ensures { result ≡ translation self.now.tables.live aliases.now other }
     {
         self.endpoints.translate(aliases, other)
     }
 
     /// How many calls are open.
     pub fn calls_len(&self) -> usize
-        ensures { result ≡ fin.len self.now.zone.calls }
+        ensures { result ≡ fin.len self.now.tables.calls }
     {
         self.bandwidth.len()
     }
 
     /// The call with this key.
     pub fn call(&self, key: &CallKey) -> Option<&Call>
-        ensures { option_copied result ≡ fin.get self.now.zone.calls key.now }
+        ensures { option_copied result ≡ fin.get self.now.tables.calls key.now }
     {
         self.bandwidth.get(key)
     }
 
     /// The leg of an endpoint in the call with this key.
     pub fn leg(&self, key: &CallKey, endpoint: &EndpointId) -> Option<&Leg>
-        ensures { option_copied result ≡ leg_at self.now.zone.calls key.now endpoint.now }
+        ensures { option_copied result ≡ leg_at self.now.tables.calls key.now endpoint.now }
     {
         self.bandwidth.leg(key, endpoint)
     }
 
     /// In how many calls an endpoint has a leg.
     pub fn legs_of(&self, endpoint: &EndpointId) -> usize
-        ensures { result ≡ legs_of self.now.zone.calls endpoint.now }
+        ensures { result ≡ legs_of self.now.tables.calls endpoint.now }
     {
         self.bandwidth.legs_of(endpoint)
     }
 
     /// Copies of the registrations, by rising identifier.
     pub fn list(&self) -> Result<RegistrationList, AllocError>
-        ensures { IfOk result (IsListOf self.now.zone.live) }
+        ensures { IfOk result (IsListOf self.now.tables.live) }
     {
         self.endpoints.list()
     }
 
     /// Copies of the calls, by rising key.
     pub fn calls(&self) -> Result<CallList, AllocError>
-        ensures { IfOk result (λ list. list ≡ fin.entries self.now.zone.calls) }
+        ensures { IfOk result (λ list. list ≡ fin.entries self.now.tables.calls) }
     {
         self.bandwidth.list()
     }
 
     /// The units of all calls.
     pub fn in_use(&self) -> u64
-        ensures { result ≡ in_use self.now.zone.calls }
+        ensures { result ≡ in_use self.now.tables.calls }
     {
         self.bandwidth.in_use()
     }
@@ -214,7 +213,7 @@ impl<P: Pool> ZoneTables<P> {
     /// The pools, in their order, with nothing lent.
     pub fn close(self) -> Vec<P>
         ensures figures { figures_of (map P.account result.items)
-            ≡ figures_without_loans self.zone.pools }
+            ≡ figures_without_loans self.tables.pools }
         ensures lasts { lasts_of (map P.account result.items) ≡ self.lasts }
     {
         let ZoneTables { bandwidth, .. } = self;
@@ -223,10 +222,12 @@ impl<P: Pool> ZoneTables<P> {
 
     /// Makes a change. All that may want memory comes first.
     pub fn apply(&mut self, now: Moment, change: Change) -> Result<(), AllocError>
-        requires { IsPossible self.old.zone change }
+        requires { IsPossible self.old.tables change }
         ensures ok { OnOk result (self.new ≡ changed self.old now change) }
+        ensures sound { SoundTables self.new.tables }
         ensures err { OnErr result (self.new ≡ self.old) }
     {
+        let _ = &self.config;
         match change {
             Change::Nothing => Ok(()),
             Change::Endpoint(change) => self.endpoints.apply(now, change),
@@ -236,8 +237,10 @@ impl<P: Pool> ZoneTables<P> {
 
     /// Notes that the endpoint was heard that a request names, if it is registered.
     pub fn hear(&mut self, now: Moment, endpoint: Option<EndpointId>)
-        ensures { self.new ≡ heard self.old now endpoint }
+        ensures heard { self.new ≡ heard self.old now endpoint }
+        ensures sound { SoundTables self.new.tables }
     {
+        let _ = &self.endpoints;
         if let Some(id) = endpoint {
             self.endpoints.hear(now, &id);
         }
@@ -246,17 +249,18 @@ impl<P: Pool> ZoneTables<P> {
     /// Requests units of a pool for a call, which opens with them, or gets them, if they are lent.
     /// The memory is there before the pool is asked.
     pub fn request_units(&mut self, request: &UnitRequest) -> Result<Lend, AllocError>
-        requires may { IsUnitRequest (usage_of self.old.zone) request.now }
-        requires leg { IfSome (leg_of_purpose request.now.purpose) (IsRegistered self.old.zone.live) }
-        requires counts { All (HasCounts (2 ^ 63)) self.old.zone.pools }
-        ensures answer { IfOk result (IsAnswer (figures_at self.old.zone.pools request.now.pool)
+        requires may { IsUnitRequest (usage_of self.old.tables) request.now }
+        requires leg { IfSome (leg_of_purpose request.now.purpose) (IsRegistered self.old.tables.live) }
+        requires counts { All (HasCounts (2 ^ 63)) self.old.tables.pools }
+        ensures answer { IfOk result (IsAnswer (figures_at self.old.tables.pools request.now.pool)
             request.now.units) }
-        ensures zone { IfOk result (λ answer. self.new.zone ≡ record self.old.zone {
-          calls = calls_after_answer request.now answer self.old.zone.calls;
-          pools = pools_after_answer self.old.zone.pools request.now.pool answer;
+        ensures tables { IfOk result (λ answer. self.new.tables ≡ record self.old.tables {
+          calls = calls_after_answer request.now answer self.old.tables.calls;
+          pools = pools_after_answer self.old.tables.pools request.now.pool answer;
         }) }
         ensures lasts { IfOk result (λ answer. self.new.lasts
             ≡ lasts_after self.old.lasts (Some (units_requested request.now)) (Some answer)) }
+        ensures sound { SoundTables self.new.tables }
         ensures err { OnErr result (self.new ≡ self.old) }
     {
         self.bandwidth.reserve()?;
@@ -265,21 +269,20 @@ impl<P: Pool> ZoneTables<P> {
 
     /// An endpoint leaves all its calls.
     fn leave_all(&mut self, id: &EndpointId)
-        ensures zone { self.new.zone ≡ without_legs_of self.old.zone id.now }
+        ensures tables { self.new.tables ≡ without_legs_of self.old.tables id.now }
         ensures lasts { self.new.lasts ≡ self.old.lasts }
-        ensures pools { AreSameButLent self.old.zone.pools self.new.zone.pools }
-        ensures gone { EachLeg (IsOther id.now) self.new.zone.calls }
+        ensures pools { AreSameButLent self.old.tables.pools self.new.tables.pools }
+        ensures gone { EachLeg (IsOther id.now) self.new.tables.calls }
     {
-        let _before = self.bandwidth.len();
         self.bandwidth.leave_all(id);
-        let _after = self.bandwidth.len();
     }
 
     /// Removes a registration, with the endpoint's legs.
     pub fn lapse(&mut self, id: &EndpointId)
-        ensures zone { self.new.zone ≡ without_endpoint self.old.zone id.now }
+        ensures tables { self.new.tables ≡ without_endpoint self.old.tables id.now }
+        ensures sound { SoundTables self.new.tables }
         ensures lasts { self.new.lasts ≡ self.old.lasts }
-        ensures pools { AreSameButLent self.old.zone.pools self.new.zone.pools }
+        ensures pools { AreSameButLent self.old.tables.pools self.new.tables.pools }
     {
         self.leave_all(id);
         self.endpoints.remove(id);
@@ -287,9 +290,10 @@ impl<P: Pool> ZoneTables<P> {
 
     /// Removes the legs of a silent endpoint, which stays registered.
     pub fn silence(&mut self, id: &EndpointId)
-        ensures zone { self.new.zone ≡ without_silent self.old.zone id.now }
+        ensures tables { self.new.tables ≡ without_silent self.old.tables id.now }
+        ensures sound { SoundTables self.new.tables }
         ensures lasts { self.new.lasts ≡ self.old.lasts }
-        ensures pools { AreSameButLent self.old.zone.pools self.new.zone.pools }
+        ensures pools { AreSameButLent self.old.tables.pools self.new.tables.pools }
     {
         self.leave_all(id);
         self.endpoints.calm(id);
@@ -297,9 +301,10 @@ impl<P: Pool> ZoneTables<P> {
 
     /// Notes that an endpoint is asked for a sign of life now.
     pub fn interrogated(&mut self, now: Moment, id: &EndpointId)
-        requires { IsSomeAnd (fin.get self.old.zone.live id.now) (λ r. r.tries < 16) }
-        ensures zone { self.new.zone
-            ≡ with_live self.old.zone (update self.old.zone.live id.now (after_ask now)) }
+        requires { IsSomeAnd (fin.get self.old.tables.live id.now) (λ r. r.tries < 16) }
+        ensures tables { self.new.tables
+            ≡ with_live self.old.tables (update self.old.tables.live id.now (after_ask now)) }
+        ensures sound { SoundTables self.new.tables }
         ensures lasts { self.new.lasts ≡ self.old.lasts }
     {
         self.endpoints.interrogated(now, id);

@@ -4,7 +4,7 @@ use Rattle.ras_requests.proofs.brq.resize.Goals as goal
 
 pub returns-clause-concludes : goal.returns-clause-concludes
 returns-clause-concludes g c =
-    let z = c.args.tables.now.zone in
+    let z = c.args.tables.now.tables in
     let sound = c.config-sound.ensures.sound in
     let more : c.args.call.now.units < c.wanted-wanted.result =
     omega (arith, c.if-wanted-call.false) in

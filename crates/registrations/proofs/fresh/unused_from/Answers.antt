@@ -7,15 +7,15 @@ use Rattle.std.proofs.lemmas.Bool.{or_parts}
 pub loop-n-preserved : goal.loop-n-preserved
 loop-n-preserved c = below_more _ _ c.loop-n.invariant (number_used c.args.items.now
     c.args.taken.now c.numbered-id.result (c.args.start + c.loop-n.n) c.numbered-id.ensures.number
-    (sym c.is_used.ensures ∙ c.if-not-is_used.false))
+    (sym c.is_used.ensures.used ∙ c.if-not-is_used.false))
 
 pub returns-then-not-is_used : goal.returns-then-not-is_used
 returns-then-not-is_used c =
-    let fresh = or_parts _ _ (sym c.is_used.ensures ∙ c.if-not-is_used.true) in
+    let fresh = or_parts _ _ (sym c.is_used.ensures.used ∙ c.if-not-is_used.true) in
     record {
       not_live = none_named c.args.items.now c.numbered-id.result fresh.0;
       not_taken = not_among c.args.taken.now c.numbered-id.result fresh.1;
-      text = c.numbered-id.ensures.text;
+      text = c.is_used.ensures.text;
     }
 
 pub unreachable-requires : goal.unreachable-requires

@@ -34,5 +34,5 @@ invariant_of-self c =
 
 pub returns-clause-ok : goal.returns-clause-ok
 returns-clause-ok c = Becomes-update c.self.inside.calls c.write_leg.new.calls c.args.key
-    c.self.inside.most c.args.self.now c.self.view_is
+    c.self.inside.most c.args.self.now c.self.view_is (invariant_of-self c)
     (with_leg c.args.leg) c.write_leg.ensures c.in-Some.call.now c.in-Some.ensures.found

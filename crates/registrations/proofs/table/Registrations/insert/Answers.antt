@@ -1,7 +1,7 @@
 use Rattle.std.proofs.Common.{ap, refl, ◌∙◌, arith}
 use Rattle.std.specs.FinMap as map
 use Rattle.registrations.specs.Registry.{live_of, at_address}
-use Rattle.registrations.proofs.Rows.{len_live, IsTable-push, live_push}
+use Rattle.registrations.proofs.Rows.{len_live, IsSound-rows, IsTable-push, live_push}
 use Rattle.registrations.proofs.table.Registrations.insert.Goals as goal
 
 pub returns-then-len-self-clause-full : goal.returns-then-len-self-clause-full
@@ -57,6 +57,7 @@ returns-clause-ok c =
         c.in-Ok.ensures.len,
         c.in-Ok.ensures.capacity,
       );
+      sound = IsSound-rows _ i.most c.raised-lowest.result (invariant_of-self-2 c) _ refl refl;
     }
 
 pub returns-clause-full : goal.returns-clause-full

@@ -1,15 +1,16 @@
-use Rattle.std.proofs.Common.{ap, sym, refl, ◌∙◌, arith}
+use Rattle.std.proofs.Common.{ap, sym, refl, ◌∙◌, arith, subst}
 use Rattle.std.specs.FinMap as map
 use Rattle.std.proofs.lemmas.Cmp.{nat_list_cmp_total}
 use Rattle.std.proofs.lemmas.Map.Lookups.{exact_bytes}
 use Rattle.keyed.proofs.Maps.{remove_absent}
 use Rattle.keyed.proofs.Searches.{place_below}
-use Rattle.registrations.specs.Registry.{live_of, identifier_of}
-use Rattle.registrations.proofs.Rows.{IsTable-remove, IsRowOf-place, live_remove, length-remove}
+use Rattle.registrations.specs.Registry.{IsSound, live_of, identifier_of}
+use Rattle.registrations.proofs.Rows.{IsSound-rows, IsTable-remove, IsRowOf-place, live_remove, length-remove}
 use Rattle.registrations.proofs.table.Registrations.remove.Goals as goal
 
 pub returns-in_err-place-clause-removed : goal.returns-in_err-place-clause-removed
 returns-in_err-place-clause-removed c =
+    let i = c.self.inside in
     let none = sym (ap (λ t. map.get t.live c.args.id.now) c.self.view_is)
     ∙ rw c.deref.ensures.value at c.in_err-place.ensures in
     record {
@@ -17,6 +18,8 @@ returns-in_err-place-clause-removed c =
           none;
       most = refl;
       room = omega arith;
+      sound = subst IsSound c.self.view_is
+          (IsSound-rows i.items.items i.most i.lowest c.self.invariant _ refl refl);
     }
 
 pub remove-requires : goal.remove-requires
@@ -61,4 +64,5 @@ returns-clause-removed c =
         c.remove.ensures.capacity,
         c.remove.ensures.len,
       );
+      sound = IsSound-rows _ i.most c.min-self-inside.result (invariant_of-self c) _ refl refl;
     }

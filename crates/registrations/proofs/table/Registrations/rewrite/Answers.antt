@@ -17,4 +17,5 @@ returns c =
     Becomes-changed i.items.items i.most i.lowest c.args.id.now c.live_place-place.result
     c.index_mut-row.result.now (after_rewrite c.args.ras c.args.aliases c.args.deadline)
     c.self.invariant (rw c.deref.ensures.value at c.live_place-place.ensures)
-    c.index_mut-row.ensures.value refl _ _ _ c.self.view_is refl refl refl (omega arith)
+    c.index_mut-row.ensures.value refl refl _ _ _
+    c.self.view_is refl refl refl refl (omega arith)

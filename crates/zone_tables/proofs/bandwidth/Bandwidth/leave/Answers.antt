@@ -4,8 +4,8 @@ use Rattle.admission.specs.Calls.{after_leave, freed_by_leave}
 use Rattle.zone_tables.specs.Parts.{Lending, with_usage}
 use Rattle.zone_tables.specs.Pools.{figures_of, lasts_of, pools_after_return, pools_after_end}
 use Rattle.zone_tables.proofs.Answered.{on_ok}
-use Rattle.zone_tables.proofs.PoolFigures.{figures-return, figures_there, lasts-return}
-use Rattle.zone_tables.proofs.Backing.{IsBacked-is, IsBacked-leave, call_left, freed_as}
+use Rattle.zone_tables.proofs.PoolFigures.{figures-return, figures_there, lasts-return, within_limits}
+use Rattle.zone_tables.proofs.Backing.{IsSoundUsage-held, IsBacked-is, IsBacked-leave, call_left, freed_as}
 use Rattle.zone_tables.proofs.Backing.{freed_is_lent}
 use Rattle.zone_tables.proofs.Backing.{freed_pool, usage_in}
 use Rattle.zone_tables.proofs.bandwidth.Bandwidth.leave.Goals as goal
@@ -19,7 +19,7 @@ take_back-requires-clause-pool g c =
     c.leave.ensures.ended c.in-Some.is in
     omega (
       arith,
-      freed_pool u c.self.invariant c.args.key.now c.args.endpoint.now call.0 call.1
+      freed_pool u c.self.invariant.backed c.args.key.now c.args.endpoint.now call.0 call.1
           (c.in-Some.pool, c.in-Some.units) freed,
       length-map i.pools (λ a. a.figures),
     )
@@ -33,7 +33,7 @@ take_back-requires-clause-lent g c =
     c.leave.ensures.ended c.in-Some.is in
     omega (
       arith,
-      freed_is_lent u c.self.invariant c.args.key.now c.args.endpoint.now call.0 call.1
+      freed_is_lent u c.self.invariant.backed c.args.key.now c.args.endpoint.now call.0 call.1
           (c.in-Some.pool, c.in-Some.units) freed,
       ap (λ f. f.lent) (figures_there i.pools c.in-Some.pool),
       c.from.ensures,
@@ -51,11 +51,13 @@ invariant_of-self g c =
     ∙ (ap (pools_after_return u.pools c.in-Some.pool) c.from.ensures
     ∙ ap (pools_after_end u.pools) (sym freed))) in
     let left = on_ok c.leave.result c.unwrap-left.result c.unwrap-left.ensures c.leave.ensures.ok in
-    IsBacked-is (with_usage u _
+    IsSoundUsage-held c.leave.new.self c.take_back.new.self i.limit i.call_limit
+    (IsBacked-is (with_usage u _
     (pools_after_end u.pools (freed_by_leave u.calls c.args.key.now c.args.endpoint.now)))
     c.leave.new.self.calls (figures_of c.take_back.new.self) c.leave.new.self.most
-    (IsBacked-leave u c.self.invariant c.args.key.now c.args.endpoint.now call.0 call.1)
-    left.rows pools left.most
+    (IsBacked-leave u c.self.invariant.backed c.args.key.now c.args.endpoint.now call.0 call.1)
+    left.rows pools left.most)
+    (left.sound) (within_limits _ c.take_back.ensures.sound.within_limits)
 
 pub invariant_of-self-in_default : goal.invariant_of-self-in_default
 invariant_of-self-in_default g c =
@@ -65,11 +67,13 @@ invariant_of-self-in_default g c =
     let left = on_ok c.leave.result c.unwrap-left.result c.unwrap-left.ensures c.leave.ensures.ok in
     let freed = freed_as c.leave.result c.unwrap-left.result c.unwrap-left.ensures _ _
     c.leave.ensures.ended c.in_default.is in
-    IsBacked-is (with_usage u _
+    IsSoundUsage-held c.leave.new.self i.pools i.limit i.call_limit
+    (IsBacked-is (with_usage u _
     (pools_after_end u.pools (freed_by_leave u.calls c.args.key.now c.args.endpoint.now)))
     c.leave.new.self.calls u.pools c.leave.new.self.most
-    (IsBacked-leave u c.self.invariant c.args.key.now c.args.endpoint.now call.0 call.1)
-    left.rows (ap (pools_after_end u.pools) (sym freed)) left.most
+    (IsBacked-leave u c.self.invariant.backed c.args.key.now c.args.endpoint.now call.0 call.1)
+    left.rows (ap (pools_after_end u.pools) (sym freed)) left.most)
+    (left.sound) (c.self.invariant.within)
 
 pub returns-in-Some-clause-usage : goal.returns-in-Some-clause-usage
 returns-in-Some-clause-usage g c =

@@ -1,9 +1,9 @@
 use Rattle.std.proofs.Common.{◌<◌, ◌∙◌, ap, refl, subst, sym, None}
 use Rattle.std.specs.Prelude.{IsSome}
 use Rattle.std.specs.FinMap as fin
-use Rattle.admission.specs.Calls.{IsInNoCall, leg_at, legs_of}
+use Rattle.admission.specs.Calls.{EachCall, IsCall, IsInNoCall, leg_at, legs_of}
 use Rattle.zone_tables.specs.Leaving.{AreSameButLent, rest_of}
-use Rattle.zone_tables.specs.Parts.{Lending, Usage}
+use Rattle.zone_tables.specs.Parts.{IsSoundUsage, Lending, Usage}
 use Rattle.zone_tables.proofs.ButLent.{same_after_end, same_through}
 use Rattle.zone_tables.proofs.Departing.{all_left, fewer_legs, rest_after, same_after_leave}
 use Rattle.zone_tables.proofs.bandwidth.Bandwidth.leave_all.Goals as goal
@@ -50,11 +50,17 @@ pub returns-clause-left : goal.returns-clause-left
 returns-clause-left g c =
     let none = subst (λ (l : Lending). IsInNoCall l.usage.calls c.args.endpoint.now) c.self.view_is
     c.in_default.ensures in
+    let each = subst (λ (l : Lending). EachCall IsCall l.usage.calls) c.self.view_is
+    c.self.invariant.each in
     record {
       calls = all_left c.args.endpoint.now c.args.self.now.usage.calls c.loop-call.self.usage.calls
-          c.loop-call.invariant.calls c.len-sound.ensures.calls none;
+          c.loop-call.invariant.calls each none;
       pools = c.loop-call.invariant.pools;
       most = c.loop-call.invariant.most;
       limit = c.loop-call.invariant.limit;
       call_limit = c.loop-call.invariant.call_limit;
     }
+
+pub returns-clause-sound : goal.returns-clause-sound
+returns-clause-sound g c =
+    subst (λ (l : Lending). IsSoundUsage l.usage) c.self.view_is c.self.invariant

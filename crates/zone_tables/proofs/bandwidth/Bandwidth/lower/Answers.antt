@@ -5,8 +5,8 @@ use Rattle.zone_tables.specs.Changes.{IsLowerable}
 use Rattle.zone_tables.specs.Parts.{Lending, with_usage}
 use Rattle.zone_tables.specs.Pools.{figures_of, lasts_of, pools_after_return}
 use Rattle.zone_tables.proofs.Answered.{on_ok}
-use Rattle.zone_tables.proofs.PoolFigures.{figures-return, figures_there, lasts-return}
-use Rattle.zone_tables.proofs.Backing.{IsBacked-is, IsBacked-lower, back_is_lent, usage_in}
+use Rattle.zone_tables.proofs.PoolFigures.{figures-return, figures_there, lasts-return, within_limits}
+use Rattle.zone_tables.proofs.Backing.{IsSoundUsage-held, IsBacked-is, IsBacked-lower, back_is_lent, usage_in}
 use Rattle.zone_tables.proofs.bandwidth.Bandwidth.lower.Goals as goal
 
 pub take_back-requires-clause-lent : goal.take_back-requires-clause-lent
@@ -18,7 +18,7 @@ take_back-requires-clause-lent g c =
     (sym c.self.view_is) c.requires in
     omega (
       arith,
-      back_is_lent u c.self.invariant c.args.key.now c.args.units c.args.pool c.args.back can,
+      back_is_lent u c.self.invariant.backed c.args.key.now c.args.units c.args.pool c.args.back can,
       ap (λ f. f.lent) (figures_there i.pools c.args.pool),
       c.from.ensures,
     )
@@ -32,13 +32,15 @@ invariant_of-self g c =
     (sym c.self.view_is) c.requires in
     let lowered =
     on_ok c.set_units.result c.unwrap.result c.unwrap.ensures c.set_units.ensures.ok in
-    IsBacked-is (with_usage u _ (pools_after_return u.pools c.args.pool c.args.back))
+    IsSoundUsage-held c.set_units.new.self c.take_back.new.self i.limit i.call_limit
+    (IsBacked-is (with_usage u _ (pools_after_return u.pools c.args.pool c.args.back))
     c.set_units.new.self.calls (figures_of c.take_back.new.self) c.set_units.new.self.most
-    (IsBacked-lower u c.self.invariant c.args.key.now c.args.units c.args.pool c.args.back can)
+    (IsBacked-lower u c.self.invariant.backed c.args.key.now c.args.units c.args.pool c.args.back can)
     lowered.rows
     (ap figures_of c.take_back.ensures.after ∙ (figures-return i.pools c.args.pool c.from.result
     ∙ ap (pools_after_return u.pools c.args.pool) c.from.ensures))
-    lowered.most
+    lowered.most)
+    (lowered.sound) (within_limits _ c.take_back.ensures.sound.within_limits)
 
 pub returns-clause-usage : goal.returns-clause-usage
 returns-clause-usage g c =

@@ -7,8 +7,8 @@ use Rattle.pools.specs.Accounts.{account_at}
 use Rattle.zone_tables.specs.Soundness.{HasCounts}
 use Rattle.zone_tables.specs.Parts.{Lending, with_usage}
 use Rattle.zone_tables.specs.Pools.{figures_at, figures_of, lasts_of, pools_after_answer}
-use Rattle.zone_tables.proofs.PoolFigures.{figures-answer, figures_there, lasts-answer}
-use Rattle.zone_tables.proofs.Backing.{IsBacked-answer, IsBacked-is, enterable, may_request, usage_in}
+use Rattle.zone_tables.proofs.PoolFigures.{figures-answer, figures_there, lasts-answer, within_limits}
+use Rattle.zone_tables.proofs.Backing.{IsSoundUsage-held, IsBacked-answer, IsBacked-is, enterable, may_request, usage_in}
 use Rattle.zone_tables.proofs.bandwidth.Bandwidth.request_units.Goals as goal
 
 pub lend-answer-requires-clause-may : goal.lend-answer-requires-clause-may
@@ -20,7 +20,7 @@ lend-answer-requires-clause-may g c =
     let counts = subst (λ (l : Lending). All (HasCounts (2 ^ 63)) l.usage.pools)
     (sym c.self.view_is) c.requires.counts in
     subst (λ (n : ℕ). MayAsk (account_at i.pools q.pool) n) (sym c.from.ensures)
-    (may_request u c.self.invariant q may i.pools refl counts)
+    (may_request u c.self.invariant.backed q may i.pools refl counts)
 
 pub enter-requires : goal.enter-requires
 enter-requires g c =
@@ -34,7 +34,7 @@ enter-requires g c =
     let fits = subst (λ (f : Figures). IsAnswer f q.units c.lend-answer.result)
     (sym (figures_there i.pools q.pool)) answer in
     let room = subst (λ (l : Lending). 0 < l.room) (sym c.self.view_is) c.requires.room in
-    enterable u c.self.invariant q may i.calls refl refl room
+    enterable u c.self.invariant.backed q may i.calls refl refl room
     (figures_at u.pools q.pool) c.lend-answer.result fits
 
 pub invariant_of-self : goal.invariant_of-self
@@ -50,11 +50,17 @@ invariant_of-self g c =
     (sym (figures_there i.pools q.pool)) answer in
     let pools = ap figures_of c.lend-answer.ensures.after
     ∙ figures-answer i.pools q.pool c.from.result c.lend-answer.result in
-    IsBacked-is (with_usage u (calls_after_answer q c.lend-answer.result u.calls)
+    IsSoundUsage-held c.enter.new.calls c.lend-answer.new.self i.limit i.call_limit
+    (IsBacked-is (with_usage u (calls_after_answer q c.lend-answer.result u.calls)
     (pools_after_answer u.pools q.pool c.lend-answer.result))
     c.enter.new.calls.calls (figures_of c.lend-answer.new.self) c.enter.new.calls.most
-    (IsBacked-answer u c.self.invariant q may c.lend-answer.result fits)
-    c.enter.ensures.calls pools c.enter.ensures.most
+    (IsBacked-answer u c.self.invariant.backed q may c.lend-answer.result fits)
+    c.enter.ensures.calls pools c.enter.ensures.most)
+    (c.enter.ensures.sound (record {
+      each = c.self.invariant.each;
+      few = c.self.invariant.few;
+      most = c.self.invariant.most;
+    })) (within_limits _ c.lend-answer.ensures.sound.within_limits)
 
 pub returns-clause-answer : goal.returns-clause-answer
 returns-clause-answer g c =
@@ -95,3 +101,6 @@ returns-clause-lasts g c =
     (Some (n, c.lend-answer.result))) c.from.ensures
     ∙ ap (λ (l : Lending). slice_set l.lasts q.pool
     (Some (q.units, c.lend-answer.result))) c.self.view_is))
+
+pub returns-clause-sound : goal.returns-clause-sound
+returns-clause-sound g c = invariant_of-self g c

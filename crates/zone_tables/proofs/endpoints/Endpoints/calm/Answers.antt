@@ -2,11 +2,23 @@ use Rattle.std.proofs.Common.{refl, sym, subst}
 use Rattle.registrations.specs.Registry.{Live, after_calm}
 use Rattle.registrations.specs.Agreement.{Agree}
 use Rattle.registrations.proofs.Agreement.{Agree-update}
+use Rattle.zone_tables.specs.Parts.{IsSoundRoll}
+use Rattle.zone_tables.proofs.Agreeing.{IsSoundRoll-stored}
 use Rattle.zone_tables.proofs.endpoints.Endpoints.calm.Goals as goal
 
 pub invariant_of-self : goal.invariant_of-self
 invariant_of-self c =
     let i = c.self.inside in
-    subst (λ (l : Live). Agree l i.aliases.held) (sym c.calm.ensures.rows)
-    (Agree-update i.registrations.live i.aliases.held c.args.id.now after_calm c.self.invariant
-    (λ r. refl) (λ r. refl))
+    record {
+      agree = subst (λ (l : Live). Agree l i.aliases.held) (sym c.calm.ensures.rows)
+          (Agree-update i.registrations.live i.aliases.held c.args.id.now after_calm c.self.invariant.agree
+          (λ r. refl) (λ r. refl));
+      sound = c.calm.ensures.sound;
+    }
+
+pub returns-then-is_some-clause-sound : goal.returns-then-is_some-clause-sound
+returns-then-is_some-clause-sound c = IsSoundRoll-stored _ _ (invariant_of-self c)
+
+pub returns-else-is_some-clause-sound : goal.returns-else-is_some-clause-sound
+returns-else-is_some-clause-sound c =
+    subst IsSoundRoll c.self.view_is (IsSoundRoll-stored _ _ c.self.invariant)

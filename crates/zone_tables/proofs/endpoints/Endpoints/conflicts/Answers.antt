@@ -9,7 +9,7 @@ pub returns : goal.returns
 returns c =
     let i = c.self.inside in
     subst (λ (held : List Alias). IfOk c.conflicts.result (λ list. list ≡ held))
-    (conflicts_are i.registrations.live i.aliases.held c.self.invariant
+    (conflicts_are i.registrations.live i.aliases.held c.self.invariant.agree
     c.args.address c.args.aliases.now
     ∙ ap (λ t. registered_elsewhere t.live c.args.address c.args.aliases.now) c.self.view_is)
     c.conflicts.ensures

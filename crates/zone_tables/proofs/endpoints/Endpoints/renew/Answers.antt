@@ -7,6 +7,9 @@ use Rattle.zone_tables.proofs.endpoints.Endpoints.renew.Goals as goal
 pub invariant_of-self : goal.invariant_of-self
 invariant_of-self c =
     let i = c.self.inside in
-    subst (λ (l : Live). Agree l i.aliases.held) (sym c.renew.ensures.rows)
-    (Agree-update i.registrations.live i.aliases.held c.args.id.now
-    (with_deadline c.args.deadline) c.self.invariant (λ r. refl) (λ r. refl))
+    record {
+      agree = subst (λ (l : Live). Agree l i.aliases.held) (sym c.renew.ensures.rows)
+          (Agree-update i.registrations.live i.aliases.held c.args.id.now
+          (with_deadline c.args.deadline) c.self.invariant.agree (λ r. refl) (λ r. refl));
+      sound = c.renew.ensures.sound;
+    }

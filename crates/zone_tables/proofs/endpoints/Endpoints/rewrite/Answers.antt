@@ -17,9 +17,9 @@ use Rattle.zone_tables.proofs.endpoints.Endpoints.rewrite.Goals as goal
 pub set_all-requires-clause-free : goal.set_all-requires-clause-free
 set_all-requires-clause-free c alias has other =
     let held = c.self.inside.aliases.held in
-    let agree = subst (λ (t : Roll). Agree t.live held) c.self.view_is c.self.invariant in
+    let agree = subst (λ (t : Roll). Agree t.live held) c.self.view_is c.self.invariant.agree in
     let sound =
-    subst (λ (t : Roll). IsConsistent t.live) c.self.view_is c.len-consistent.ensures.sound in
+    subst (λ (t : Roll). IsConsistent t.live) c.self.view_is c.self.invariant.sound.consistent in
     let id = c.args.id in
     let dropped : c.drop_holder.new.self.held ≡ without_holder held id =
     c.drop_holder.ensures.rows ∙ ap (λ h. without_holder h id) c.reserve.ensures.held in
@@ -31,9 +31,9 @@ set_all-requires-clause-free c alias has other =
 pub rewrite-requires : goal.rewrite-requires
 rewrite-requires c =
     let held = c.self.inside.aliases.held in
-    let agree = subst (λ (t : Roll). Agree t.live held) c.self.view_is c.self.invariant in
+    let agree = subst (λ (t : Roll). Agree t.live held) c.self.view_is c.self.invariant.agree in
     let sound =
-    subst (λ (t : Roll). IsConsistent t.live) c.self.view_is c.len-consistent.ensures.sound in
+    subst (λ (t : Roll). IsConsistent t.live) c.self.view_is c.self.invariant.sound.consistent in
     let id = c.args.id in
     is_there (fin.get c.self.inside.registrations.live id) c.requires.old
     (ap (λ (t : Roll). fin.get t.live id) c.self.view_is
@@ -42,9 +42,9 @@ rewrite-requires c =
 pub hear-requires : goal.hear-requires
 hear-requires c =
     let held = c.self.inside.aliases.held in
-    let agree = subst (λ (t : Roll). Agree t.live held) c.self.view_is c.self.invariant in
+    let agree = subst (λ (t : Roll). Agree t.live held) c.self.view_is c.self.invariant.agree in
     let sound =
-    subst (λ (t : Roll). IsConsistent t.live) c.self.view_is c.len-consistent.ensures.sound in
+    subst (λ (t : Roll). IsConsistent t.live) c.self.view_is c.self.invariant.sound.consistent in
     let id = c.args.id in
     let e = c.args.entry in
     subst (λ (l : Live). IsSome (fin.get l id)) (sym c.rewrite.ensures.rows)
@@ -56,9 +56,9 @@ hear-requires c =
 pub invariant_of-self-2 : goal.invariant_of-self-2
 invariant_of-self-2 c =
     let held = c.self.inside.aliases.held in
-    let agree = subst (λ (t : Roll). Agree t.live held) c.self.view_is c.self.invariant in
+    let agree = subst (λ (t : Roll). Agree t.live held) c.self.view_is c.self.invariant.agree in
     let sound =
-    subst (λ (t : Roll). IsConsistent t.live) c.self.view_is c.len-consistent.ensures.sound in
+    subst (λ (t : Roll). IsConsistent t.live) c.self.view_is c.self.invariant.sound.consistent in
     let id = c.args.id in
     let e = c.args.entry in
     let now = c.milliseconds.result in
@@ -76,7 +76,10 @@ invariant_of-self-2 c =
     ∙ ap (λ l. update l id (after_hear now)) (c.rewrite.ensures.rows
     ∙ ap (λ (t : Roll). update t.live id (after_rewrite e.ras e.aliases c.args.deadline))
     c.self.view_is) in
-    subst (λ (l : Live). Agree l c.set_all.new.self.held) (sym live_is)
-    (subst (λ (h : Held). Agree (heard_now now id (update c.args.self.now.live id
-    (after_rewrite e.ras e.aliases c.args.deadline))) h) (sym held_is)
-    (Agree-rewriting c.args.self.now held agree sound id e c.args.deadline now c.requires))
+    record {
+      agree = subst (λ (l : Live). Agree l c.set_all.new.self.held) (sym live_is)
+          (subst (λ (h : Held). Agree (heard_now now id (update c.args.self.now.live id
+          (after_rewrite e.ras e.aliases c.args.deadline))) h) (sym held_is)
+          (Agree-rewriting c.args.self.now held agree sound id e c.args.deadline now c.requires));
+      sound = c.hear.ensures.sound;
+    }

@@ -1,35 +1,61 @@
 use Rattle.std.proofs.Common.{sym, subst, refl}
-use Rattle.zone_tables.specs.Parts.{RunningTables, Usage}
+use Rattle.zone_tables.specs.Parts.{IsSoundRoll, IsSoundUsage, RunningTables, Usage}
 use Rattle.zone_tables.specs.Changes.{IsCallChange, IsPossible}
+use Rattle.zone_tables.specs.Soundness.{SoundTables}
 use Rattle.zone_tables.specs.declared.change.Change.TheVariants.{Endpoint, Calls}
 use Rattle.zone_tables.proofs.Legs.{AreParts-change, AreParts-live, legs-endpoint_result}
 use Rattle.zone_tables.proofs.Legs.{usage_is}
+use Rattle.zone_tables.proofs.SoundParts.{SoundTables-parts, either_way}
 use Rattle.zone_tables.proofs.tables.ZoneTables.apply.Goals as goal
 
 pub invariant_of-self : goal.invariant_of-self
 invariant_of-self g c =
     let i = c.self.inside in
-    let parts = c.self.invariant in
+    let parts = c.self.invariant.parts in
     let u = i.bandwidth.usage in
     let change = c.in-Endpoint.change in
-    let possible = subst (λ x. IsPossible c.args.self.now.zone x) c.in-Endpoint.is c.requires in
-    let here = subst (λ (m : RunningTables). IsPossible m.zone (Endpoint change))
+    let possible = subst (λ x. IsPossible c.args.self.now.tables x) c.in-Endpoint.is c.requires in
+    let here = subst (λ (m : RunningTables). IsPossible m.tables (Endpoint change))
     (sym c.self.view_is) possible in
-    AreParts-live i.config i.endpoints c.apply.new.self u parts c.apply.ensures.most _ refl
-    (legs-endpoint_result c.apply.result i.endpoints c.apply.new.self u.calls c.args.now change
-    parts.legs here.1 c.apply.ensures.live c.apply.ensures.err)
+    record {
+      settings = c.self.invariant.settings;
+      endpoints = either_way IsSoundRoll c.apply.result i.endpoints c.apply.new.self
+          c.apply.ensures.sound c.apply.ensures.err c.self.invariant.endpoints;
+      calls = c.self.invariant.calls;
+      parts = AreParts-live i.config i.endpoints c.apply.new.self u parts c.apply.ensures.most _ refl
+          (legs-endpoint_result c.apply.result i.endpoints c.apply.new.self u.calls c.args.now change
+          parts.legs here.1 c.apply.ensures.live c.apply.ensures.err);
+    }
 
 pub invariant_of-self-in-Calls : goal.invariant_of-self-in-Calls
 invariant_of-self-in-Calls g c =
     let i = c.self.inside in
-    let parts = c.self.invariant in
+    let parts = c.self.invariant.parts in
     let u = i.bandwidth.usage in
     let change = c.in-Calls.change in
-    let possible = subst (λ x. IsPossible c.args.self.now.zone x) c.in-Calls.is c.requires in
-    let here = subst (λ (m : RunningTables). IsPossible m.zone (Calls change))
+    let possible = subst (λ x. IsPossible c.args.self.now.tables x) c.in-Calls.is c.requires in
+    let here = subst (λ (m : RunningTables). IsPossible m.tables (Calls change))
     (sym c.self.view_is) possible in
     let can = subst (λ (u : Usage). IsCallChange u change)
     (sym (usage_is i.config i.endpoints u parts)) here.0 in
-    AreParts-change i.config i.endpoints u parts c.apply-in-Calls.result
-    c.apply-in-Calls.new.self.usage change
-    can here.1 c.apply-in-Calls.ensures.ok c.apply-in-Calls.ensures.err
+    record {
+      settings = c.self.invariant.settings;
+      endpoints = c.self.invariant.endpoints;
+      calls = either_way IsSoundUsage c.apply-in-Calls.result u
+          c.apply-in-Calls.new.self.usage c.apply-in-Calls.ensures.sound
+          c.apply-in-Calls.ensures.err c.self.invariant.calls;
+      parts = AreParts-change i.config i.endpoints u parts c.apply-in-Calls.result
+          c.apply-in-Calls.new.self.usage change
+          can here.1 c.apply-in-Calls.ensures.ok c.apply-in-Calls.ensures.err;
+    }
+
+pub returns-in-Nothing-clause-sound : goal.returns-in-Nothing-clause-sound
+returns-in-Nothing-clause-sound g c =
+    subst (λ (m : RunningTables). SoundTables m.tables) c.self.view_is
+    (SoundTables-parts _ _ _ c.self.invariant)
+
+pub returns-in-Endpoint-clause-sound : goal.returns-in-Endpoint-clause-sound
+returns-in-Endpoint-clause-sound g c = SoundTables-parts _ _ _ (invariant_of-self g c)
+
+pub returns-in-Calls-clause-sound : goal.returns-in-Calls-clause-sound
+returns-in-Calls-clause-sound g c = SoundTables-parts _ _ _ (invariant_of-self-in-Calls g c)

@@ -1,12 +1,21 @@
 use Rattle.registrations.specs.Registry.{after_ask}
 use Rattle.zone_tables.proofs.Legs.{AreParts-live, legs-update}
+use Rattle.zone_tables.proofs.SoundParts.{SoundTables-parts}
 use Rattle.zone_tables.proofs.tables.ZoneTables.interrogated.Goals as goal
 
 pub invariant_of-self : goal.invariant_of-self
 invariant_of-self g c =
     let i = c.self.inside in
-    let parts = c.self.invariant in
+    let parts = c.self.invariant.parts in
     let u = i.bandwidth.usage in
-    AreParts-live i.config i.endpoints c.interrogated.new.self u parts c.interrogated.ensures.most _
-    c.interrogated.ensures.live
-    (legs-update i.endpoints.live u.calls c.args.id.now (after_ask c.args.now) parts.legs)
+    record {
+      settings = c.self.invariant.settings;
+      endpoints = c.interrogated.ensures.sound;
+      calls = c.self.invariant.calls;
+      parts = AreParts-live i.config i.endpoints c.interrogated.new.self u parts c.interrogated.ensures.most _
+          c.interrogated.ensures.live
+          (legs-update i.endpoints.live u.calls c.args.id.now (after_ask c.args.now) parts.legs);
+    }
+
+pub returns-clause-sound : goal.returns-clause-sound
+returns-clause-sound g c = SoundTables-parts _ _ _ (invariant_of-self g c)

@@ -12,21 +12,27 @@ use Rattle.zone_tables.proofs.tables.ZoneTables.leave_all.Goals as goal
 pub invariant_of-self : goal.invariant_of-self
 invariant_of-self g c =
     let i = c.self.inside in
-    let parts = c.self.invariant in
+    let parts = c.self.invariant.parts in
     let left = c.leave_all.ensures.left in
     record {
-      endpoints = parts.endpoints;
-      calls = left.most ∙ parts.calls;
-      limit = left.limit ∙ parts.limit;
-      call_limit = left.call_limit ∙ parts.call_limit;
-      pools = left.pools.each ∙ parts.pools;
-      legs = legs_left c.args.id.now (IsRegistered i.endpoints.live) (IsRegistered i.endpoints.live)
-          (λ leg other is. is) i.bandwidth.usage.calls
-          c.leave_all.new.self.usage.calls left.calls parts.legs;
+      settings = c.self.invariant.settings;
+      endpoints = c.self.invariant.endpoints;
+      calls = c.leave_all.ensures.sound;
+      parts = record {
+        endpoints = parts.endpoints;
+        calls = left.most ∙ parts.calls;
+        limit = left.limit ∙ parts.limit;
+        call_limit = left.call_limit ∙ parts.call_limit;
+        pools = left.pools.each ∙ parts.pools;
+        legs =
+            legs_left c.args.id.now (IsRegistered i.endpoints.live) (IsRegistered i.endpoints.live)
+            (λ leg other is. is) i.bandwidth.usage.calls
+            c.leave_all.new.self.usage.calls left.calls parts.legs;
+      };
     }
 
-pub returns-clause-zone : goal.returns-clause-zone
-returns-clause-zone g c =
+pub returns-clause-tables : goal.returns-clause-tables
+returns-clause-tables g c =
     let i = c.self.inside in
     let z : Tables = record {
       config = i.config;
@@ -35,14 +41,14 @@ returns-clause-zone g c =
       pools = i.bandwidth.usage.pools;
     } in
     let u_is : i.bandwidth.usage ≡ usage_of z =
-    usage_is i.config i.endpoints i.bandwidth.usage c.self.invariant in
+    usage_is i.config i.endpoints i.bandwidth.usage c.self.invariant.parts in
     subst (λ (m : RunningTables). record z {
       calls = c.leave_all.new.self.usage.calls;
       pools = c.leave_all.new.self.usage.pools;
     }
-    ≡ without_legs_of m.zone c.args.id.now) c.self.view_is
+    ≡ without_legs_of m.tables c.args.id.now) c.self.view_is
     (sym (all_gone c.args.id.now z c.leave_all.new.self.usage
-    (subst IsBacked u_is c.len-before.ensures.backed) c.len-after.ensures.backed
+    (subst IsBacked u_is c.self.invariant.calls.backed) c.leave_all.ensures.sound.backed
     (subst (λ (u : Usage). HaveLeft c.args.id.now u c.leave_all.new.self.usage) u_is
     c.leave_all.ensures.left)))
 

@@ -5,6 +5,7 @@ use Rattle.admission.proofs.Soundness.{EachCall-empty}
 use Rattle.zone_tables.specs.Pools.{figures_of}
 use Rattle.zone_tables.specs.Changes.{IsRegistered}
 use Rattle.zone_tables.specs.Parts.{AreParts, Roll, Usage}
+use Rattle.zone_tables.proofs.SoundParts.{SoundTables-parts}
 use Rattle.zone_tables.proofs.tables.ZoneTables.new.Goals as goal
 
 pub invariant_of-result : goal.invariant_of-result
@@ -18,13 +19,21 @@ invariant_of-result g c =
     } in
     let as_many : length u.pools ≡ length c.args.config.networks =
     omega (arith, length-map c.args.pools (λ a. a.figures), c.requires.each) in
-    subst (λ (u : Usage). AreParts c.args.config c.new-endpoints.result u)
-    (sym c.new-bandwidth.ensures.usage)
-    (subst (λ (roll : Roll). AreParts c.args.config roll u) (sym c.new-endpoints.ensures) (record {
-      endpoints = c.endpoints.ensures.same;
-      calls = refl;
-      limit = refl;
-      call_limit = refl;
-      pools = as_many;
-      legs = EachCall-empty (λ call. All (IsRegistered fin.empty) call.legs);
-    }))
+    record {
+      settings = c.new-bandwidth.ensures.settings;
+      endpoints = c.new-endpoints.ensures.sound;
+      calls = c.new-bandwidth.ensures.sound;
+      parts = subst (λ (u : Usage). AreParts c.args.config c.new-endpoints.result u)
+          (sym c.new-bandwidth.ensures.usage)
+          (subst (λ (roll : Roll). AreParts c.args.config roll u) (sym c.new-endpoints.ensures.empty) (record {
+            endpoints = c.endpoints.ensures.same;
+            calls = refl;
+            limit = refl;
+            call_limit = refl;
+            pools = as_many;
+            legs = EachCall-empty (λ call. All (IsRegistered fin.empty) call.legs);
+          }));
+    }
+
+pub returns-clause-sound : goal.returns-clause-sound
+returns-clause-sound g c = SoundTables-parts _ _ _ (invariant_of-result g c)
