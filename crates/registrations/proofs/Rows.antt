@@ -29,7 +29,7 @@ use Rattle.ras_module.specs.Addresses.{same_address}
 use Rattle.ras_module.specs.Same.{texts_decide, address_decides}
 use Rattle.registrations.specs.declared.registration.Registration.{Registration}
 use Rattle.registrations.specs.Registry.{Live, live_of, at_address, identifier_of, call_signal_of}
-use Rattle.registrations.specs.Registry.{Registry, Becomes, IsConsistent, IsSound}
+use Rattle.registrations.specs.Registry.{Registry, IsConsistent, IsSound, Updates}
 use Rattle.registrations.specs.inside.Stored.{IsTable}
 
 -- the first row of an identifier is what the map has
@@ -167,12 +167,12 @@ module _ (rows : List Registration) (most lowest : ℕ) (id : List ℕ) (i : ℕ
       → IsTable (set rows i (f old)) most lowest
   IsTable-changed = IsTable-write rows most lowest i old (f old) table its_row.there keeps
 
-  pub Becomes-changed : (f old).call_signal ≡ old.call_signal
+  pub Updates-changed : (f old).call_signal ≡ old.call_signal
       → (was value new : Registry) → was ≡ value → was.live ≡ live_of rows → new.most ≡ most
-      → new.live ≡ live_of (set rows i (f old)) → new.most ≡ was.most → was.room ≤ new.room
-      → Becomes value new (update value.live id f)
-  Becomes-changed stays was value new same live few new_live most_is room =
-      subst (λ (v : Registry). Becomes v new (update v.live id f)) same (record {
+      → new.live ≡ live_of (set rows i (f old)) → new.most ≡ was.most → new.room ≡ was.room
+      → Updates value new (update value.live id f)
+  Updates-changed stays was value new same live few new_live most_is room =
+      subst (λ (v : Registry). Updates v new (update v.live id f)) same (record {
         sound = IsSound-rows (set rows i (f old)) most lowest (IsTable-changed stays) new
             new_live few;
         rows = new_live

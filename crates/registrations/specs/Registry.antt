@@ -98,6 +98,13 @@ pub record IsSound (t : Registry) : Type 0 where
   pub consistent : IsConsistent t.live
   pub few : len t.live ≤ t.most
 
+-- what a change of one registration makes of the table, for which no memory is asked
+pub record Updates (old new : Registry) (live : Live) : Type 0 where
+  pub rows : new.live ≡ live
+  pub most : new.most ≡ old.most
+  pub room : new.room ≡ old.room
+  pub sound : IsSound new
+
 -- what a change that takes no memory and no room makes of the table
 pub record Becomes (old new : Registry) (live : Live) : Type 0 where
   pub rows : new.live ≡ live

@@ -8,7 +8,7 @@ ghost use Rattle.std.specs.FinMap as map;
 ghost use Rattle.keyed.specs.Maps.{update};
 ghost use Rattle.keyed.specs.Places.{IsPlaceOf};
 ghost use Rattle.ras_module.specs.Addresses.{same_address};
-ghost use Rattle.registrations.specs.Registry.{at_address, IsUnused, IsListOf, IsConsistent, IsNumbered, IsSound, Stays, Becomes, Adds, live_of, identifier_of, with_identifier, with_deadline, after_rewrite, after_hear, after_ask, after_calm};
+ghost use Rattle.registrations.specs.Registry.{at_address, IsUnused, IsListOf, IsConsistent, IsNumbered, IsSound, Stays, Updates, Becomes, Adds, live_of, identifier_of, with_identifier, with_deadline, after_rewrite, after_hear, after_ask, after_calm};
 
 use crate::fault::AddFault;
 use crate::fresh::{is_used, unused_from};
@@ -203,7 +203,7 @@ impl Registrations {
     /// Grants a time to live anew.
     pub fn renew(&mut self, id: &EndpointId, deadline: u64)
         requires { IsSome (map.get self.old.live id.now) }
-        ensures { Becomes self.old self.new (update self.old.live id.now (with_deadline deadline)) }
+        ensures { Updates self.old self.new (update self.old.live id.now (with_deadline deadline)) }
     {
         let place = live_place(&self.items, id);
         self.items[place].deadline = deadline;
@@ -212,7 +212,7 @@ impl Registrations {
     /// Replaces what an endpoint registered, but for its call signal address.
     pub fn rewrite(&mut self, id: &EndpointId, ras: Address, aliases: ReplyAliases, deadline: u64)
         requires { IsSome (map.get self.old.live id.now) }
-        ensures { Becomes self.old self.new
+        ensures { Updates self.old self.new
             (update self.old.live id.now (after_rewrite ras aliases deadline)) }
     {
         let place = live_place(&self.items, id);
@@ -225,7 +225,7 @@ impl Registrations {
     /// Notes that an endpoint was heard.
     pub fn hear(&mut self, id: &EndpointId, now: u64)
         requires { IsSome (map.get self.old.live id.now) }
-        ensures { Becomes self.old self.new (update self.old.live id.now (after_hear now)) }
+        ensures { Updates self.old self.new (update self.old.live id.now (after_hear now)) }
     {
         let place = live_place(&self.items, id);
         let row = &mut self.items[place];
@@ -236,7 +236,7 @@ impl Registrations {
     /// Notes that an endpoint was asked for a sign of life, as it may be 16 times on end.
     pub fn asked(&mut self, id: &EndpointId, now: u64)
         requires { IsSomeAnd (map.get self.old.live id.now) (λ r. r.tries < 16) }
-        ensures { Becomes self.old self.new (update self.old.live id.now (after_ask now)) }
+        ensures { Updates self.old self.new (update self.old.live id.now (after_ask now)) }
     {
         let place = live_place(&self.items, id);
         let row = &mut self.items[place];
@@ -247,7 +247,7 @@ impl Registrations {
     /// Counts the tries of an endpoint anew.
     pub fn calm(&mut self, id: &EndpointId)
         requires { IsSome (map.get self.old.live id.now) }
-        ensures { Becomes self.old self.new (update self.old.live id.now after_calm) }
+        ensures { Updates self.old self.new (update self.old.live id.now after_calm) }
     {
         let place = live_place(&self.items, id);
         self.items[place].tries = 0;

@@ -1,6 +1,6 @@
 //! Calls, their legs, and the bandwidth that they use.
 
-use crate::making::{address, endpoint};
+use crate::fixtures::{address, endpoint};
 use admission::{Call, CallFault, CallList, Calls, Left, Leg, Legs};
 use ras_module::CallKey;
 use std::alloc::AllocError;

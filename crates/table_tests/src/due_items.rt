@@ -1,6 +1,6 @@
 //! What is due by the tables, and from which moment on.
 
-use crate::making::{address, endpoint, no_alias, seq};
+use crate::fixtures::{address, endpoint, no_alias, seq};
 use admission::{Calls, Leg};
 use expiry::{DueItem, Times, due};
 use kept_replies::{Kept, KeptKey};

@@ -1,6 +1,6 @@
 //! The registrations of endpoints.
 
-use crate::making::{address, digits, endpoint, no_alias};
+use crate::fixtures::{address, digits, endpoint, no_alias};
 use ras_module::{AliasList, BmpString, EndpointId, ReplyAliases};
 use registrations::{AddFault, Registration, RegistrationList, Registrations};
 use std::alloc::{AllocError, Global};

@@ -1,6 +1,6 @@
 //! The aliases that endpoints hold.
 
-use crate::making::{address, digits, endpoint};
+use crate::fixtures::{address, digits, endpoint};
 use aliases::{AliasTable, SetFault};
 use ras_module::{Alias, BmpString};
 use std::alloc::{AllocError, Global};

@@ -1,6 +1,6 @@
 //! Replies that are kept, and requests that wait.
 
-use crate::making::{endpoint, no_alias, seq};
+use crate::fixtures::{endpoint, no_alias, seq};
 use kept_replies::{Kept, KeptEntry, KeptKey, KeptList, KeptState, ReserveFault};
 use ras_module::{
     Address, BandwidthRequest, CallKey, Delay, Name, Octets, Reply, Request, TimeToLive,

@@ -9,8 +9,8 @@ mod due_items;
 #[cfg(test)]
 mod endpoints;
 #[cfg(test)]
+mod fixtures;
+#[cfg(test)]
 mod held_aliases;
 #[cfg(test)]
 mod kept;
-#[cfg(test)]
-mod making;

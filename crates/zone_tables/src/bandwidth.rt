@@ -140,13 +140,13 @@ impl<P: Pool> Bandwidth<P> {
         self.calls.list()
     }
 
-    /// Makes room for one more call.
-    pub fn reserve(&mut self) -> Result<(), AllocError>
+    /// Makes room for so many more calls.
+    pub fn reserve(&mut self, more: usize) -> Result<(), AllocError>
         ensures usage { self.new.usage ≡ self.old.usage }
         ensures lasts { self.new.lasts ≡ self.old.lasts }
-        ensures room { OnOk result (0 < self.new.room) }
+        ensures room { OnOk result (more ≤ self.new.room) }
     {
-        self.calls.reserve(1)
+        self.calls.reserve(more)
     }
 
     /// Makes a change for which no pool is asked. All that may want memory comes first.

@@ -263,7 +263,7 @@ impl<P: Pool> ZoneTables<P> {
         ensures sound { SoundTables self.new.tables }
         ensures err { OnErr result (self.new ≡ self.old) }
     {
-        self.bandwidth.reserve()?;
+        self.bandwidth.reserve(1)?;
         Ok(self.bandwidth.request_units(request))
     }
 

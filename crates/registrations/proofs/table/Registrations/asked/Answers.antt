@@ -4,7 +4,7 @@ use Rattle.std.specs.Option.{IsSomeAnd}
 use Rattle.std.specs.FinMap as fin
 use Rattle.registrations.specs.declared.registration.Registration.{Registration}
 use Rattle.registrations.specs.Registry.{Registry, after_ask}
-use Rattle.registrations.proofs.Rows.{Becomes-changed, IsTable-changed, its_row}
+use Rattle.registrations.proofs.Rows.{Updates-changed, IsTable-changed, its_row}
 use Rattle.registrations.proofs.table.Registrations.asked.Goals as goal
 
 pub overflow_add-row : goal.overflow_add-row
@@ -30,7 +30,7 @@ invariant_of-self c =
 pub returns : goal.returns
 returns c =
     let i = c.self.inside in
-    Becomes-changed i.items.items i.most i.lowest c.args.id.now c.live_place-place.result
+    Updates-changed i.items.items i.most i.lowest c.args.id.now c.live_place-place.result
     c.index_mut-row.result.now (after_ask c.args.now) c.self.invariant
     (rw c.deref.ensures.value at c.live_place-place.ensures) c.index_mut-row.ensures.value refl refl _ _ _
-    c.self.view_is refl refl refl refl (omega arith)
+    c.self.view_is refl refl refl refl refl
