@@ -189,7 +189,8 @@ module _ {S : Type 0} (old new : IndexMap CallKey Call S) (key : CallKey) (most 
       (Becomes-rewrite stored change r call is)
 
   -- one is opened
-  pub Adds-open : AreStored new most → (call : Call) → hash.Updates same_call_key old new key (Some call)
+  pub Adds-open : AreStored new most → (call : Call)
+      → hash.Updates same_call_key old new key (Some call)
       → spare old ≤ spare new + 1
       → Adds t (table_of new most) (fin.insert t.calls key call)
   Adds-open stored call u room = subst
@@ -202,7 +203,8 @@ module _ {S : Type 0} (old new : IndexMap CallKey Call S) (key : CallKey) (most 
       })
 
   -- one ends
-  pub Becomes-end : AreStored new most → hash.Updates same_call_key old new key None → spare old ≤ spare new
+  pub Becomes-end : AreStored new most → hash.Updates same_call_key old new key None
+      → spare old ≤ spare new
       → Becomes t (table_of new most) (fin.remove t.calls key)
   Becomes-end stored u room = subst
       (λ (v : CallTable). Becomes v (table_of new most) (fin.remove v.calls key)) view (record {

@@ -1,6 +1,6 @@
 -- Which identifiers may be handed out: what the test of one says.
-use Rattle.std.proofs.Common.{◌≡◌, ◌↔◌, ℕ, Bool, true, false, not, ◌||◌, List, [], ◌∷◌, nat_eq, refl}
-use Rattle.std.proofs.Common.{sym, ◌∙◌, ap, cond, Some, None}
+use Rattle.std.proofs.Common.{◌≡◌, ◌↔◌, ℕ, Bool, true, false, not, ◌||◌, List, [], ◌∷◌, nat_eq}
+use Rattle.std.proofs.Common.{refl, sym, ◌∙◌, ap, cond, Some, None}
 use Rattle.std.specs.Prelude.{Contains, IsTrue}
 use Rattle.std.specs.FinMap as fin
 use Rattle.std.specs.List.{find as find_first, list_any}

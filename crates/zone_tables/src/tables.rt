@@ -34,8 +34,8 @@ use std::alloc::{AllocError, Global};
 use std::marker::Model;
 use zone_config::{Config, Moment};
 
-/// The settings of a zone, its endpoints, and its calls with their pools. Contracts see that each leg's
-/// endpoint is registered.
+/// The settings of a zone, its endpoints, and its calls with their pools. Each change of them says
+/// that they are sound after it.
 #[derive(Drop)]
 pub struct ZoneTables<P: Pool> {
     config: Config,

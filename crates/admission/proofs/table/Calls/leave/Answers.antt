@@ -32,7 +32,8 @@ returns-then-has_other-clause-ok c =
     c.in-Some.call.now (sym c.in-Some.ensures.found)
     (sym c.has_other.ensures ∙ c.if-has_other.true)))
     (Becomes-rewrite c.self.inside.calls c.write_without.new.calls c.args.key.now c.self.inside.most
-    c.args.self.now c.self.view_is (invariant_of-self c) (with_legs_but c.args.endpoint.now) c.write_without.ensures
+    c.args.self.now c.self.view_is (invariant_of-self c)
+    (with_legs_but c.args.endpoint.now) c.write_without.ensures
     c.in-Some.call.now c.in-Some.ensures.found)
 
 pub returns-then-has_other-clause-ended : goal.returns-then-has_other-clause-ended

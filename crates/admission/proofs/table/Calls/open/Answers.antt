@@ -38,7 +38,8 @@ returns-clause-ok c =
           c.self.inside.most) (map.insert c.args.self.now.calls c.args.key
           (record { pool = c.args.pool; units = c.args.units; legs = legs }))) c.one.ensures
           (Adds-open c.self.inside.calls c.insert.new.self c.args.key c.self.inside.most
-          c.args.self.now c.self.view_is (invariant_of-self c) _ w.in-Ok.ensures.updates w.in-Ok.ensures.spare))
+          c.args.self.now c.self.view_is (invariant_of-self c) _
+          w.in-Ok.ensures.updates w.in-Ok.ensures.spare))
       | in-Err w ↦ rw w.result-is tt
     ]
 

@@ -13,5 +13,6 @@ invariant_of-self c =
 pub returns-clause-ok : goal.returns-clause-ok
 returns-clause-ok c =
     Becomes-update c.self.inside.calls c.write_units.new.calls c.args.key.now c.self.inside.most
-    c.args.self.now c.self.view_is (invariant_of-self c) (with_units c.args.units) c.write_units.ensures
+    c.args.self.now c.self.view_is (invariant_of-self c)
+    (with_units c.args.units) c.write_units.ensures
     c.in-Some._call.now c.in-Some.ensures.found

@@ -32,5 +32,5 @@ returns c =
     let i = c.self.inside in
     Updates-changed i.items.items i.most i.lowest c.args.id.now c.live_place-place.result
     c.index_mut-row.result.now (after_ask c.args.now) c.self.invariant
-    (rw c.deref.ensures.value at c.live_place-place.ensures) c.index_mut-row.ensures.value refl refl _ _ _
-    c.self.view_is refl refl refl refl refl
+    (rw c.deref.ensures.value at c.live_place-place.ensures) c.index_mut-row.ensures.value refl
+    refl _ _ _ c.self.view_is refl refl refl refl refl

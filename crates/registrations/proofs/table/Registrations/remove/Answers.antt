@@ -5,7 +5,8 @@ use Rattle.std.proofs.lemmas.Map.Lookups.{exact_bytes}
 use Rattle.keyed.proofs.Maps.{remove_absent}
 use Rattle.keyed.proofs.Searches.{place_below}
 use Rattle.registrations.specs.Registry.{IsSound, live_of, identifier_of}
-use Rattle.registrations.proofs.Rows.{IsSound-rows, IsTable-remove, IsRowOf-place, live_remove, length-remove}
+use Rattle.registrations.proofs.Rows.{IsSound-rows}
+use Rattle.registrations.proofs.Rows.{IsTable-remove, IsRowOf-place, live_remove, length-remove}
 use Rattle.registrations.proofs.table.Registrations.remove.Goals as goal
 
 pub returns-in_err-place-clause-removed : goal.returns-in_err-place-clause-removed

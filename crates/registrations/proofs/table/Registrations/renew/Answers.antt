@@ -15,5 +15,5 @@ returns c =
     let i = c.self.inside in
     Updates-changed i.items.items i.most i.lowest c.args.id.now c.live_place-place.result
     c.index_mut.result.now (with_deadline c.args.deadline) c.self.invariant
-    (rw c.deref.ensures.value at c.live_place-place.ensures) c.index_mut.ensures.value refl refl _ _ _
-    c.self.view_is refl refl refl refl refl
+    (rw c.deref.ensures.value at c.live_place-place.ensures) c.index_mut.ensures.value refl refl
+    _ _ _ c.self.view_is refl refl refl refl refl

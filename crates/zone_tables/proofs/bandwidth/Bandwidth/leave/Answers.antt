@@ -4,8 +4,10 @@ use Rattle.admission.specs.Calls.{after_leave, freed_by_leave}
 use Rattle.zone_tables.specs.Parts.{Lending, with_usage}
 use Rattle.zone_tables.specs.Pools.{figures_of, lasts_of, pools_after_return, pools_after_end}
 use Rattle.zone_tables.proofs.Answered.{on_ok}
-use Rattle.zone_tables.proofs.PoolFigures.{figures-return, figures_there, lasts-return, within_limits}
-use Rattle.zone_tables.proofs.Backing.{IsSoundUsage-held, IsBacked-is, IsBacked-leave, call_left, freed_as}
+use Rattle.zone_tables.proofs.PoolFigures.{within_limits}
+use Rattle.zone_tables.proofs.PoolFigures.{figures-return, figures_there, lasts-return}
+use Rattle.zone_tables.proofs.Backing.{IsSoundUsage-held}
+use Rattle.zone_tables.proofs.Backing.{IsBacked-is, IsBacked-leave, call_left, freed_as}
 use Rattle.zone_tables.proofs.Backing.{freed_is_lent}
 use Rattle.zone_tables.proofs.Backing.{freed_pool, usage_in}
 use Rattle.zone_tables.proofs.bandwidth.Bandwidth.leave.Goals as goal

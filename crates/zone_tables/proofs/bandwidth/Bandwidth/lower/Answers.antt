@@ -5,8 +5,10 @@ use Rattle.zone_tables.specs.Changes.{IsLowerable}
 use Rattle.zone_tables.specs.Parts.{Lending, with_usage}
 use Rattle.zone_tables.specs.Pools.{figures_of, lasts_of, pools_after_return}
 use Rattle.zone_tables.proofs.Answered.{on_ok}
-use Rattle.zone_tables.proofs.PoolFigures.{figures-return, figures_there, lasts-return, within_limits}
-use Rattle.zone_tables.proofs.Backing.{IsSoundUsage-held, IsBacked-is, IsBacked-lower, back_is_lent, usage_in}
+use Rattle.zone_tables.proofs.PoolFigures.{within_limits}
+use Rattle.zone_tables.proofs.PoolFigures.{figures-return, figures_there, lasts-return}
+use Rattle.zone_tables.proofs.Backing.{IsSoundUsage-held}
+use Rattle.zone_tables.proofs.Backing.{IsBacked-is, IsBacked-lower, back_is_lent, usage_in}
 use Rattle.zone_tables.proofs.bandwidth.Bandwidth.lower.Goals as goal
 
 pub take_back-requires-clause-lent : goal.take_back-requires-clause-lent

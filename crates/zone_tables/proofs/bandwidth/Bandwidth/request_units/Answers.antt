@@ -7,8 +7,10 @@ use Rattle.pools.specs.Accounts.{account_at}
 use Rattle.zone_tables.specs.Soundness.{HasCounts}
 use Rattle.zone_tables.specs.Parts.{Lending, with_usage}
 use Rattle.zone_tables.specs.Pools.{figures_at, figures_of, lasts_of, pools_after_answer}
-use Rattle.zone_tables.proofs.PoolFigures.{figures-answer, figures_there, lasts-answer, within_limits}
-use Rattle.zone_tables.proofs.Backing.{IsSoundUsage-held, IsBacked-answer, IsBacked-is, enterable, may_request, usage_in}
+use Rattle.zone_tables.proofs.PoolFigures.{within_limits}
+use Rattle.zone_tables.proofs.PoolFigures.{figures-answer, figures_there, lasts-answer}
+use Rattle.zone_tables.proofs.Backing.{IsSoundUsage-held}
+use Rattle.zone_tables.proofs.Backing.{IsBacked-answer, IsBacked-is, enterable, may_request, usage_in}
 use Rattle.zone_tables.proofs.bandwidth.Bandwidth.request_units.Goals as goal
 
 pub lend-answer-requires-clause-may : goal.lend-answer-requires-clause-may
