@@ -8,44 +8,44 @@ use Rattle.zone_config.specs.declared.key.Key.TheVariants.{Limit, CallLimit, Tim
 use Rattle.zone_config.specs.declared.key.Key.TheVariants.{Calls, Kept, Window, Silence, Delay}
 use Rattle.zone_config.specs.declared.key.Key.TheVariants.{Retries, Asks, AskWait, PoolTurn}
 
--- what is said of a key: its name, the least and the greatest number that it takes, and its number
--- where nothing is set
-pub record Said : Type 0 where
+-- the row of a key in the table: its name, the least and the greatest number that it takes, and its
+-- number where nothing is set
+pub record Row : Type 0 where
   pub name : List ℕ
   pub least : ℕ
   pub most : ℕ
   pub default : ℕ
 
-abbrev said : List ℕ → ℕ → ℕ → ℕ → Said
-said name least most default =
+abbrev row_with : List ℕ → ℕ → ℕ → ℕ → Row
+row_with name least most default =
     record { name = name; least = least; most = most; default = default }
 
-abbrev pub said_of : Key → Said
-said_of Limit = said (codes "limit") 1 1000000000000 100000
-said_of CallLimit = said (codes "call_limit") 1 4294967295 20000
-said_of TimeToLive = said (codes "time_to_live") 1 4294967295 60
-said_of Endpoints = said (codes "endpoints") 1 20000 1000
-said_of Calls = said (codes "calls") 1 20000 1000
-said_of Kept = said (codes "kept") 1 65536 4096
-said_of Window = said (codes "window") 1 3600000 10000
-said_of Silence = said (codes "silence") 1 3600000 30000
-said_of Delay = said (codes "delay") 1 65535 500
-said_of Retries = said (codes "retries") 1 16 3
-said_of Asks = said (codes "asks") 1 16 3
-said_of AskWait = said (codes "ask_wait") 1 3600000 5000
-said_of PoolTurn = said (codes "pool_turn") 1 86400000 1000
+abbrev pub row_of : Key → Row
+row_of Limit = row_with (codes "limit") 1 1000000000000 100000
+row_of CallLimit = row_with (codes "call_limit") 1 4294967295 20000
+row_of TimeToLive = row_with (codes "time_to_live") 1 4294967295 60
+row_of Endpoints = row_with (codes "endpoints") 1 20000 1000
+row_of Calls = row_with (codes "calls") 1 20000 1000
+row_of Kept = row_with (codes "kept") 1 65536 4096
+row_of Window = row_with (codes "window") 1 3600000 10000
+row_of Silence = row_with (codes "silence") 1 3600000 30000
+row_of Delay = row_with (codes "delay") 1 65535 500
+row_of Retries = row_with (codes "retries") 1 16 3
+row_of Asks = row_with (codes "asks") 1 16 3
+row_of AskWait = row_with (codes "ask_wait") 1 3600000 5000
+row_of PoolTurn = row_with (codes "pool_turn") 1 86400000 1000
 
 abbrev pub name_of : Key → List ℕ
-name_of key = (said_of key).name
+name_of key = (row_of key).name
 
 abbrev pub least_of : Key → ℕ
-least_of key = (said_of key).least
+least_of key = (row_of key).least
 
 abbrev pub most_of : Key → ℕ
-most_of key = (said_of key).most
+most_of key = (row_of key).most
 
 abbrev pub default_of : Key → ℕ
-default_of key = (said_of key).default
+default_of key = (row_of key).default
 
 -- its name among all settings
 abbrev pub path_of : Key → List ℕ

@@ -40,7 +40,7 @@ pub enum Key {
     PoolTurn,
 }
 
-/// What is said of a key.
+/// The row of a key in the table of settings.
 #[derive(Clone, Copy)]
 struct Row {
     name: &'static str,
