@@ -64,7 +64,7 @@ fn faults_have_numbers_and_messages(rt: HostRuntime) -> Result<(), Fail> {
             "a pool is not idle: it has units lent, or has counted 2^62 refusals or waits",
         ),
     ] {
-        assert_eq!(rt; fault as u8, number);
+        assert_eq!(rt; fault.number(), number);
         assert_eq!(rt; format!(in rt.alloc(); "{fault}")?.as_str(), message);
     }
     Ok(())

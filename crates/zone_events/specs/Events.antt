@@ -3,6 +3,8 @@ use Rattle.std.specs.Prelude.{ℕ, Option, None}
 use Rattle.zone_events.specs.declared.event.Event.{Event}
 use Rattle.zone_events.specs.declared.event.Event.TheVariants as event
 use Rattle.zone_events.specs.declared.outcome.Datagram.{Datagram}
+use Rattle.zone_events.specs.declared.outcome.IgnoredCause.{IgnoredCause}
+use Rattle.zone_events.specs.declared.outcome.IgnoredCause.TheVariants as cause
 use Rattle.zone_events.specs.declared.outcome.Note.{Note}
 use Rattle.zone_events.specs.declared.outcome.Outcome.{Outcome}
 
@@ -20,3 +22,11 @@ noted_outcome what output = record {
   dropped = None;
   given = None;
 }
+
+-- the numbers of the causes for which a datagram is ignored
+abbrev pub cause_number : IgnoredCause → ℕ
+cause_number cause.TooLong = 1
+cause_number cause.Unreadable = 2
+cause_number cause.NotServed = 3
+cause_number cause.Busy = 4
+cause_number cause.UnknownEndpoint = 5

@@ -1,7 +1,7 @@
 //! What a step answers.
 
 ghost use Rattle.std.specs.Prelude.{◌≡◌, None};
-ghost use Rattle.zone_events.specs.Events.{noted_outcome};
+ghost use Rattle.zone_events.specs.Events.{cause_number, noted_outcome};
 
 use crate::due_item::DueItem;
 use pools::Lend;
@@ -19,15 +19,30 @@ pub struct Datagram {
 #[derive(Clone, Copy, Debug, PartialEq, Eq)]
 pub enum IgnoredCause {
     /// It has more than 4,096 octets.
-    TooLong = 1,
+    TooLong,
     /// Its octets are no RAS message of the profile.
-    Unreadable = 2,
+    Unreadable,
     /// It is a message that the gatekeeper doesn't serve.
-    NotServed = 3,
+    NotServed,
     /// As many replies are kept as may be, and none of them is over.
-    Busy = 4,
+    Busy,
     /// It is a sign of life of an endpoint that isn't registered.
-    UnknownEndpoint = 5,
+    UnknownEndpoint,
+}
+
+impl IgnoredCause {
+    /// The number of the cause.
+    pub fn number(&self) -> u8
+        ensures { result ≡ cause_number self.now }
+    {
+        match self {
+            IgnoredCause::TooLong => 1,
+            IgnoredCause::Unreadable => 2,
+            IgnoredCause::NotServed => 3,
+            IgnoredCause::Busy => 4,
+            IgnoredCause::UnknownEndpoint => 5,
+        }
+    }
 }
 
 /// What happened in a step.
