@@ -4,8 +4,8 @@
 ghost use Rattle.std.specs.Prelude.{◌≡◌};
 ghost use Rattle.gatekeeper.specs.Replays.{status_of};
 
+mod boxed_pools;
 mod cli;
-mod making;
 mod replay;
 
 use cli::{Choice, chosen};

@@ -3,7 +3,7 @@
 ghost use Rattle.std.specs.Prelude.{◌≡◌};
 ghost use Rattle.gatekeeper.specs.Replays.{status_of, Replays};
 
-use crate::making::run_with_pools;
+use crate::boxed_pools::run_with_pools;
 use script::{RunFault, ScriptFault, read_script};
 use std::alloc::{AllocError, Global};
 use std::io::{Read, Write};

@@ -1,6 +1,6 @@
 -- A line is parted into words.
 use Rattle.std.proofs.Common.{◌≡◌, ℕ, ◌<◌, inl, inr, Bool, true, cond, List, ◌∷◌, length, sym, ap}
-use Rattle.std.proofs.Common.{◌∙◌, arith, rules, filter, nat_lt}
+use Rattle.std.proofs.Common.{◌∙◌, rules, filter, nat_lt}
 use Rattle.std.proofs.lemmas.Bool.Decides.{nat_tests}
 use Rattle.value_texts.specs.Parts.{front_part, rest_part}
 use Rattle.value_texts.proofs.Parting.{split_step}

@@ -4,9 +4,9 @@ ghost use Rattle.std.specs.Prelude.{◌≡◌, IsTrue, ◌↔◌, OnOk, None, []
 ghost use Rattle.script.specs.Said.{Said, with_line, MayFollow};
 ghost use Rattle.script.specs.Scripts.{script_from, GivesUnlessStopped};
 
+use crate::draft_config::{config_of, networks_of, specs_of, with_settings};
 use crate::fault::ScriptFault;
 use crate::line::Line;
-use crate::making::{config_of, networks_of, specs_of, with_settings};
 use crate::pool::PoolLine;
 use crate::read::{Events, Script};
 use crate::setting::Setting;

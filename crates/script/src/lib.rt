@@ -2,10 +2,10 @@
 #![tactic(auto)]
 
 mod draft;
+mod draft_config;
 mod fault;
 mod input;
 mod line;
-mod making;
 mod pool;
 mod print;
 mod read;

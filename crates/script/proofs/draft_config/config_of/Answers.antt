@@ -2,7 +2,7 @@ use Rattle.std.proofs.Common.{◌≡◌, ◌∙◌, ap, None, Err, subst, sym}
 use Rattle.zone_config.specs.declared.config.ConfigParts.{ConfigParts}
 use Rattle.zone_config.specs.Ranges.{range_fault}
 use Rattle.zone_config.proofs.Staying.{defaults_in_range, no_range_fault}
-use Rattle.script.proofs.making.config_of.Goals as goal
+use Rattle.script.proofs.draft_config.config_of.Goals as goal
 
 pub unreachable-requires : goal.unreachable-requires
 unreachable-requires c =

@@ -1,6 +1,6 @@
 //! Making the zone of a script of what its lines say.
 
-ghost use Rattle.std.specs.Prelude.{◌≡◌, IfOk, true, false, fold, None, Some, if◌then◌else◌};
+ghost use Rattle.std.specs.Prelude.{◌≡◌, IfOk, false, fold, None, Some, if◌then◌else◌};
 ghost use Rattle.std.specs.List.{list_any};
 ghost use Rattle.zone_config.specs.Defaults.{default_parts};
 ghost use Rattle.zone_config.specs.Networks.{has_default, is_too_long};

@@ -1,6 +1,6 @@
 use Rattle.std.proofs.Common.{◌≡◌, fold, take}
 use Rattle.script.specs.Scripts.{with_setting}
-use Rattle.script.proofs.making.with_settings.Given as goal
+use Rattle.script.proofs.draft_config.with_settings.Given as goal
 
 abbrev pub invariant-loop-setting : goal.invariant-loop-setting
 invariant-loop-setting l =

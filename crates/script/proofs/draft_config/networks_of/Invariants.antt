@@ -1,7 +1,7 @@
 use Rattle.std.proofs.Common.{◌≡◌, ◌++◌, map, take, false}
 use Rattle.std.specs.List.{list_any}
 use Rattle.zone_config.specs.Networks.{is_too_long}
-use Rattle.script.proofs.making.networks_of.Given as goal
+use Rattle.script.proofs.draft_config.networks_of.Given as goal
 
 abbrev pub invariant-loop-line : goal.invariant-loop-line
 invariant-loop-line l = record {
