@@ -55,6 +55,7 @@ impl Kept {
         requires few { most ≤ 65536 }
         ensures kept { result.kept ≡ map.empty }
         ensures most { result.most ≡ most }
+        ensures sound { IsConsistent result }
     {
         Kept {
             rows: IndexMap::new(alloc),
@@ -157,6 +158,7 @@ impl Kept {
     pub fn reserve(&mut self, now: u64) -> Result<(), ReserveFault>
         ensures kept { self.new.kept ≡ self.old.kept }
         ensures most { self.new.most ≡ self.old.most }
+        ensures sound { IsConsistent self.new }
         ensures busy { (result ≡ Err ReserveFault.Busy) ↔ IsBusy self.old now }
         ensures ok { OnOk result (0 < self.new.room) }
         ensures room { self.old.room ≤ self.new.room }
@@ -179,6 +181,7 @@ impl Kept {
         ensures adds { Adds self.old self.new
             (map.insert self.old.kept key (done born reply until)) }
         ensures replaces { map.get self.old.kept key ≢ None → self.old.room ≤ self.new.room }
+        ensures sound { IsConsistent self.new }
     {
         let state = KeptState::Done { reply, until };
         self.put(key, KeptEntry { born, state });
@@ -202,6 +205,7 @@ impl Kept {
         ensures adds { Adds self.old self.new
             (map.insert self.old.kept key (pending born request reply retry left)) }
         ensures replaces { map.get self.old.kept key ≢ None → self.old.room ≤ self.new.room }
+        ensures sound { IsConsistent self.new }
     {
         let state = KeptState::Pending {
             request,
@@ -219,6 +223,7 @@ impl Kept {
         requires entry { IsEntry entry }
         ensures adds { Adds self.old self.new (map.insert self.old.kept key entry) }
         ensures replaces { map.get self.old.kept key ≢ None → self.old.room ≤ self.new.room }
+        ensures sound { IsConsistent self.new }
     {
         write_entry(&mut self.rows, key, entry);
     }
@@ -227,8 +232,9 @@ impl Kept {
     /// memory.
     pub fn finish(&mut self, key: &KeptKey, reply: Reply, until: u64)
         requires { IsSome (map.get self.old.kept key.now) }
-        ensures { Becomes self.old self.new
+        ensures becomes { Becomes self.old self.new
             (update self.old.kept key.now (finished reply until)) }
+        ensures sound { IsConsistent self.new }
     {
         write_done(&mut self.rows, key, reply, until);
     }
@@ -237,7 +243,9 @@ impl Kept {
     /// memory.
     pub fn postpone(&mut self, key: &KeptKey, retry: u64)
         requires { IsSomeAnd (map.get self.old.kept key.now) (λ entry. 2 ≤ left_in entry.state) }
-        ensures { Becomes self.old self.new (update self.old.kept key.now (postponed retry)) }
+        ensures becomes { Becomes self.old self.new
+            (update self.old.kept key.now (postponed retry)) }
+        ensures sound { IsConsistent self.new }
     {
         write_retry(&mut self.rows, key, retry);
     }
@@ -258,7 +266,8 @@ impl Kept {
 
     /// Drops the entry with this birth, where there is one. This takes no memory.
     pub fn drop_born(&mut self, born: u64)
-        ensures { Becomes self.old self.new (without_birth self.old.kept born) }
+        ensures becomes { Becomes self.old self.new (without_birth self.old.kept born) }
+        ensures sound { IsConsistent self.new }
     {
         if let Some(place) = place_of(&self.rows, born) {
             remove_at(&mut self.rows, place);

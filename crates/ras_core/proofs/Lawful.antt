@@ -14,22 +14,23 @@ use Rattle.kept_replies.specs.declared.entry.KeptEntry.{KeptEntry}
 use Rattle.kept_replies.specs.Kept.{reply_in}
 use Rattle.zone_events.specs.declared.event.Event.{Event}
 use Rattle.zone_events.specs.declared.event.Event.TheVariants as event
-use Rattle.ras_core.specs.declared.prepared.Message.TheVariants.{TooLong}
-use Rattle.ras_core.specs.Prepared.{message_by}
+use Rattle.ras_machine.specs.declared.prepared.Message.TheVariants.{TooLong}
+use Rattle.ras_machine.specs.Prepared.{message_by}
 use Rattle.zone_events.specs.declared.outcome.Note.{Note}
 use Rattle.zone_events.specs.declared.outcome.Note.TheVariants as note
 use Rattle.zone_events.specs.declared.outcome.Outcome.{Outcome}
-use Rattle.ras_core.specs.State.{State, Running}
+use Rattle.ras_machine.specs.State.{State, Running}
 use Rattle.ras_requests.specs.Plans.{Plan}
 use Rattle.ras_requests.specs.Requests.{plan_of, HasReply}
-use Rattle.ras_core.specs.Keeping.{is_repeat}
-use Rattle.ras_core.specs.Turns.{IsNothingDueIn}
-use Rattle.ras_core.specs.Machine.{Ending, Course, Repeating, at_moment, course}
-use Rattle.ras_core.specs.Machine.{course_ending, datagram_course, first, keyed_course, most_steps}
-use Rattle.ras_core.specs.Machine.{message_course, planned_course, serving, turn_course}
-use Rattle.ras_core.specs.Steps.{EachState, IsAllowed, IsWithinLimit, RunningRun, Step, choices_of}
-use Rattle.ras_core.specs.Steps.{item_of}
-use Rattle.ras_core.proofs.Retrying.{plan_there}
+use Rattle.ras_machine.specs.Keeping.{is_repeat}
+use Rattle.ras_machine.specs.Turns.{IsNothingDueIn}
+use Rattle.ras_machine.specs.Machine.{Ending, Course, Repeating, at_moment, course}
+use Rattle.ras_machine.specs.Machine.{course_ending, datagram_course, message_course, most_steps}
+use Rattle.ras_machine.specs.Machine.{turn_course}
+use Rattle.ras_core.specs.Runs.{EachState, IsWithinLimit, RunningRun}
+use Rattle.ras_machine.specs.Steps.{IsAllowed, Step, choices_of}
+use Rattle.ras_machine.specs.Steps.{item_of}
+use Rattle.ras_machine.proofs.Calling.{repeats}
 
 not_above : (n most : ℕ) → n ≤ most → nat_lt most n ≡ false
 not_above n most few = grind (arith, nat_tests)
@@ -50,20 +51,14 @@ module _ (s : State) (source : Address) (bytes : List ℕ) (now : ℕ)
   key : KeptKey
   key = record { source = source; bytes = bytes }
 
-  plan : (p : Plan) × (plan_of s.zone now request ≡ Some p)
-  plan = plan_there s.zone now request served
-
   course_is : datagram_course s now (record { source = source; bytes = bytes }) dropped
       ≡ Repeating (record { to = source; bytes = encoding_of (reply_in entry.state) })
   course_is =
       ap (message_course s now (record { source = source; bytes = bytes }) dropped)
       (ap (λ b. if b then TooLong else message_by (message_reading bytes))
       (not_above (length bytes) 4096 few) ∙ ap message_by read)
-      ∙ (ap (planned_course s now (record { source = source; bytes = bytes }) request dropped) plan.1
-      ∙ (ap (keyed_course s now (record { source = source; bytes = bytes }) request plan.0 dropped) there
-      ∙ ap (λ b. if b
-      then Repeating (record { to = source; bytes = encoding_of (reply_in entry.state) })
-      else serving (first (record { source = source; bytes = bytes }) None) now request plan.0) repeat))
+      ∙ repeats s now (record { source = source; bytes = bytes }) request dropped served entry there
+      repeat
 
 pub repeated : (s : State) (source : Address) (bytes : List ℕ) (moment : ℕ)
     (request : Request) (entry : KeptEntry)
@@ -101,6 +96,6 @@ pub within_limit : (old : Running) (entries : List (Event × Outcome)) (new : Ru
     (run : RunningRun old entries new) → EachState IsWithinLimit old entries new run
 within_limit old [] new run = tt
 within_limit old (entry ∷ entries) new run = (
-  record { limit = run.1.sound.zone.limit; lent = run.1.sound.zone.lent },
+  record { limit = run.1.sound.tables.limit; lent = run.1.sound.tables.lent },
   within_limit run.0 entries new run.2,
 )

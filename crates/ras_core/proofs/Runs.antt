@@ -5,8 +5,9 @@ use Rattle.std.proofs.lemmas.List.{take_more}
 use Rattle.std.specs.List.{zip}
 use Rattle.zone_events.specs.declared.event.Event.{Event}
 use Rattle.zone_events.specs.declared.outcome.Outcome.{Outcome}
-use Rattle.ras_core.specs.State.{State, Running}
-use Rattle.ras_core.specs.Steps.{Step, Run, RunsOn, RunningStep, RunningRun}
+use Rattle.ras_machine.specs.State.{State, Running}
+use Rattle.ras_core.specs.Runs.{Run, RunsOn, RunningStep, RunningRun}
+use Rattle.ras_machine.specs.Steps.{Step}
 
 run_more : (z mid after : State) (events : List Event) (made : List Outcome) (event : Event)
     (outcome : Outcome) → length made ≡ length events → Run z (zip events made) mid

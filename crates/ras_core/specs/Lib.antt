@@ -1,9 +1,2 @@
-pub mod Prepared
-pub mod Unused
-pub mod State
-pub mod Keeping
-pub mod Turns
-pub mod Machine
-pub mod Soundness
-pub mod Steps
-pub mod inside
+pub mod Faults
+pub mod Runs

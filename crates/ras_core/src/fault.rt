@@ -1,5 +1,8 @@
 //! Why something isn't done.
 
+ghost use Rattle.std.specs.Prelude.{◌≡◌};
+ghost use Rattle.ras_core.specs.Faults.{new_fault_number, step_fault_number};
+
 use std::alloc::AllocError;
 use thiserror::Error;
 
@@ -8,20 +11,44 @@ use thiserror::Error;
 pub enum NewFault {
     /// There is another number of pools than of networks.
     #[error("there have to be as many pools as networks")]
-    WrongPools = 1,
+    WrongPools,
     /// There is no memory. Today a zone is made without any, so that this is never answered.
     #[error("out of memory")]
-    Memory = 2,
+    Memory,
+}
+
+impl NewFault {
+    /// The number of the fault.
+    pub fn number(&self) -> u8
+        ensures { result ≡ new_fault_number self.now }
+    {
+        match self {
+            NewFault::WrongPools => 1,
+            NewFault::Memory => 2,
+        }
+    }
 }
 
 /// Why a step isn't made. The zone is then as it was.
 #[derive(Clone, Copy, Debug, PartialEq, Eq, Error)]
 pub enum StepFault {
     #[error("out of memory")]
-    Memory = 1,
+    Memory,
     /// So many steps were made that no more are.
     #[error("closed")]
-    Closed = 2,
+    Closed,
+}
+
+impl StepFault {
+    /// The number of the fault.
+    pub fn number(&self) -> u8
+        ensures { result ≡ step_fault_number self.now }
+    {
+        match self {
+            StepFault::Memory => 1,
+            StepFault::Closed => 2,
+        }
+    }
 }
 
 impl From<AllocError> for StepFault {

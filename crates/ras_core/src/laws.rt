@@ -9,10 +9,11 @@ ghost use Rattle.ras_writing.specs.Replies.{encoding_of};
 ghost use Rattle.kept_replies.specs.declared.entry.KeptEntry.{KeptEntry};
 ghost use Rattle.kept_replies.specs.Kept.{reply_in};
 ghost use Rattle.zone_events.specs.declared.outcome.Outcome.{Outcome};
-ghost use Rattle.ras_core.specs.State.{Running, State};
-ghost use Rattle.ras_core.specs.Keeping.{is_repeat};
-ghost use Rattle.ras_core.specs.Turns.{IsNothingDueIn};
-ghost use Rattle.ras_core.specs.Steps.{EachState, IsWithinLimit, RunningRun, Step};
+ghost use Rattle.ras_machine.specs.State.{Running, State};
+ghost use Rattle.ras_machine.specs.Keeping.{is_repeat};
+ghost use Rattle.ras_machine.specs.Turns.{IsNothingDueIn};
+ghost use Rattle.ras_core.specs.Runs.{EachState, IsWithinLimit, RunningRun};
+ghost use Rattle.ras_machine.specs.Steps.{Step};
 ghost use Rattle.ras_requests.specs.Requests.{HasReply};
 
 use zone_events::{Event, Note};

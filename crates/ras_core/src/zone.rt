@@ -1,22 +1,22 @@
 //! The zone.
 
-ghost use Rattle.std.specs.Prelude.{◌≡◌, ◌≢◌, ◌<◌, ◌≤◌, ◌↔◌, All, map, Err, IfOk, IsOk, OnOk, OnErr, IfErr, IsTrue, take, length, vec_len, vec_capacity, ◌++◌, ◌∷◌, []};
+ghost use Rattle.std.specs.Prelude.{◌≡◌, ◌≢◌, ◌<◌, ◌≤◌, ◌↔◌, All, map, Err, IfOk, IsOk, OnOk, OnErr};
+ghost use Rattle.std.specs.Prelude.{IfErr, IsTrue, take, length, vec_len, vec_capacity, ◌++◌, ◌∷◌, []};
 ghost use Rattle.std.specs.FinMap as fin;
 ghost use Rattle.registrations.specs.Registry.{IsListOf};
 ghost use Rattle.admission.specs.Calls.{in_use};
 ghost use Rattle.pools.specs.Account.{is_idle};
-ghost use Rattle.ras_core.specs.State.{opening};
 ghost use Rattle.zone_tables.specs.Pools.{figures_of, figures_without_loans, lasts_of};
-ghost use Rattle.ras_core.specs.Machine.{course, most_steps};
-ghost use Rattle.ras_core.specs.Steps.{HasFewOctets, RunsOn, Step, ask_in, choices_of};
-ghost use Rattle.zone_tables.specs.Pools.{lasts_after};
-ghost use Rattle.ras_core.specs.Soundness.{Sound};
+ghost use Rattle.ras_machine.specs.State.{opening};
+ghost use Rattle.ras_machine.specs.Machine.{most_steps};
+ghost use Rattle.ras_machine.specs.Soundness.{Sound};
+ghost use Rattle.ras_core.specs.Runs.{RunningStep, RunsOn};
 
+use crate::choices::chosen_course;
 use crate::fault::{NewFault, StepFault};
-use crate::machine::Machine;
-use crate::prepared::{Prepared, prepare};
 use admission::CallList;
 use pools::{Pool, PoolSet};
+use ras_machine::{Machine, Prepared, prepare};
 use registrations::RegistrationList;
 use std::alloc::{AllocError, Global};
 use std::marker::Model;
@@ -33,8 +33,8 @@ pub struct Zone<P: Pool> {
 impl<P: Pool> Model for Zone<P> {
     ghost use Rattle.std.specs.Coded.{codes};
     ghost use Rattle.std.specs.FinMap as map;
-    ghost use Rattle.ras_core.specs.State.{Running};
-    ghost use Rattle.ras_core.specs.Soundness.{Sound};
+    ghost use Rattle.ras_machine.specs.State.{Running};
+    ghost use Rattle.ras_machine.specs.Soundness.{Sound};
 
     ghost Value = { Running };
 
@@ -66,18 +66,15 @@ impl<P: Pool> Zone<P> {
         if pools.len() != config.parts().networks.as_slice().len() {
             return Err((pools, NewFault::WrongPools));
         }
-        let machine = Machine::new(alloc, config, pools);
-        let _sound = machine.len();
-        Ok(Zone { machine })
+        Ok(Zone {
+            machine: Machine::new(alloc, config, pools),
+        })
     }
 
     /// One step of the machine: what it answers to the event. It is refused as Closed exactly where 2^62
     /// steps were made; after a refusal nothing has changed, the clock and the pools included.
     pub fn step(&mut self, event: Event) -> Result<Outcome, StepFault>
-        ensures step { IfOk result (λ outcome. Step self.old.state event outcome self.new.state) }
-        ensures lasts { IfOk result (λ outcome. self.new.lasts ≡ lasts_after self.old.lasts
-            (ask_in (course self.old.state event (choices_of outcome))) outcome.answer) }
-        ensures few { IfOk result (λ outcome. HasFewOctets outcome.output) }
+        ensures step { IfOk result (λ outcome. RunningStep self.old event outcome self.new) }
         ensures closed { (result ≡ Err StepFault.Closed) ↔ (self.old.state.steps ≡ most_steps) }
         ensures err { OnErr result (self.new ≡ self.old) }
         ensures sound { Sound self.new.state }
@@ -91,27 +88,33 @@ impl<P: Pool> Zone<P> {
 
     /// One step, as `step` makes it, of an event whose datagram was read before.
     pub fn step_prepared(&mut self, prepared: Prepared) -> Result<Outcome, StepFault>
-        ensures step { IfOk result (λ outcome.
-            Step self.old.state prepared outcome self.new.state) }
-        ensures lasts { IfOk result (λ outcome. self.new.lasts ≡ lasts_after self.old.lasts
-            (ask_in (course self.old.state prepared (choices_of outcome))) outcome.answer) }
-        ensures few { IfOk result (λ outcome. HasFewOctets outcome.output) }
+        ensures step { IfOk result (λ outcome. RunningStep self.old prepared outcome self.new) }
         ensures closed { (result ≡ Err StepFault.Closed) ↔ (self.old.state.steps ≡ most_steps) }
         ensures err { OnErr result (self.new ≡ self.old) }
         ensures sound { Sound self.new.state }
     {
-        let outcome = self.machine.step(prepared);
-        let _sound = self.machine.len();
-        outcome
+        if self.machine.is_closed() {
+            return Err(StepFault::Closed);
+        }
+        Ok(self.respond(prepared)?)
+    }
+
+    /// What comes of an event: what it calls for, the choices that are open, and then the deed.
+    fn respond(&mut self, prepared: Prepared) -> Result<Outcome, AllocError>
+        requires few { self.old.state.steps < most_steps }
+        ensures step { IfOk result (λ outcome. RunningStep self.old prepared outcome self.new) }
+        ensures err { OnErr result (self.new ≡ self.old) }
+        ensures sound { Sound self.new.state }
+    {
+        let now = self.clock().later(prepared.moment());
+        let course = chosen_course(&self.machine, now, prepared.into_arrival())?;
+        let given = self.machine.identifier_for(&course)?;
+        self.machine.perform(now, course, given)
     }
 
     /// A step of an event that stays with the caller.
     fn step_at(&mut self, event: &Event) -> Result<Outcome, StepFault>
-        ensures step { IfOk result (λ outcome.
-            Step self.old.state event.now outcome self.new.state) }
-        ensures lasts { IfOk result (λ outcome. self.new.lasts ≡ lasts_after self.old.lasts
-            (ask_in (course self.old.state event.now (choices_of outcome))) outcome.answer) }
-        ensures few { IfOk result (λ outcome. HasFewOctets outcome.output) }
+        ensures step { IfOk result (λ outcome. RunningStep self.old event.now outcome self.new) }
         ensures closed { (result ≡ Err StepFault.Closed) ↔ (self.old.state.steps ≡ most_steps) }
         ensures err { OnErr result (self.new ≡ self.old) }
         ensures sound { Sound self.new.state }
@@ -126,31 +129,31 @@ impl<P: Pool> Zone<P> {
     /// The endpoints that are registered, by rising identifier: character by character, a prefix
     /// before what it begins.
     pub fn endpoints(&self) -> Result<RegistrationList, AllocError>
-        ensures { IfOk result (IsListOf self.now.state.zone.live) }
+        ensures { IfOk result (IsListOf self.now.state.tables.live) }
     {
-        self.machine.list()
+        self.machine.tables().list()
     }
 
     /// The calls that are open, by rising key.
     pub fn calls(&self) -> Result<CallList, AllocError>
-        ensures { IfOk result (λ list. list ≡ fin.entries self.now.state.zone.calls) }
+        ensures { IfOk result (λ list. list ≡ fin.entries self.now.state.tables.calls) }
     {
-        self.machine.calls()
+        self.machine.tables().calls()
     }
 
     /// The bandwidth in use: the units of all calls, of 100 bit/s each.
     pub fn in_use(&self) -> u64
-        ensures sum { result ≡ in_use self.now.state.zone.calls }
-        ensures limit { result ≤ self.now.state.zone.config.limit }
+        ensures sum { result ≡ in_use self.now.state.tables.calls }
+        ensures limit { result ≤ self.now.state.tables.config.limit }
     {
-        self.machine.in_use()
+        self.machine.tables().in_use()
     }
 
     /// Ends the zone. Its pools come back in their order, with nothing lent; their limits, counts and
     /// last answers stay.
     pub fn close(self) -> Vec<P>
         ensures figures { figures_of (map P.account result.items)
-            ≡ figures_without_loans self.state.zone.pools }
+            ≡ figures_without_loans self.state.tables.pools }
         ensures lasts { lasts_of (map P.account result.items) ≡ self.lasts }
     {
         let Zone { machine } = self;

@@ -3,6 +3,7 @@
 ghost use Rattle.std.specs.Prelude.{◌≡◌, ◌≤◌, ◌-◌, None, Some};
 ghost use Rattle.std.specs.FinMap as fin;
 ghost use Rattle.ras_requests.specs.Brq.{bandwidth, resizing, room, wanted};
+ghost use Rattle.zone_tables.specs.Soundness.{SoundTables};
 ghost use Rattle.ras_requests.specs.Conclusions.{Concludes, IsFor};
 
 use crate::conclusion::{Conclusion, Decision};
@@ -14,7 +15,8 @@ use zone_tables::{CallChange, Change, Purpose, UnitRequest, ZoneTables};
 
 /// The units that the zone has left.
 pub(crate) fn room<P: Pool>(tables: &ZoneTables<P>) -> u64
-    ensures { result ≡ room tables.now.tables }
+    ensures room { result ≡ room tables.now.tables }
+    ensures sound { SoundTables tables.now.tables }
 {
     tables.config().parts().limit - tables.in_use()
 }
@@ -38,7 +40,6 @@ fn resize<P: Pool>(
         (resizing tables.now.tables q.now call.now) result }
     ensures about { IsFor q.now.seq (Some q.now.endpoint) result }
 {
-    let _sound = tables.config();
     let wanted = wanted(tables, q.asked);
     if wanted <= call.units {
         return Conclusion::Settled(lowering(q, call, wanted));

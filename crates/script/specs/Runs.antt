@@ -7,10 +7,10 @@ use Rattle.pools.specs.Accounts.{pool_fault}
 use Rattle.zone_config.specs.declared.config.ConfigParts.{ConfigParts}
 use Rattle.zone_events.specs.declared.event.Event.{Event}
 use Rattle.zone_events.specs.declared.outcome.Outcome.{Outcome}
-use Rattle.ras_core.specs.State.{Running, opening}
+use Rattle.ras_machine.specs.State.{Running, opening}
 use Rattle.zone_tables.specs.Pools.{figures_of, lasts_of}
-use Rattle.ras_core.specs.Machine.{most_steps}
-use Rattle.ras_core.specs.Steps.{RunsOn}
+use Rattle.ras_machine.specs.Machine.{most_steps}
+use Rattle.ras_core.specs.Runs.{RunsOn}
 use Rattle.script.specs.declared.fault.RunFault.{RunFault}
 use Rattle.script.specs.declared.fault.RunFault.TheVariants.{Memory, Closed, Stream, WrongPools}
 use Rattle.script.specs.declared.read.Script.{Script}

@@ -1,6 +1,6 @@
 //! Moments.
 
-ghost use Rattle.std.specs.Prelude.{◌≡◌, ◌<◌, ◌^◌, SomeIff};
+ghost use Rattle.std.specs.Prelude.{◌≡◌, ◌<◌, ◌^◌, SomeIff, max};
 
 use std::marker::Model;
 
@@ -34,6 +34,18 @@ impl Moment {
             Some(Moment { milliseconds })
         } else {
             None
+        }
+    }
+
+    /// The later of two moments.
+    pub fn later(self, other: Moment) -> Moment
+        ensures later { result ≡ max self other }
+        ensures small { result < 2 ^ 53 }
+    {
+        if self.milliseconds < other.milliseconds {
+            other
+        } else {
+            self
         }
     }
 

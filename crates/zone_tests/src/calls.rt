@@ -1,6 +1,6 @@
 //! Calls of a zone, from admission to disengaging.
 
-use crate::making::{event_from, zone};
+use crate::fixtures::{event_from, zone};
 use pools::{FixedPool, Lend, Pool};
 use ras_core::{Datagram, Zone};
 use ras_module::{Address, Octets, Source};

@@ -1,7 +1,7 @@
 //! How often a zone asks its pools, and how often they have their turn. No contract says it, since neither leaves a
 //! trace in the figures of an honest pool.
 
-use crate::making::{event_from, parts, zone_over};
+use crate::fixtures::{event_from, parts, zone_over};
 use crate::messages::{LESS_BCF, LESS_BRQ, SAME_CALL_ACF, SAME_CALL_ARQ};
 use pools::{FixedPool, Lend, Pool};
 use ras_core::{DueItem, Event, Moment, Network, Networks, Note, Zone};

@@ -1,6 +1,6 @@
 //! Endpoints that come, stay and go.
 
-use crate::making::{event_from, zone};
+use crate::fixtures::{event_from, zone};
 use crate::messages::{RCF_ANEW, UCF};
 use pools::FixedPool;
 use ras_core::{Datagram, Zone};

@@ -9,7 +9,7 @@ mod counting;
 #[cfg(test)]
 mod endpoints;
 #[cfg(test)]
-mod making;
+mod fixtures;
 #[cfg(test)]
 mod messages;
 #[cfg(test)]

@@ -1,6 +1,6 @@
 //! The settings of a zone, and its pools' networks.
 
-use crate::making::{config, parts};
+use crate::fixtures::{config, parts};
 use pools::{FixedPool, PoolSet};
 use ras_core::{Config, ConfigFault, ConfigParts, Moment, Network, Networks, NewFault, Zone};
 use std::alloc::Global;

@@ -1,8 +1,10 @@
 //! Steps and runs: discovery, repeats, turns.
 
-use crate::making::{event, is_told, sent, zone};
+use crate::fixtures::{ENDPOINT, event, is_told, sent, zone};
 use pools::FixedPool;
-use ras_core::{DueItem, Event, IgnoredCause, Moment, Note, Outcome, Zone};
+use ras_core::{
+    DueItem, Event, IgnoredCause, Moment, NewFault, Note, Outcome, StepFault, Zone, prepare,
+};
 use std::alloc::Global;
 use std::test::Fail;
 use vectors::replies::{GCF, GRJ};
@@ -131,5 +133,46 @@ fn a_run_appends_an_outcome_for_each_event(rt: HostRuntime) -> Result<(), Fail> 
     drop(zone);
     assert!(rt; passed?);
     assert!(rt; !is_closed);
+    Ok(())
+}
+
+/// Whether this is the GatekeeperRequest of the worked example, from the endpoint, at this moment.
+fn is_grq_at(event: &Event, milliseconds: u64) -> bool {
+    match event {
+        Event::Datagram(source, bytes, moment) => {
+            *source == ENDPOINT
+                && bytes.as_slice() == GRQ.as_slice()
+                && Some(*moment) == Moment::new(milliseconds)
+        }
+        Event::Turn(_) => false,
+    }
+}
+
+/// Whether a request whose datagram is read before its step gets the reply that it gets else, and a datagram of
+/// one octet too many is read as too long. An event that was read is the same event still.
+fn is_prepared(alloc: Global, zone: &mut Zone<FixedPool>) -> Result<bool, Fail> {
+    let request = prepare(alloc, event(alloc, &GRQ, 5)?)?;
+    let is_same = is_grq_at(&request.event()?, 5);
+    let outcome = zone.step_prepared(request)?;
+    let is_told = outcome.output == sent(alloc, &GCF)?.output && outcome.note == Note::Served;
+    let long = zone.step_prepared(prepare(alloc, event(alloc, &[0; 4_097], 6)?)?)?;
+    Ok(is_same && is_told && long.note == Note::Ignored(IgnoredCause::TooLong))
+}
+
+#[test]
+fn a_datagram_is_read_before_its_step(rt: HostRuntime) -> Result<(), Fail> {
+    let mut zone = zone(rt.alloc())?;
+    let passed = is_prepared(rt.alloc(), &mut zone);
+    drop(zone);
+    assert!(rt; passed?);
+    Ok(())
+}
+
+#[test]
+fn faults_have_their_numbers(rt: HostRuntime) -> Result<(), Fail> {
+    assert_eq!(rt; NewFault::WrongPools.number(), 1);
+    assert_eq!(rt; NewFault::Memory.number(), 2);
+    assert_eq!(rt; StepFault::Memory.number(), 1);
+    assert_eq!(rt; StepFault::Closed.number(), 2);
     Ok(())
 }

@@ -1,6 +1,6 @@
 use Rattle.std.proofs.Common.{rules, ◌<◌, [], take, length, map}
 use Rattle.std.specs.Io.KnownBytes.{Appends}
-use Rattle.ras_core.specs.Steps.{RunsOn}
+use Rattle.ras_core.specs.Runs.{RunsOn}
 use Rattle.script.specs.Prints.{outcome_lines}
 use Rattle.script.specs.Runs.{start_of}
 use Rattle.script.proofs.Running.{no_memory_at, closed_at}
@@ -17,7 +17,14 @@ returns-in-Memory-clause-answer g c =
     let after = c.run-ran.new.self in
     let below : before < length script.events = search rules in
     let ran : RunsOn first (take before script.events) [] outcomes after = search rules in
-    let lines : Appends start end (outcome_lines outcomes) = search rules in
+    let lines : Appends start end (outcome_lines outcomes) = search (
+      rules,
+      c.write_outcomes.ensures,
+      c.deref.ensures.value,
+      c.is_err.ensures.value,
+      c.if-is_err.false,
+      c.flush.ensures.bytes,
+    ) in
     no_memory_at first script.events before after start end below
     (record { outcomes = outcomes; run = ran; lines = lines })
     (λ e. absurd (cc (c.in-Err-ran.ensures.closed.1 e, c.in-Memory.is)))
@@ -31,7 +38,14 @@ returns-in-Ok-ran-clause-answer g c =
     let outcomes = c.run-ran.new.outcomes.items in
     let after = c.run-ran.new.self in
     let ran : RunsOn first script.events [] outcomes after = search rules in
-    let lines : Appends start end (outcome_lines outcomes) = search rules in
+    let lines : Appends start end (outcome_lines outcomes) = search (
+      rules,
+      c.write_outcomes.ensures,
+      c.deref.ensures.value,
+      c.is_err.ensures.value,
+      c.if-is_err.false,
+      c.flush.ensures.bytes,
+    ) in
     (after, record { outcomes = outcomes; run = ran; lines = lines })
 
 pub returns-clause-answer : goal.returns-clause-answer
@@ -45,7 +59,14 @@ returns-clause-answer g c =
     let after = c.run-ran.new.self in
     let below : before < length script.events = search rules in
     let ran : RunsOn first (take before script.events) [] outcomes after = search rules in
-    let lines : Appends start end (outcome_lines outcomes) = search rules in
+    let lines : Appends start end (outcome_lines outcomes) = search (
+      rules,
+      c.write_outcomes.ensures,
+      c.deref.ensures.value,
+      c.is_err.ensures.value,
+      c.if-is_err.false,
+      c.flush.ensures.bytes,
+    ) in
     closed_at first script.events before after start end below
     (record { outcomes = outcomes; run = ran; lines = lines })
     (c.in-Err-ran.ensures.closed.0 c.in-Closed.is)

@@ -5,6 +5,7 @@ use Rattle.kept_replies.specs.Keys.{same_key}
 use Rattle.kept_replies.specs.Kept.{left_in, postponed}
 use Rattle.kept_replies.proofs.StoredKept.{passing_entry, passing_stays, stored_get}
 use Rattle.kept_replies.proofs.StoredKept.{AreStored-rewrite, Becomes-rewrite, IsEntry-postponed}
+use Rattle.kept_replies.proofs.StoredKept.{IsConsistent-stored}
 use Rattle.kept_replies.proofs.table.Kept.postpone.Goals as goal
 
 pub write_retry-requires : goal.write_retry-requires
@@ -25,8 +26,12 @@ invariant_of-self c =
     c.self.view_is (postponed c.args.retry) c.write_retry.ensures entry.0 entry.1
     c.self.invariant refl (λ h. IsEntry-postponed c.args.retry entry.0 entry.2)
 
-pub returns : goal.returns
-returns c =
+pub returns-clause-sound : goal.returns-clause-sound
+returns-clause-sound c =
+    IsConsistent-stored c.write_retry.new.rows c.self.inside.most _ (invariant_of-self c) refl
+
+pub returns-clause-becomes : goal.returns-clause-becomes
+returns-clause-becomes c =
     let i = c.self.inside in
     let entry = passing_entry (map.get c.args.self.now.kept c.args.key.now)
     (λ entry. 2 ≤ left_in entry.state) c.requires in

@@ -1,5 +1,5 @@
-use Rattle.std.proofs.Common.{ap, sym, ◌∙◌, arith}
-use Rattle.kept_replies.proofs.StoredKept.{stored_get, AreStored-write, Adds-put}
+use Rattle.std.proofs.Common.{ap, sym, refl, ◌∙◌, arith}
+use Rattle.kept_replies.proofs.StoredKept.{stored_get, AreStored-write, Adds-put, IsConsistent-stored}
 use Rattle.kept_replies.proofs.table.Kept.put.Goals as goal
 
 pub write_entry-requires : goal.write_entry-requires
@@ -21,6 +21,10 @@ returns-clause-adds c =
     let i = c.self.inside in
     Adds-put i.rows c.write_entry.new.rows c.args.key i.most c.args.self.now c.self.view_is
     c.args.entry c.write_entry.ensures.updates c.write_entry.ensures.room
+
+pub returns-clause-sound : goal.returns-clause-sound
+returns-clause-sound c =
+    IsConsistent-stored c.write_entry.new.rows c.self.inside.most _ (invariant_of-self c) refl
 
 pub returns-clause-replaces : goal.returns-clause-replaces
 returns-clause-replaces c there =

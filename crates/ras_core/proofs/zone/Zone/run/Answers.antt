@@ -1,6 +1,6 @@
 use Rattle.std.proofs.Common.{◌∷◌, ◌++◌, [], ap, sym, ◌∙◌, subst, List, take, ◌+◌}
 use Rattle.zone_events.specs.declared.outcome.Outcome.{Outcome}
-use Rattle.ras_core.specs.Steps.{RunsOn}
+use Rattle.ras_core.specs.Runs.{RunsOn}
 use Rattle.ras_core.proofs.Runs.{runs_on}
 use Rattle.ras_core.proofs.zone.Zone.run.Goals as goal
 
@@ -15,11 +15,6 @@ loop-i-preserved g c =
           (runs_on c.args.self.now c.loop-i.self c.step_at.new.self c.args.events.now c.loop-i.i
           c.index-events-i.result c.args.outcomes.now.items c.loop-i.outcomes.items c.in-Ok.outcome
           c.loop-i-test.true c.index-events-i.is c.loop-i.invariant.run
-          (record {
-            step = c.in-Ok.ensures.step;
-            lasts = c.in-Ok.ensures.lasts;
-            few = c.in-Ok.ensures.few;
-            sound = c.in-Ok.ensures.sound;
-          }));
+          c.in-Ok.ensures.step);
       sound = c.in-Ok.ensures.sound;
     }

@@ -1,6 +1,6 @@
 use Rattle.std.proofs.Common.{take}
-use Rattle.ras_core.specs.Steps.{RunsOn}
-use Rattle.ras_core.specs.Soundness.{Sound}
+use Rattle.ras_core.specs.Runs.{RunsOn}
+use Rattle.ras_machine.specs.Soundness.{Sound}
 use Rattle.ras_core.proofs.zone.Zone.run.Given as goal
 
 -- the events so far, with the outcomes that were appended, are a run

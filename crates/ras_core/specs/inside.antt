@@ -1,4 +1,0 @@
--- What the functions inside the crate owe one another. No public contract speaks of it.
-pub mod Parts
-pub mod Room
-pub mod Courses

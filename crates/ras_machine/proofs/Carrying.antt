@@ -1,0 +1,210 @@
+-- What is decided about a request, once it is carried out and its reply is kept, is
+-- what it comes to.
+use Rattle.std.proofs.Common.{◌≡◌, ◌≤◌, ◌+◌, ℕ, length, List, refl, sym, ◌∙◌, ap, subst, Some, None}
+use Rattle.std.specs.Prelude.{Option, IfSome}
+use Rattle.keyed.proofs.Decide.{same_some}
+use Rattle.ras_module.specs.declared.reply.Reply.{Reply}
+use Rattle.ras_module.specs.declared.request.Request.{Request}
+use Rattle.ras_writing.specs.Replies.{encoding_of}
+use Rattle.kept_replies.specs.declared.key.KeptKey.{KeptKey}
+use Rattle.kept_replies.specs.Kept.{KeptReplies}
+use Rattle.kept_replies.specs.declared.entry.KeptState.TheVariants.{Done}
+use Rattle.zone_tables.specs.declared.change.Change.{Change}
+use Rattle.ras_requests.specs.declared.conclusion.Decision.{Decision}
+use Rattle.ras_machine.specs.declared.job.Job.{Job}
+use Rattle.ras_machine.specs.declared.job.Occasion.{Occasion}
+use Rattle.ras_machine.specs.declared.job.Occasion.TheVariants.{First, Again}
+use Rattle.zone_events.specs.declared.outcome.Outcome.{Outcome}
+use Rattle.zone_tables.specs.Tables.{Tables, Last}
+use Rattle.ras_machine.specs.State.{State, Running}
+use Rattle.zone_tables.specs.Parts.{RunningTables}
+use Rattle.ras_requests.specs.Plans.{Served, Plan, Settled, Naming, Asking, with_heard}
+use Rattle.ras_machine.specs.Keeping.{Task, answered, dropped_for, kept_with, plan_at}
+use Rattle.ras_machine.specs.Machine.{Serving, ended, note_at, plan_ending}
+use Rattle.pools.specs.declared.interface.Figures.{Figures}
+use Rattle.ras_requests.specs.Conclusions.{served}
+use Rattle.zone_tables.specs.Changes.{after_change, changed}
+use Rattle.ras_machine.specs.Courses.{heard_at, resolved, Does}
+use Rattle.ras_machine.specs.Soundness.{AreBornBefore}
+use Rattle.zone_tables.specs.Soundness.{CountsOneMore}
+use Rattle.ras_machine.specs.Steps.{IsUnusedIn, IsTimely, MayChoose, ask_in_plan, choices_of}
+use Rattle.zone_tables.specs.Pools.{lasts_after}
+use Rattle.zone_tables.proofs.ButLent.{counts_same, same_after_change}
+use Rattle.ras_machine.proofs.Dropping.{born_kept_with}
+
+-- the zone after a change, in which the endpoint was heard
+abbrev pub zone_after : Tables → List Last → ℕ → Occasion → Option (List ℕ) → Change → RunningTables
+zone_after z lasts now occasion endpoint change =
+    heard_at (changed (record { tables = z; lasts = lasts }) now change) occasion now endpoint
+
+module _ (s : State) (lasts : List Last) (now : ℕ) (key : KeptKey) (request : Request)
+    (reply : Reply) (change : Change) where
+  abbrev pub task_by : Occasion → Plan → Task
+  task_by occasion plan = record {
+    job = record { key = key; occasion = occasion };
+    request = request;
+    plan = plan;
+  }
+
+  abbrev pub outcome_by : Occasion → Option (List ℕ) → Outcome
+  outcome_by occasion given = record {
+    answer = None;
+    output = Some (record { to = key.source; bytes = encoding_of reply });
+    note = note_at occasion;
+    dropped = dropped_for occasion;
+    given = given;
+  }
+
+  abbrev pub state_by : Occasion → Option (List ℕ) → State
+  state_by occasion endpoint = record s {
+    tables = (zone_after s.tables lasts now occasion endpoint change).tables;
+    kept = kept_with s.kept key occasion s.steps (Done reply (now + s.tables.config.window));
+  }
+
+  abbrev pub served_by : Served
+  served_by = record { reply = reply; tables = after_change now change s.tables }
+
+  pub answer_by : (occasion : Occasion) (endpoint : Option (List ℕ)) (plan : Plan)
+      (given : Option (List ℕ))
+      → resolved plan given ≡ Some served_by
+      → plan_ending s now (task_by occasion (plan_at occasion now endpoint plan))
+      (plan_at occasion now endpoint plan) (choices_of (outcome_by occasion given))
+      ≡ Some (outcome_by occasion given, state_by occasion endpoint)
+  answer_by (First dropped) None (Settled served) None is =
+      subst (λ (v : Served). plan_ending s now (task_by (First dropped) (plan_at (First dropped) now None (Settled v)))
+      (plan_at (First dropped) now None (Settled v)) (choices_of (outcome_by (First dropped) None))
+      ≡ Some (outcome_by (First dropped) None, state_by (First dropped) None))
+      (sym (same_some served served_by is)) refl
+  answer_by (First dropped) (Some id) (Settled served) None is =
+      subst (λ (v : Served). plan_ending s now
+      (task_by (First dropped) (plan_at (First dropped) now (Some id) (Settled v)))
+      (plan_at (First dropped) now (Some id) (Settled v)) (choices_of (outcome_by (First dropped) None))
+      ≡ Some (outcome_by (First dropped) None, state_by (First dropped) (Some id)))
+      (sym (same_some served served_by is)) refl
+  answer_by (Again born left) endpoint (Settled served) None is =
+      subst (λ (v : Served). plan_ending s now (task_by (Again born left) (Settled v)) (Settled v)
+      (choices_of (outcome_by (Again born left) None))
+      ≡ Some (outcome_by (Again born left) None, state_by (Again born left) endpoint))
+      (sym (same_some served served_by is)) refl
+  answer_by occasion endpoint (Settled served) (Some id) is = absurd (cc is)
+  answer_by occasion endpoint (Naming named) None is = absurd (cc is)
+  answer_by (First dropped) None (Naming named) (Some id) is =
+      ap (λ (v : Served). ended s now
+      (task_by (First dropped) (plan_at (First dropped) now None (Naming named))) (Some id) None
+      (answered v)) (same_some (named id) served_by is)
+  answer_by (First dropped) (Some endpoint) (Naming named) (Some id) is =
+      ap (λ (v : Served). ended s now
+      (task_by (First dropped) (plan_at (First dropped) now (Some endpoint) (Naming named))) (Some id) None
+      (answered (with_heard now (Some endpoint) v))) (same_some (named id) served_by is)
+  answer_by (Again born left) endpoint (Naming named) (Some id) is =
+      ap (λ (v : Served). ended s now (task_by (Again born left) (Naming named)) (Some id) None
+      (answered v)) (same_some (named id) served_by is)
+  answer_by occasion endpoint (Asking ask lent refused) given is = absurd (cc is)
+
+  pub may_choose : (occasion : Occasion) (endpoint : Option (List ℕ)) (plan : Plan)
+      (given : Option (List ℕ))
+      → resolved plan given ≡ Some served_by → IfSome given (IsUnusedIn s)
+      → MayChoose s (plan_at occasion now endpoint plan) (choices_of (outcome_by occasion given))
+  may_choose (First dropped) endpoint (Settled served) given is unused = tt
+  may_choose (Again born left) endpoint (Settled served) given is unused = tt
+  may_choose (First dropped) endpoint (Naming named) given is unused = unused
+  may_choose (Again born left) endpoint (Naming named) given is unused = unused
+  may_choose occasion endpoint (Asking ask lent refused) given is unused = absurd (cc is)
+
+  pub nothing_asked : (occasion : Occasion) (endpoint : Option (List ℕ)) (plan : Plan)
+      (given : Option (List ℕ))
+      → resolved plan given ≡ Some served_by
+      → ask_in_plan (plan_at occasion now endpoint plan) ≡ None
+  nothing_asked (First dropped) endpoint (Settled served) given is = refl
+  nothing_asked (Again born left) endpoint (Settled served) given is = refl
+  nothing_asked (First dropped) endpoint (Naming named) given is = refl
+  nothing_asked (Again born left) endpoint (Naming named) given is = refl
+  nothing_asked occasion endpoint (Asking ask lent refused) given is = absurd (cc is)
+
+  lasts_stay : (occasion : Occasion) (endpoint : Option (List ℕ))
+      → (zone_after s.tables lasts now occasion endpoint change).lasts ≡ lasts
+  lasts_stay (First dropped) None = refl
+  lasts_stay (First dropped) (Some id) = refl
+  lasts_stay (Again born left) endpoint = refl
+
+  pools_are : (occasion : Occasion) (endpoint : Option (List ℕ))
+      → (zone_after s.tables lasts now occasion endpoint change).tables.pools
+      ≡ (after_change now change s.tables).pools
+  pools_are (First dropped) None = refl
+  pools_are (First dropped) (Some id) = refl
+  pools_are (Again born left) endpoint = refl
+
+  abbrev pub running_by : Occasion → Option (List ℕ) → Running
+  running_by occasion endpoint = record {
+    state = state_by occasion endpoint;
+    lasts = (zone_after s.tables lasts now occasion endpoint change).lasts;
+  }
+
+  pub does_by : (occasion : Occasion) (endpoint : Option (List ℕ)) (plan : Plan)
+      (given : Option (List ℕ))
+      → resolved plan given ≡ Some served_by → IfSome given (IsUnusedIn s)
+      → IsTimely s now occasion
+      → AreBornBefore s.steps s.kept → length (encoding_of reply) ≤ 20000
+      → Does (record { state = s; lasts = lasts }) now
+      (Serving (task_by occasion (plan_at occasion now endpoint plan)))
+      (outcome_by occasion given) (running_by occasion endpoint)
+  does_by occasion endpoint plan given is unused timely before few = record {
+    allowed = (timely, may_choose occasion endpoint plan given is unused);
+    makes = answer_by occasion endpoint plan given is;
+    lasts = lasts_stay occasion endpoint
+        ∙ sym (ap (λ ask. lasts_after lasts ask None)
+        (nothing_asked occasion endpoint plan given is));
+    counts = subst (λ (pools : List Figures). CountsOneMore s.tables.pools pools)
+        (sym (pools_are occasion endpoint))
+        (counts_same s.tables.pools (after_change now change s.tables).pools
+        (same_after_change now change s.tables));
+    births = λ h. born_kept_with s.kept s.steps before key occasion
+        (Done reply (now + s.tables.config.window));
+    few = few;
+  }
+
+-- The same, of what the code has.
+pub does_carried : (old : Running) (now : ℕ) (job : Job) (endpoint : Option (List ℕ)) (d : Decision)
+    (given : Option (List ℕ)) (tables : RunningTables) (kept : KeptReplies)
+    → IfSome given (IsUnusedIn old.state) → IsTimely old.state now job.occasion
+    → AreBornBefore old.state.steps old.state.kept → length (encoding_of d.reply) ≤ 20000
+    → tables ≡ zone_after old.state.tables old.lasts now job.occasion endpoint d.change
+    → kept ≡ kept_with old.state.kept job.key job.occasion old.state.steps
+    (Done d.reply (now + old.state.tables.config.window))
+    → (plan : Plan) (request : Request) → resolved plan given ≡ Some (served old.state.tables now d)
+    → Does old now (Serving (record {
+      job = job;
+      request = request;
+      plan = plan_at job.occasion now endpoint plan;
+    })) (record {
+      answer = None;
+      output = Some (record { to = job.key.source; bytes = encoding_of d.reply });
+      note = note_at job.occasion;
+      dropped = dropped_for job.occasion;
+      given = given;
+    }) (record {
+      state = record old.state { tables = tables.tables; kept = kept };
+      lasts = tables.lasts;
+    })
+does_carried old now job endpoint d given tables kept unused timely before few tables_is kept_is
+    plan request is =
+    let s = old.state in
+    let course = Serving (record {
+      job = job;
+      request = request;
+      plan = plan_at job.occasion now endpoint plan;
+    }) in
+    let outcome = outcome_by s old.lasts now job.key request d.reply d.change job.occasion given in
+    subst (λ (z : RunningTables). Does old now course outcome (record {
+      state = record s { tables = z.tables; kept = kept };
+      lasts = z.lasts;
+    })) (sym tables_is)
+    (subst (λ (k : KeptReplies). Does old now course outcome (record {
+      state = record s {
+        tables = (zone_after s.tables old.lasts now job.occasion endpoint d.change).tables;
+        kept = k;
+      };
+      lasts = (zone_after s.tables old.lasts now job.occasion endpoint d.change).lasts;
+    })) (sym kept_is)
+    (does_by s old.lasts now job.key request d.reply d.change
+    job.occasion endpoint plan given is unused timely before few))

@@ -1,0 +1,9 @@
+pub mod Dropping
+pub mod Retrying
+pub mod Planning
+pub mod Calling
+pub mod Choosing
+pub mod Carrying
+pub mod Asking
+pub mod Noting
+pub mod Performing

@@ -1,0 +1,109 @@
+use Rattle.std.proofs.Common.{rules, ◌≡◌, ◌≤◌, ◌+◌, ◌∙◌, ℕ, Some, None, length, ap, subst, sym}
+use Rattle.std.specs.Prelude.{IfSome}
+use Rattle.ras_writing.specs.Replies.{encoding_of}
+use Rattle.kept_replies.specs.declared.entry.KeptState.TheVariants.{Done}
+use Rattle.zone_events.specs.declared.outcome.Datagram.{Datagram}
+use Rattle.kept_replies.specs.Kept.{Passes, is_over}
+use Rattle.zone_events.specs.declared.outcome.Outcome.{Outcome}
+use Rattle.ras_machine.specs.State.{Running}
+use Rattle.zone_tables.specs.Parts.{RunningTables}
+use Rattle.ras_machine.specs.inside.Parts.{running_of}
+use Rattle.zone_config.specs.declared.config.ConfigParts.{ConfigParts}
+use Rattle.zone_config.specs.Terms.{term_of}
+use Rattle.ras_machine.specs.Keeping.{dropped_for, kept_with, plan_at}
+use Rattle.ras_machine.specs.Machine.{Serving, note_at}
+use Rattle.ras_requests.specs.Conclusions.{served}
+use Rattle.zone_tables.specs.Changes.{changed}
+use Rattle.ras_machine.specs.Courses.{Does, heard_at, resolved}
+use Rattle.ras_machine.specs.Soundness.{AreBornBefore}
+use Rattle.ras_machine.specs.Steps.{IsTimely, IsUnusedIn}
+use Rattle.zone_tables.proofs.Answered.{on_ok}
+use Rattle.ras_machine.proofs.Carrying.{does_carried, zone_after}
+use Rattle.ras_machine.proofs.Dropping.{over_of}
+use Rattle.ras_machine.proofs.machine.Machine.carry_out.Goals as goal
+
+pub reserve-requires-clause-over : goal.reserve-requires-clause-over
+reserve-requires-clause-over g c =
+    subst (λ (n : ℕ). IfSome (dropped_for c.args.job.occasion)
+    (Passes (is_over n) c.self.inside.kept.kept)) (sym c.milliseconds.ensures.same)
+    (subst (λ (m : Running). IfSome (dropped_for c.args.job.occasion)
+    (Passes (is_over c.args.now) m.state.kept)) (sym c.self.view_is)
+    (over_of c.args.self.now.state c.args.now c.args.job.occasion c.requires.timely))
+
+pub invariant_of-self-2 : goal.invariant_of-self-2
+invariant_of-self-2 g c = record {
+  tables = c.hear.ensures.sound;
+  kept = c.keep.ensures.sound;
+  most = search rules;
+  clock = c.self.invariant.clock;
+  least_number = c.self.invariant.least_number;
+  most_number = c.self.invariant.most_number;
+  steps = c.self.invariant.steps;
+}
+
+pub returns-clause-does : goal.returns-clause-does
+returns-clause-does g c plan request is =
+    let i = c.self.inside in
+    let now = c.args.now in
+    let job = c.args.job in
+    let endpoint = c.args.endpoint in
+    let d = c.args.decision in
+    let given = c.args.given in
+    let old =
+    running_of i.tables i.kept.kept i.clock i.interrogation_number i.next_pool_turn i.steps in
+    let tables = c.hear.new.tables in
+    let kept = c.keep.new.kept.kept in
+    let applied : c.apply.new.self ≡ changed i.tables now d.change =
+    on_ok c.apply.result c.in_ok-apply.field-0 c.in_ok-apply.was c.apply.ensures.ok in
+    let tables_is : tables
+    ≡ zone_after i.tables.tables i.tables.lasts now job.occasion endpoint d.change =
+    c.hear.ensures.heard ∙ ap (λ (z : RunningTables). heard_at z job.occasion now endpoint) applied in
+    let until_is : c.term-term.result.until ≡ now + i.tables.tables.config.window =
+    ap (λ t. t.until) (c.term-term.ensures.same
+    ∙ ap (λ (config : ConfigParts). term_of config now) c.config.ensures.same) in
+    let kept_is : kept ≡ kept_with i.kept.kept job.key job.occasion i.steps
+    (Done d.reply (now + i.tables.tables.config.window)) =
+    c.keep.ensures.kept
+    ∙ (λ j. kept_with (c.reserve.ensures.kept j) job.key job.occasion i.steps
+    (Done d.reply (until_is j))) in
+    let few = subst (λ (o : Datagram). length o.bytes ≤ 20000) c.in_ok-output.ensures.encoded
+    c.in_ok-output.ensures.few in
+    let back = sym c.self.view_is in
+    let does = does_carried old now job endpoint d given tables kept
+    (subst (λ (m : Running). IfSome given (IsUnusedIn m.state)) back c.requires.unused)
+    (subst (λ (m : Running). IsTimely m.state now job.occasion) back c.requires.timely)
+    (subst (λ (m : Running). AreBornBefore m.state.steps m.state.kept) back c.requires.sound.born)
+    few tables_is kept_is plan request
+    (subst (λ (m : Running). resolved plan given ≡ Some (served m.state.tables now d)) back is) in
+    let course = Serving (record {
+      job = job;
+      request = request;
+      plan = plan_at job.occasion now endpoint plan;
+    }) in
+    let new : Running = record {
+      state = record old.state { tables = tables.tables; kept = kept };
+      lasts = tables.lasts;
+    } in
+    let due : Outcome = record {
+      answer = None;
+      output = Some (record { to = job.key.source; bytes = encoding_of d.reply });
+      note = note_at job.occasion;
+      dropped = dropped_for job.occasion;
+      given = given;
+    } in
+    let outcome : Outcome = record {
+      answer = None;
+      output = Some c.in_ok-output.output;
+      note = c.note.result;
+      dropped = c.dropped.result;
+      given = given;
+    } in
+    let outcome_is : due ≡ outcome = λ j. record {
+      answer = None;
+      output = Some (sym c.in_ok-output.ensures.encoded j);
+      note = sym c.note.ensures j;
+      dropped = sym c.dropped.ensures j;
+      given = given;
+    } in
+    subst (λ (m : Running). Does m now course outcome new) c.self.view_is
+    (subst (λ (o : Outcome). Does old now course o new) outcome_is does)

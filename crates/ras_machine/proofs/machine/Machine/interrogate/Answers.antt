@@ -1,0 +1,48 @@
+use Rattle.std.proofs.Common.{◌≡◌, ◌≤◌, ◌∙◌, ap, subst, sym, Some, None}
+use Rattle.std.specs.Option.{option_copied, option_map}
+use Rattle.std.specs.FinMap as fin
+use Rattle.zone_events.specs.declared.due_item.DueItem.TheVariants.{Interrogate}
+use Rattle.ras_machine.specs.State.{Running}
+use Rattle.zone_tables.specs.Tables.{Tables}
+use Rattle.ras_machine.specs.Turns.{times_of}
+use Rattle.ras_machine.specs.Turns.{IsDueIn, inquiry}
+use Rattle.zone_tables.specs.Leaving.{AreSameButLent}
+use Rattle.ras_machine.specs.inside.Parts.{running_of}
+use Rattle.zone_tables.proofs.ButLent.{same_after_end}
+use Rattle.ras_machine.proofs.Dropping.{born_same}
+use Rattle.ras_machine.proofs.Noting.{does_item, tries_few_in}
+use Rattle.ras_machine.proofs.machine.Machine.interrogate.Goals as goal
+
+pub interrogated-requires : goal.interrogated-requires
+interrogated-requires g c =
+    let z = c.self.inside.tables.tables in
+    let due = subst (λ (m : Running). IsDueIn m.state c.args.now (Interrogate c.args.id))
+    (sym c.self.view_is) c.requires.due in
+    tries_few_in (times_of z.config) c.args.now (fin.get z.live c.args.id) due.1
+    c.get.ensures.asks
+
+pub returns-clause-does : goal.returns-clause-does
+returns-clause-does g c =
+    let i = c.self.inside in
+    let old =
+    running_of i.tables i.kept.kept i.clock i.interrogation_number i.next_pool_turn i.steps in
+    let number = c.following-self-inside in
+    let new : Running = record {
+      state = record old.state {
+        tables = c.interrogated.new.self.tables;
+        interrogation_number = number.result;
+      };
+      lasts = c.interrogated.new.self.lasts;
+    } in
+    let there : fin.get i.tables.tables.live c.args.id ≡ Some c.unwrap.result.now =
+    sym c.get.ensures.found ∙ ap option_copied c.unwrap.ensures in
+    let zone_is = sym c.interrogated.ensures.tables in
+    does_item old _ c.self.view_is c.args.now (Interrogate c.args.id) c.requires.due
+    (Some c.in_ok-output.output) c.noted.result c.noted.ensures new
+    (ap (option_map (inquiry i.interrogation_number)) there
+    ∙ ap Some (sym c.in_ok-output.ensures.encoded))
+    (λ j. record old.state { tables = zone_is j; interrogation_number = sym number.ensures j })
+    c.interrogated.ensures.lasts
+    (subst (λ (z : Tables). AreSameButLent i.tables.tables.pools z.pools) zone_is
+    (same_after_end i.tables.tables.pools None))
+    (λ before. born_same i.kept.kept i.steps before) c.in_ok-output.ensures.few

@@ -1,0 +1,119 @@
+use Rattle.std.proofs.Common.{rules, ℕ, ◌≡◌, ◌∙◌, Some, None, ap, subst, sym}
+use Rattle.std.specs.Prelude.{IfSome}
+use Rattle.ras_writing.specs.Replies.{encoding_of}
+use Rattle.kept_replies.specs.Kept.{Passes, is_over}
+use Rattle.zone_events.specs.declared.outcome.Outcome.{Outcome}
+use Rattle.zone_config.specs.declared.config.ConfigParts.{ConfigParts}
+use Rattle.ras_machine.specs.State.{Running}
+use Rattle.zone_tables.specs.Parts.{RunningTables}
+use Rattle.ras_machine.specs.inside.Parts.{running_of}
+use Rattle.zone_tables.specs.Pools.{pools_after_answer, lasts_after}
+use Rattle.ras_machine.specs.Keeping.{dropped_for, kept_with, plan_at, state_after}
+use Rattle.zone_config.specs.Terms.{term_of}
+use Rattle.ras_machine.specs.Machine.{Serving, note_at}
+use Rattle.ras_requests.specs.Conclusions.{RequestsUnits}
+use Rattle.zone_tables.specs.UnitRequests.{units_requested, calls_after_answer, reply_of}
+use Rattle.ras_machine.specs.Courses.{heard_at, Does}
+use Rattle.ras_machine.specs.Soundness.{AreBornBefore}
+use Rattle.ras_machine.specs.Steps.{IsTimely}
+use Rattle.ras_machine.proofs.Asking.{does_answered}
+use Rattle.ras_machine.proofs.Dropping.{over_of}
+use Rattle.ras_machine.proofs.machine.Machine.request_units.Goals as goal
+
+pub reserve-requires-clause-over : goal.reserve-requires-clause-over
+reserve-requires-clause-over g c =
+    subst (λ (n : ℕ). IfSome (dropped_for c.args.job.occasion)
+    (Passes (is_over n) c.self.inside.kept.kept)) (sym c.milliseconds.ensures.same)
+    (subst (λ (m : Running). IfSome (dropped_for c.args.job.occasion)
+    (Passes (is_over c.args.now) m.state.kept)) (sym c.self.view_is)
+    (over_of c.args.self.now.state c.args.now c.args.job.occasion c.requires.timely))
+
+pub invariant_of-self-2 : goal.invariant_of-self-2
+invariant_of-self-2 g c = record {
+  tables = c.hear.ensures.sound;
+  kept = c.keep.ensures.sound;
+  most = search rules;
+  clock = c.self.invariant.clock;
+  least_number = c.self.invariant.least_number;
+  most_number = c.self.invariant.most_number;
+  steps = c.self.invariant.steps;
+}
+
+pub returns-clause-does : goal.returns-clause-does
+returns-clause-does g c plan asks =
+    let i = c.self.inside in
+    let now = c.args.now in
+    let job = c.args.job in
+    let q = c.args.unit_request in
+    let id = q.endpoint in
+    let request = c.args.request in
+    let answer = c.in_ok-answer.answer in
+    let w = c.waits-waits.result in
+    let reply = c.reply-reply.result in
+    let old =
+    running_of i.tables i.kept.kept i.clock i.interrogation_number i.next_pool_turn i.steps in
+    let tables = c.hear.new.tables in
+    let kept = c.keep.new.kept.kept in
+    let asked : RunningTables = record {
+      tables = record i.tables.tables {
+        calls = calls_after_answer q answer i.tables.tables.calls;
+        pools = pools_after_answer i.tables.tables.pools q.pool answer;
+      };
+      lasts = lasts_after i.tables.lasts (Some (units_requested q)) (Some answer);
+    } in
+    let asked_is : c.request_units.new.self ≡ asked =
+    λ j. record { tables = c.in_ok-answer.ensures.tables j; lasts = c.in_ok-answer.ensures.lasts j } in
+    let tables_is : tables ≡ heard_at asked job.occasion now (Some id) =
+    c.hear.ensures.heard ∙ ap (λ (z : RunningTables). heard_at z job.occasion now (Some id)) asked_is in
+    let config_is = c.config-config.ensures.same in
+    let term_is = c.term-term.ensures.same
+    ∙ ap (λ (config : ConfigParts). term_of config now) config_is in
+    let kept_is : kept ≡ kept_with i.kept.kept job.key job.occasion i.steps
+    (state_after request reply w (term_of i.tables.tables.config now)) =
+    c.keep.ensures.kept
+    ∙ (λ j. kept_with (c.reserve.ensures.kept j) job.key job.occasion i.steps
+    ((c.state_after-state.ensures ∙ ap (state_after request reply w) term_is) j)) in
+    let reply_is : reply ≡ reply_of q answer w i.tables.tables.config.delay =
+    c.reply-reply.ensures ∙ ap (λ n. reply_of q answer w n)
+    (c.delay-delay.ensures ∙ ap (λ (config : ConfigParts). config.delay) config_is) in
+    let back = sym c.self.view_is in
+    let does = does_answered old now job id request q answer w reply tables
+    kept c.waits-waits.ensures
+    c.requires.seq c.in_ok-answer.ensures.answer
+    (subst (λ (m : Running). IsTimely m.state now job.occasion) back c.requires.timely)
+    (subst (λ (m : Running). AreBornBefore m.state.steps m.state.kept) back c.requires.sound.born)
+    reply_is c.write_reserved.ensures.most tables_is kept_is plan
+    (subst (λ (m : Running). RequestsUnits m.state.tables plan q) back asks) in
+    let course = Serving (record {
+      job = job;
+      request = request;
+      plan = plan_at job.occasion now (Some id) plan;
+    }) in
+    let new : Running = record {
+      state = record old.state { tables = tables.tables; kept = kept };
+      lasts = tables.lasts;
+    } in
+    let bytes_is : c.from_vec-bytes.result ≡ encoding_of reply = search rules in
+    let due : Outcome = record {
+      answer = Some answer;
+      output = Some (record { to = job.key.source; bytes = encoding_of reply });
+      note = note_at job.occasion;
+      dropped = dropped_for job.occasion;
+      given = None;
+    } in
+    let outcome : Outcome = record {
+      answer = Some answer;
+      output = Some (record { to = job.key.source; bytes = c.from_vec-bytes.result });
+      note = c.note.result;
+      dropped = c.dropped.result;
+      given = None;
+    } in
+    let outcome_is : due ≡ outcome = λ j. record {
+      answer = Some answer;
+      output = Some (record { to = job.key.source; bytes = sym bytes_is j });
+      note = sym c.note.ensures j;
+      dropped = sym c.dropped.ensures j;
+      given = None;
+    } in
+    subst (λ (m : Running). Does m now course outcome new) c.self.view_is
+    (subst (λ (o : Outcome). Does old now course o new) outcome_is does)

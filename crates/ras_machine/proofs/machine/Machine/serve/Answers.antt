@@ -1,0 +1,82 @@
+use Rattle.std.proofs.Common.{◌≡◌, ◌∙◌, List, ℕ, Some, None, ap, subst, sym}
+use Rattle.std.specs.Prelude.{Option}
+use Rattle.std.specs.Option.{IsSomeAnd}
+use Rattle.ras_requests.specs.declared.conclusion.Conclusion.TheVariants as conclusion
+use Rattle.ras_requests.specs.declared.conclusion.Decision.{Decision}
+use Rattle.zone_tables.specs.Changes.{IsPossible}
+use Rattle.ras_requests.specs.Conclusions.{IsConclusion, served}
+use Rattle.zone_tables.proofs.Answered.{if_ok_with}
+use Rattle.ras_machine.specs.Keeping.{plan_at}
+use Rattle.ras_machine.specs.Machine.{Serving}
+use Rattle.ras_machine.specs.Steps.{IsUnusedIn}
+use Rattle.ras_machine.specs.Courses.{Does, MayBeGiven, resolved}
+use Rattle.ras_machine.proofs.Planning.{requests_units_of, names_of, possible_of}
+use Rattle.ras_machine.proofs.machine.Machine.serve.Goals as goal
+
+pub carry_out-requires-clause-possible : goal.carry_out-requires-clause-possible
+carry_out-requires-clause-possible g c =
+    let z = c.args.self.now.state.tables in
+    possible_of z c.args.now c.args.task.request c.requires.task.served c.in-Settled.decision
+    (subst (IsConclusion z c.args.now c.args.task.request) c.in-Settled.is
+    c.requires.task.concludes)
+
+pub carry_out-requires-in-Naming-clause-possible : goal.carry_out-requires-in-Naming-clause-possible
+carry_out-requires-in-Naming-clause-possible g c =
+    let z = c.args.self.now.state.tables in
+    let names = names_of z c.args.now c.args.task.request c.requires.task.served
+    c.in-Naming.newcomer (subst (IsConclusion z c.args.now c.args.task.request) c.in-Naming.is
+    c.requires.task.concludes) in
+    let unused = subst (λ (w : Option (List ℕ)). IsSomeAnd w (IsUnusedIn c.args.self.now.state))
+    c.unwrap-id.ensures
+    (subst (λ k. MayBeGiven c.args.self.now.state k c.args.given) c.in-Naming.is
+    c.requires.given) in
+    subst (λ (d : Decision). IsPossible z d.change) (sym c.under.ensures)
+    (names.possible c.unwrap-id.result unused.unused.not_live)
+
+pub request_units-requires-clause-may : goal.request_units-requires-clause-may
+request_units-requires-clause-may g c =
+    let z = c.args.self.now.state.tables in
+    (requests_units_of z c.args.now c.args.task.request c.requires.task.served c.in-Asking.unit_request
+    (subst (IsConclusion z c.args.now c.args.task.request) c.in-Asking.is
+    c.requires.task.concludes)).may
+
+pub request_units-requires-clause-leg : goal.request_units-requires-clause-leg
+request_units-requires-clause-leg g c =
+    let z = c.args.self.now.state.tables in
+    (requests_units_of z c.args.now c.args.task.request c.requires.task.served c.in-Asking.unit_request
+    (subst (IsConclusion z c.args.now c.args.task.request) c.in-Asking.is
+    c.requires.task.concludes)).registered
+
+pub returns-in-Settled-clause-does : goal.returns-in-Settled-clause-does
+returns-in-Settled-clause-does g c =
+    let now = c.args.now in
+    let job = c.args.task.job in
+    let request = c.args.task.request in
+    let z = c.args.self.now.state.tables in
+    let concludes = subst (IsConclusion z now request) c.in-Settled.is c.requires.task.concludes in
+    if_ok_with _ _ c.carry_out.result c.carry_out.ensures.does
+    (λ outcome does plan planned. subst (λ (id : Option (List ℕ)).
+    Does c.args.self.now now (Serving (record {
+      job = job;
+      request = request;
+      plan = plan_at job.occasion now id plan;
+    })) outcome c.carry_out.new.self) c.endpoint_of-endpoint.ensures
+    (does plan request (ap (λ p. resolved p None) (concludes plan planned).is)))
+
+pub returns-in-Naming-clause-does : goal.returns-in-Naming-clause-does
+returns-in-Naming-clause-does g c =
+    let now = c.args.now in
+    let job = c.args.task.job in
+    let request = c.args.task.request in
+    let z = c.args.self.now.state.tables in
+    let id = c.unwrap-id.result in
+    let concludes = subst (IsConclusion z now request) c.in-Naming.is c.requires.task.concludes in
+    if_ok_with _ _ c.carry_out-in-Naming.result c.carry_out-in-Naming.ensures.does
+    (λ outcome does plan planned. subst (λ (endpoint : Option (List ℕ)).
+    Does c.args.self.now now (Serving (record {
+      job = job;
+      request = request;
+      plan = plan_at job.occasion now endpoint plan;
+    })) outcome c.carry_out-in-Naming.new.self) c.endpoint_of-endpoint.ensures
+    (does plan request (ap (λ p. resolved p (Some id)) (concludes plan planned).is
+    ∙ ap (λ (d : Decision). Some (served z now d)) (sym c.under.ensures))))

@@ -1,0 +1,37 @@
+use Rattle.std.proofs.Common.{◌∙◌, refl, ap, sym, None}
+use Rattle.zone_events.specs.declared.due_item.DueItem.TheVariants.{Silent}
+use Rattle.zone_config.specs.declared.config.ConfigParts.{ConfigParts}
+use Rattle.ras_machine.specs.State.{Running}
+use Rattle.zone_tables.specs.Tables.{Tables}
+use Rattle.ras_machine.specs.inside.Parts.{running_of}
+use Rattle.ras_machine.proofs.Dropping.{born_same}
+use Rattle.ras_machine.proofs.Noting.{does_item}
+use Rattle.zone_tables.proofs.Departing.{settings_stay}
+use Rattle.ras_machine.proofs.machine.Machine.silence.Goals as goal
+
+pub invariant_of-self : goal.invariant_of-self
+invariant_of-self g c = record {
+  tables = c.silence.ensures.sound;
+  kept = c.self.invariant.kept;
+  most = c.self.invariant.most ∙ sym (ap (λ (z : Tables). z.config.kept) c.silence.ensures.tables
+      ∙ ap (λ (config : ConfigParts). config.kept)
+      (settings_stay c.self.inside.tables.tables c.args.id));
+  clock = c.self.invariant.clock;
+  least_number = c.self.invariant.least_number;
+  most_number = c.self.invariant.most_number;
+  steps = c.self.invariant.steps;
+}
+
+pub returns : goal.returns
+returns g c =
+    let i = c.self.inside in
+    let old =
+    running_of i.tables i.kept.kept i.clock i.interrogation_number i.next_pool_turn i.steps in
+    let left = c.silence.new.self in
+    let new : Running =
+    record { state = record old.state { tables = left.tables }; lasts = left.lasts } in
+    does_item old _ c.self.view_is c.args.now (Silent c.args.id) c.requires
+    None c.noted.result c.noted.ensures new
+    refl (ap (λ (z : Tables). record old.state { tables = z }) (sym c.silence.ensures.tables))
+    c.silence.ensures.lasts c.silence.ensures.pools
+    (λ before. born_same i.kept.kept i.steps before) tt

@@ -1,0 +1,37 @@
+use Rattle.std.proofs.Common.{◌≡◌, ◌+◌, ◌∙◌, refl, ap, subst, sym, None}
+use Rattle.zone_events.specs.declared.due_item.DueItem.TheVariants.{PoolTurn}
+use Rattle.zone_config.specs.declared.config.ConfigParts.{ConfigParts}
+use Rattle.ras_machine.specs.State.{Running}
+use Rattle.zone_tables.specs.Parts.{RunningTables}
+use Rattle.ras_machine.specs.inside.Parts.{running_of}
+use Rattle.zone_tables.specs.Leaving.{AreSameButLent}
+use Rattle.zone_tables.proofs.ButLent.{same_after_end}
+use Rattle.ras_machine.proofs.Dropping.{born_same}
+use Rattle.ras_machine.proofs.Noting.{does_item}
+use Rattle.ras_machine.proofs.machine.Machine.turn_pools.Goals as goal
+
+pub returns : goal.returns
+returns g c =
+    let i = c.self.inside in
+    let old =
+    running_of i.tables i.kept.kept i.clock i.interrogation_number i.next_pool_turn i.steps in
+    let tables = c.turn_pools.new.self in
+    let same : tables ≡ i.tables = c.turn_pools.ensures in
+    let new : Running = record {
+      state = record old.state {
+        tables = tables.tables;
+        next_pool_turn = c.milliseconds.result + c.pool_turn.result;
+      };
+      lasts = tables.lasts;
+    } in
+    let now_is = sym c.milliseconds.ensures.same in
+    let turn_is =
+    sym (c.pool_turn.ensures.same ∙ ap (λ (config : ConfigParts). config.pool_turn) c.config.ensures.same
+    ∙ ap (λ (z : RunningTables). z.tables.config.pool_turn) same) in
+    does_item old _ c.self.view_is c.args.now PoolTurn c.requires
+    None c.noted.result c.noted.ensures new
+    refl (λ j. record old.state { tables = (sym same j).tables; next_pool_turn = now_is j + turn_is j })
+    (ap (λ (z : RunningTables). z.lasts) same)
+    (subst (λ (z : RunningTables). AreSameButLent i.tables.tables.pools z.tables.pools) (sym same)
+    (same_after_end i.tables.tables.pools None))
+    (λ before. born_same i.kept.kept i.steps before) tt

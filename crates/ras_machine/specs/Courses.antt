@@ -1,0 +1,156 @@
+-- What an event calls for as a value of the code, what may be chosen for it, and what the deed owes.
+use Rattle.std.specs.Prelude.{ℕ, ◌≡◌, ◌≤◌, ◌+◌, List, length, Some, Option, None}
+use Rattle.std.specs.Option.{IsSomeAnd}
+use Rattle.std.specs.FinMap.{get}
+use Rattle.kept_replies.specs.Kept.{NonePasses, births, is_over}
+use Rattle.pools.specs.declared.interface.Lend.{Lend}
+use Rattle.ras_module.specs.declared.request.Request.{Request}
+use Rattle.zone_events.specs.declared.due_item.DueItem.{DueItem}
+use Rattle.zone_events.specs.declared.due_item.DueItem.TheVariants.{Retry}
+use Rattle.zone_events.specs.declared.event.Event.{Event}
+use Rattle.zone_events.specs.declared.outcome.IgnoredCause.TheVariants.{Busy}
+use Rattle.zone_events.specs.declared.outcome.Outcome.{Outcome}
+use Rattle.ras_requests.specs.declared.conclusion.Conclusion.{Conclusion}
+use Rattle.ras_requests.specs.declared.conclusion.Conclusion.TheVariants as conclusion
+use Rattle.ras_requests.specs.Plans.{Plan, Served, Settled, Naming, Asking}
+use Rattle.zone_tables.specs.Pools.{lasts_after}
+use Rattle.ras_requests.specs.Requests.{endpoint_of, plan_of, seq_of, HasReply}
+use Rattle.zone_tables.specs.Soundness.{CountsOneMore}
+use Rattle.zone_tables.specs.Changes.{heard}
+use Rattle.ras_requests.specs.Conclusions.{IsConclusion, IsFor}
+use Rattle.zone_tables.specs.Parts.{RunningTables}
+use Rattle.ras_machine.specs.declared.course.Course as code
+use Rattle.ras_machine.specs.declared.course.Course.TheVariants as course
+use Rattle.ras_machine.specs.declared.course.Task as code_task
+use Rattle.ras_machine.specs.declared.job.Job.{Job}
+use Rattle.ras_machine.specs.declared.job.Occasion.{Occasion}
+use Rattle.ras_machine.specs.declared.job.Occasion.TheVariants.{First, Again}
+use Rattle.ras_machine.specs.State.{State, Running}
+use Rattle.ras_machine.specs.Soundness.{AreBornBefore, Sound}
+use Rattle.ras_machine.specs.Turns.{IsDueIn, IsNothingDueIn}
+use Rattle.ras_machine.specs.Machine.{Choices, Course, Ignoring, Hearing, Repeating, Serving, Doing}
+use Rattle.ras_machine.specs.Machine.{Idle, at_moment, course_at, course_ending, retry_course, serving}
+use Rattle.ras_machine.specs.Steps.{HasFewOctets, IsAllowed, IsTimely, IsUnusedIn, ask_in}
+use Rattle.ras_machine.specs.Steps.{choices_of}
+use Rattle.ras_machine.specs.inside.Room.{IsPlaced}
+
+-- an endpoint is heard as its request is served for the first time
+abbrev pub heard_at : RunningTables → Occasion → ℕ → Option (List ℕ) → RunningTables
+heard_at z (First dropped) now endpoint = heard z now endpoint
+heard_at z (Again born left) now endpoint = z
+
+-- What a course comes to, before the clock and the number of steps are set.
+pub record Does (old : Running) (now : ℕ) (c : Course) (outcome : Outcome)
+    (new : Running) : Type 0 where
+  pub allowed : IsAllowed old.state now c (choices_of outcome)
+  pub makes : course_ending old.state now c (choices_of outcome) ≡ Some (outcome, new.state)
+  pub lasts : new.lasts ≡ lasts_after old.lasts (ask_in c) outcome.answer
+  pub counts : CountsOneMore old.state.tables.pools new.state.tables.pools
+  pub births : AreBornBefore old.state.steps old.state.kept
+      → AreBornBefore (old.state.steps + 1) new.state.kept
+  pub few : HasFewOctets outcome.output
+
+-- One step by a course: what the course comes to, with the clock at now and one step more.
+pub record Performs (old : Running) (now : ℕ) (c : Course) (outcome : Outcome)
+    (new : Running) : Type 0 where
+  pub allowed : IsAllowed old.state now c (choices_of outcome)
+  pub makes : at_moment now (old.state.steps + 1) (course_ending old.state now c (choices_of outcome))
+      ≡ Some (outcome, new.state)
+  pub lasts : new.lasts ≡ lasts_after old.lasts (ask_in c) outcome.answer
+  pub few : HasFewOctets outcome.output
+  pub sound : Sound new.state
+
+-- a request finds a place for its reply, or has its entry
+abbrev pub IsPlacedIn : State → Job → Type 0
+IsPlacedIn s job =
+    IsPlaced (record { kept = s.kept; most = s.tables.config.kept; room = 0 }) job.key job.occasion
+
+-- a course of the code in the words of the definition: a request that is served has a plan
+abbrev pub task_course : ℕ → code_task.Task → Option Plan → Course
+task_course now task None = Idle
+task_course now task (Some plan) = serving task.job now task.request plan
+
+abbrev pub course_of : State → ℕ → code.Course → Course
+course_of s now (course.Ignoring cause) = Ignoring cause
+course_of s now (course.Hearing endpoint) = Hearing endpoint
+course_of s now (course.Repeating datagram) = Repeating datagram
+course_of s now (course.Serving task) = task_course now task (plan_of s.tables now task.request)
+course_of s now (course.Doing item) = Doing item
+course_of s now course.Idle = Idle
+
+-- what is concluded about the request is what it comes to, and its reply has a place
+pub record IsTask (s : State) (now : ℕ) (task : code_task.Task) : Type 0 where
+  pub served : HasReply task.request
+  pub placed : IsPlacedIn s task.job
+  pub concludes : IsConclusion s.tables now task.request task.conclusion
+  pub about : IsFor (seq_of task.request) (endpoint_of task.request) task.conclusion
+
+-- it can be done
+abbrev pub Stands : State → ℕ → code.Course → Type 0
+Stands s now (course.Repeating datagram) = length datagram.bytes ≤ 20000
+Stands s now (course.Serving task) = IsTask s now task
+Stands s now other = Unit {0}
+
+-- a course of the code is this one, and can be done
+pub record CallsFor (s : State) (now : ℕ) (c : Course) (called : code.Course) : Type 0 where
+  pub is : course_of s now called ≡ c
+  pub stands : Stands s now called
+
+-- what was chosen for it so far may be chosen: the entry that is dropped, and the item
+abbrev pub IsReady : State → ℕ → Course → Type 0
+IsReady s now (Ignoring Busy) = NonePasses (is_over now) s.kept
+IsReady s now (Ignoring other) = Unit {0}
+IsReady s now (Hearing endpoint) = Unit {0}
+IsReady s now (Repeating datagram) = Unit {0}
+IsReady s now (Serving task) = IsTimely s now task.job.occasion
+IsReady s now (Doing item) = IsDueIn s now item
+IsReady s now Idle = IsNothingDueIn s now
+
+-- the entry that is dropped, and the item that is done, with nothing else
+abbrev pub chosen : Option ℕ → Option DueItem → Choices
+chosen dropped item = record { given = None; answer = None; dropped = dropped; item = item }
+
+-- a course of the code is what the event calls for, by choices that may be made
+pub record IsChosen (s : State) (now : ℕ) (event : Event) (called : code.Course) : Type 0 where
+  pub dropped : Option ℕ
+  pub item : Option DueItem
+  pub calls : CallsFor s now (course_at s now event (chosen dropped item)) called
+  pub ready : IsReady s now (course_at s now event (chosen dropped item))
+
+-- an unused identifier is handed out, where one is called for
+abbrev pub MayBeGiven : State → Conclusion → Option (List ℕ) → Type 0
+MayBeGiven s (conclusion.Settled decision) given = Unit {0}
+MayBeGiven s (conclusion.Naming newcomer) given = IsSomeAnd given (IsUnusedIn s)
+MayBeGiven s (conclusion.Asking unit_request) given = Unit {0}
+
+abbrev pub MayBeNamed : State → code.Course → Option (List ℕ) → Type 0
+MayBeNamed s (course.Serving task) given = MayBeGiven s task.conclusion given
+MayBeNamed s other given = Unit {0}
+
+-- the way in which a request is served by a plan, where no pool is asked, and the identifier is
+-- handed out that is called for
+abbrev pub resolved : Plan → Option (List ℕ) → Option Served
+resolved (Settled served) None = Some served
+resolved (Settled served) (Some id) = None
+resolved (Naming named) None = None
+resolved (Naming named) (Some id) = Some (named id)
+resolved (Asking ask lent refused) given = None
+
+-- a request that is served makes this of the gatekeeper
+abbrev pub Serves : Running → ℕ → Job → Request → Outcome → Running → Type 0
+Serves old now job request outcome new =
+    (plan : Plan) → plan_of old.state.tables now request ≡ Some plan
+    → Does old now (serving job now request plan) outcome new
+
+-- this request may be served again, and that is what is to be done
+pub record IsAgain (s : State) (now born : ℕ) (job : Job) (request : Request) : Type 0 where
+  pub placed : IsPlacedIn s job
+  pub served : HasReply request
+  pub course : (plan : Plan) → plan_of s.tables now request ≡ Some plan
+      → retry_course s now born (get (births s.kept) born) ≡ serving job now request plan
+
+-- or nothing is
+abbrev pub IsWaitingRequest : State → ℕ → ℕ → Option (Job × Request) → Type 0
+IsWaitingRequest s now born None =
+    retry_course s now born (get (births s.kept) born) ≡ Doing (Retry born)
+IsWaitingRequest s now born (Some found) = IsAgain s now born found.0 found.1

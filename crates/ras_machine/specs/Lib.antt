@@ -1,0 +1,10 @@
+pub mod Prepared
+pub mod Unused
+pub mod State
+pub mod Keeping
+pub mod Turns
+pub mod Machine
+pub mod Soundness
+pub mod Steps
+pub mod Courses
+pub mod inside

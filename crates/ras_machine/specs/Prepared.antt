@@ -1,0 +1,36 @@
+-- Datagrams as they are read, before anything of the zone is needed.
+use Rattle.std.specs.Prelude.{ℕ, ◌≡◌, nat_lt, List, length, Option, None, Some, Result, Ok, Err}
+use Rattle.std.specs.Prelude.{if◌then◌else◌}
+use Rattle.ras_module.specs.declared.request.Request.{Request}
+use Rattle.ras_reading.specs.Messages.{message_reading}
+use Rattle.ras_grammar.specs.declared.fault.ReadFault.{ReadFault}
+use Rattle.kept_replies.specs.declared.key.KeptKey.{KeptKey}
+use Rattle.zone_events.specs.declared.event.Event.{Event}
+use Rattle.zone_events.specs.declared.event.Event.TheVariants as event
+use Rattle.ras_machine.specs.declared.prepared.Arrival.{Arrival}
+use Rattle.ras_machine.specs.declared.prepared.Arrival.TheVariants as arrival
+use Rattle.ras_machine.specs.declared.prepared.Message.{Message}
+use Rattle.ras_machine.specs.declared.prepared.Message.TheVariants as message
+
+-- what octets are, by how they are read
+abbrev pub message_by : Result (Option Request) ReadFault → Message
+message_by (Err fault) = message.Unreadable
+message_by (Ok None) = message.NotServed
+message_by (Ok (Some request)) = message.Request request
+
+-- what the octets of a datagram are; of more than 4,096 octets none is read
+abbrev pub message_in : List ℕ → Message
+message_in bytes =
+    if nat_lt 4096 (length bytes)
+    then message.TooLong
+    else message_by (message_reading bytes)
+
+-- the event that arrived at a moment
+abbrev pub event_at : ℕ → Arrival → Event
+event_at moment (arrival.Datagram key message) = event.Datagram key.source key.bytes moment
+event_at moment arrival.Turn = event.Turn moment
+
+-- its datagram was read
+abbrev pub IsRead : Arrival → Type 0
+IsRead (arrival.Datagram key message) = message ≡ message_in key.bytes
+IsRead arrival.Turn = Unit {0}

@@ -1,0 +1,168 @@
+//! What a datagram calls for.
+
+ghost use Rattle.std.specs.Prelude.{◌≡◌, ◌≤◌, ℕ, IfOk, IfSome, None, Some, length};
+ghost use Rattle.std.specs.FinMap as fin;
+ghost use Rattle.ras_writing.specs.Replies.{encoding_of};
+ghost use Rattle.kept_replies.specs.Kept.{NonePasses, Passes, is_over};
+ghost use Rattle.ras_requests.specs.Plans.{Plan};
+ghost use Rattle.ras_requests.specs.Requests.{HasReply, plan_of};
+ghost use Rattle.ras_machine.specs.Keeping.{is_repeat};
+ghost use Rattle.ras_machine.specs.Machine.{Repeating, first, message_course, request_course};
+ghost use Rattle.ras_machine.specs.Machine.{response_course, serving};
+ghost use Rattle.ras_machine.specs.Courses.{CallsFor, IsPlacedIn};
+
+use crate::course::{Course, Task};
+use crate::job::{Job, Occasion};
+use crate::machine::Machine;
+use crate::prepared::Message;
+use kept_replies::{KeptEntry, KeptKey};
+use pools::Pool;
+use ras_codec::write_reserved;
+use ras_module::{EndpointId, Octets, Reply, Request, Source};
+use ras_requests::decide;
+use std::alloc::AllocError;
+use zone_config::Moment;
+use zone_events::{Datagram, IgnoredCause};
+
+impl<P: Pool> Machine<P> {
+    /// What a datagram calls for, if this entry is dropped should its reply find no place else.
+    pub fn datagram_course(
+        &self,
+        now: Moment,
+        key: KeptKey,
+        message: Message,
+        dropped: Option<u64>,
+    ) -> Result<Course, AllocError>
+        requires over { IfSome dropped (Passes (is_over now) self.now.state.kept) }
+        ensures { IfOk result (CallsFor self.now.state now
+            (message_course self.now.state now key dropped message)) }
+    {
+        match message {
+            Message::TooLong => Ok(Course::Ignoring(IgnoredCause::TooLong)),
+            Message::Unreadable => Ok(Course::Ignoring(IgnoredCause::Unreadable)),
+            Message::NotServed => Ok(Course::Ignoring(IgnoredCause::NotServed)),
+            Message::Request(request) => self.request_course(now, key, request, dropped),
+        }
+    }
+
+    /// What a request calls for as it comes.
+    fn request_course(
+        &self,
+        now: Moment,
+        key: KeptKey,
+        request: Request,
+        dropped: Option<u64>,
+    ) -> Result<Course, AllocError>
+        requires over { IfSome dropped (Passes (is_over now) self.now.state.kept) }
+        ensures { IfOk result (CallsFor self.now.state now
+            (request_course self.now.state now key dropped request)) }
+    {
+        if let Request::Irr(response) = request {
+            return Ok(self.response_course(&response.endpoint));
+        }
+        if let Some(entry) = self.kept.find(&key) {
+            if self.is_repeat(now, entry) {
+                return self.repeating(key.source, entry.state.reply());
+            }
+            return self.serving(now, first(key, None), request);
+        }
+        if !self.kept.is_full() {
+            return self.serving(now, first(key, None), request);
+        }
+        if dropped.is_none() {
+            return Ok(Course::Ignoring(IgnoredCause::Busy));
+        }
+        self.serving(now, first(key, dropped), request)
+    }
+
+    /// An InfoRequestResponse is a sign of life, if its endpoint is registered.
+    fn response_course(&self, endpoint: &EndpointId) -> Course
+        ensures { (now : ℕ) → CallsFor self.now.state now
+            (response_course self.now.state (Some endpoint.now)) result }
+    {
+        if self.tables.get(endpoint).is_none() {
+            return Course::Ignoring(IgnoredCause::UnknownEndpoint);
+        }
+        Course::Hearing(*endpoint)
+    }
+
+    /// Whether an entry answers its datagram as it comes again.
+    fn is_repeat(&self, now: Moment, entry: &KeptEntry) -> bool
+        ensures { result ≡ is_repeat self.now.state now entry.now }
+    {
+        if entry.is_over(now.milliseconds()) {
+            return false;
+        }
+        match entry.identifier() {
+            None => true,
+            Some(id) => self.tables.get(id).is_some(),
+        }
+    }
+
+    /// A kept reply is to be sent again.
+    fn repeating(&self, to: Source, reply: &Reply) -> Result<Course, AllocError>
+        ensures { IfOk result (λ course. (now : ℕ) → CallsFor self.now.state now
+            (Repeating (record { to = to; bytes = encoding_of reply.now })) course) }
+    {
+        Ok(Course::Repeating(self.datagram(to, reply)?))
+    }
+
+    /// The datagram in which this reply is sent.
+    pub(crate) fn datagram(&self, to: Source, reply: &Reply) -> Result<Datagram, AllocError>
+        ensures encoded { IfOk result (λ datagram.
+            datagram ≡ record { to = to; bytes = encoding_of reply.now }) }
+        ensures few { IfOk result (λ datagram. length datagram.bytes ≤ 20000) }
+    {
+        let mut bytes = Vec::with_capacity(self.alloc, reply.room())?;
+        write_reserved(reply, &mut bytes);
+        Ok(Datagram {
+            to,
+            bytes: Octets::from_vec(bytes),
+        })
+    }
+
+    /// A request is to be served: what is concluded about it.
+    pub(crate) fn serving(
+        &self,
+        now: Moment,
+        job: Job,
+        request: Request,
+    ) -> Result<Course, AllocError>
+        requires served { HasReply request }
+        requires placed { IsPlacedIn self.now.state job }
+        ensures { IfOk result (λ course. (plan : Plan)
+            → plan_of self.now.state.tables now request ≡ Some plan
+            → CallsFor self.now.state now (serving job now request plan) course) }
+    {
+        let conclusion = decide(&self.tables, now, &request)?;
+        Ok(Course::Serving(Task {
+            job,
+            request,
+            conclusion,
+        }))
+    }
+
+    /// The kept entry that is dropped if the reply to a datagram finds no place else: any that is
+    /// over. None, if there is a place or nothing is over.
+    pub fn entry_to_drop(&self, now: Moment, key: &KeptKey) -> Option<u64>
+        ensures over { IfSome result (Passes (is_over now) self.now.state.kept) }
+        ensures none { result ≡ None → fin.get self.now.state.kept key.now ≡ None
+            → fin.len self.now.state.kept ≡ self.now.state.tables.config.kept
+            → NonePasses (is_over now) self.now.state.kept }
+    {
+        if !self.kept.is_full() || self.kept.find(key).is_some() {
+            return None;
+        }
+        self.kept.over(now.milliseconds())
+    }
+}
+
+/// A request is served as it comes.
+fn first(key: KeptKey, dropped: Option<u64>) -> Job
+    ensures { result ≡ first key dropped }
+{
+    Job {
+        key,
+        occasion: Occasion::First { dropped },
+    }
+}

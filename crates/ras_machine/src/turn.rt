@@ -1,0 +1,173 @@
+//! What a turn calls for, and what is done in it.
+
+ghost use Rattle.std.specs.Prelude.{◌≡◌, ◌≤◌, ℕ, IfOk, MatchOption, OnErr};
+ghost use Rattle.std.specs.FinMap as fin;
+ghost use Rattle.kept_replies.specs.Kept.{births};
+ghost use Rattle.ras_machine.specs.Machine.{Doing, retry_course, turn_course};
+ghost use Rattle.ras_machine.specs.Soundness.{Sound};
+ghost use Rattle.ras_machine.specs.Turns.{IsDueIn, IsNothingDueIn, number_after, times_of};
+ghost use Rattle.ras_machine.specs.Courses.{CallsFor, Does, IsWaitingRequest};
+
+use crate::course::Course;
+use crate::job::{Job, Occasion};
+use crate::machine::Machine;
+use expiry::{Times, due};
+use kept_replies::KeptState;
+use pools::Pool;
+use ras_module::{EndpointId, Reply, Request, RequestSeqNum};
+use std::alloc::AllocError;
+use zone_config::Moment;
+use zone_events::{DueItem, Note, Outcome};
+
+impl<P: Pool> Machine<P> {
+    /// Something that is due: any of what is, and None if and only if nothing is.
+    pub fn due(&self, now: Moment) -> Option<DueItem>
+        ensures { MatchOption result (IsNothingDueIn self.now.state now)
+            (IsDueIn self.now.state now) }
+    {
+        let times = self.times();
+        let moment = now.milliseconds();
+        let registrations = self.tables.registrations();
+        let calls = self.tables.calls_table();
+        let next = self.next_pool_turn;
+        due(registrations, calls, &self.kept, moment, next, &times)
+    }
+
+    /// How long an endpoint in a call may be silent.
+    fn times(&self) -> Times
+        ensures same { result ≡ times_of self.now.state.tables.config }
+        ensures asks { result.asks ≤ 16 }
+    {
+        let parts = self.tables.config().parts();
+        Times {
+            silence: parts.silence,
+            asks: parts.asks as u8,
+            ask_wait: parts.ask_wait,
+        }
+    }
+
+    /// What a turn calls for in which this item is done.
+    pub fn turn_course(&self, now: Moment, item: Option<DueItem>) -> Result<Course, AllocError>
+        ensures { IfOk result (CallsFor self.now.state now
+            (turn_course self.now.state now item)) }
+    {
+        match item {
+            None => Ok(Course::Idle),
+            Some(DueItem::Retry(born)) => self.retry_course(now, born),
+            Some(item) => Ok(Course::Doing(item)),
+        }
+    }
+
+    /// A request that waits is served again.
+    fn retry_course(&self, now: Moment, born: u64) -> Result<Course, AllocError>
+        ensures { IfOk result (CallsFor self.now.state now (retry_course self.now.state now born
+            (fin.get (births self.now.state.kept) born))) }
+    {
+        match self.waiting(born)? {
+            Some((job, request)) => self.serving(now, job, request),
+            None => Ok(Course::Doing(DueItem::Retry(born))),
+        }
+    }
+
+    /// The request that waits with this birth. If an entry has none that is served, there is
+    /// nothing to do.
+    fn waiting(&self, born: u64) -> Result<Option<(Job, Request)>, AllocError>
+        ensures { IfOk result (λ found. (now : ℕ)
+            → IsWaitingRequest self.now.state now born found) }
+    {
+        let Some((key, entry)) = self.kept.by_born(born) else {
+            return Ok(None);
+        };
+        let KeptState::Pending { request, left, .. } = &entry.state else {
+            return Ok(None);
+        };
+        if let Request::Irr(_) = request {
+            return Ok(None);
+        }
+        let job = Job {
+            key: key.copy()?,
+            occasion: Occasion::Again { born, left: *left },
+        };
+        Ok(Some((job, request.copy()?)))
+    }
+
+    /// Does an item that is due, and is no request that waits.
+    pub(crate) fn do_item(&mut self, now: Moment, item: DueItem) -> Result<Outcome, AllocError>
+        requires sound { Sound self.old.state }
+        requires due { IsDueIn self.old.state now item }
+        ensures does { IfOk result (λ outcome. Does self.old now (Doing item) outcome self.new) }
+        ensures err { OnErr result (self.new ≡ self.old) }
+    {
+        match item {
+            DueItem::RegistrationOver(id) => Ok(self.lapse(now, id)),
+            DueItem::Interrogate(id) => self.interrogate(now, id),
+            DueItem::Silent(id) => Ok(self.silence(now, id)),
+            DueItem::Retry(_) => Ok(Outcome::noted(Note::Done(item), None)),
+            DueItem::KeptOver(born) => Ok(self.expire(now, born)),
+            DueItem::PoolTurn => Ok(self.turn_pools(now)),
+        }
+    }
+
+    /// A registration is over.
+    fn lapse(&mut self, now: Moment, id: EndpointId) -> Outcome
+        requires { IsDueIn self.old.state now (DueItem.RegistrationOver id) }
+        ensures { Does self.old now (Doing (DueItem.RegistrationOver id)) result self.new }
+    {
+        self.tables.lapse(&id);
+        Outcome::noted(Note::Done(DueItem::RegistrationOver(id)), None)
+    }
+
+    /// The endpoint was interrogated `asks` times and never answered.
+    fn silence(&mut self, now: Moment, id: EndpointId) -> Outcome
+        requires { IsDueIn self.old.state now (DueItem.Silent id) }
+        ensures { Does self.old now (Doing (DueItem.Silent id)) result self.new }
+    {
+        self.tables.silence(&id);
+        Outcome::noted(Note::Done(DueItem::Silent(id)), None)
+    }
+
+    /// A kept reply is over.
+    fn expire(&mut self, now: Moment, born: u64) -> Outcome
+        requires { IsDueIn self.old.state now (DueItem.KeptOver born) }
+        ensures { Does self.old now (Doing (DueItem.KeptOver born)) result self.new }
+    {
+        self.kept.drop_born(born);
+        Outcome::noted(Note::Done(DueItem::KeptOver(born)), None)
+    }
+
+    /// The pools make a turn, and the next one is later.
+    fn turn_pools(&mut self, now: Moment) -> Outcome
+        requires { IsDueIn self.old.state now DueItem.PoolTurn }
+        ensures { Does self.old now (Doing DueItem.PoolTurn) result self.new }
+    {
+        self.tables.turn_pools();
+        self.next_pool_turn = now.milliseconds() + self.tables.config().pool_turn();
+        Outcome::noted(Note::Done(DueItem::PoolTurn), None)
+    }
+
+    /// Asks an endpoint for a sign of life (H.225.0, InfoRequest).
+    fn interrogate(&mut self, now: Moment, id: EndpointId) -> Result<Outcome, AllocError>
+        requires sound { Sound self.old.state }
+        requires due { IsDueIn self.old.state now (DueItem.Interrogate id) }
+        ensures does { IfOk result (λ outcome.
+            Does self.old now (Doing (DueItem.Interrogate id)) outcome self.new) }
+        ensures err { OnErr result (self.new ≡ self.old) }
+    {
+        let seq = self.interrogation_number;
+        let to = self.tables.get(&id).unwrap().ras;
+        let output = self.datagram(to, &Reply::Irq { seq })?;
+        self.tables.interrogated(now, &id);
+        self.interrogation_number = following(seq);
+        let note = Note::Done(DueItem::Interrogate(id));
+        Ok(Outcome::noted(note, Some(output)))
+    }
+}
+
+/// The requestSeqNum of the interrogation after this one.
+fn following(seq: RequestSeqNum) -> RequestSeqNum
+    ensures { result ≡ number_after seq }
+{
+    let number = seq.get();
+    let next = if number == u16::MAX { 1 } else { number + 1 };
+    RequestSeqNum::new(next).unwrap()
+}
