@@ -9,13 +9,13 @@ use Rattle.admission.specs.declared.call.Call.{Call}
 use Rattle.admission.specs.Calls.{in_use}
 use Rattle.zone_tables.specs.declared.unit_request.Purpose.TheVariants.{Raising}
 use Rattle.zone_tables.specs.Tables.{Tables}
-use Rattle.ras_requests.specs.Brq.{lowering, raising, resizing, room, staying, wanted}
+use Rattle.ras_requests.specs.Brq.{lowering, raising, resizing, staying, units_left, wanted}
 use Rattle.ras_requests.specs.Plans.{Settled, Asking}
 use Rattle.ras_requests.specs.Conclusions.{RequestsUnits}
 
 module _ (z : Tables) (q : BandwidthRequest) (call : Call) (w r n : ℕ) where
   pub RequestsUnits-resizing : fin.get z.calls q.call ≡ Some call → call.pool < length z.pools
-      → in_use z.calls ≤ z.config.limit → w ≡ wanted z q.asked → call.units < w → r ≡ room z
+      → in_use z.calls ≤ z.config.limit → w ≡ wanted z q.asked → call.units < w → r ≡ units_left z
       → 0 < r → n ≡ min (w - call.units) r
       → RequestsUnits z (resizing z q call) (record {
         seq = q.seq;
@@ -28,9 +28,9 @@ module _ (z : Tables) (q : BandwidthRequest) (call : Call) (w r n : ℕ) where
   RequestsUnits-resizing there below within w_is more r_is some n_is =
       let wants : nat_le (wanted z q.asked) call.units ≡ false =
       grind (arith, nat_tests, w_is, more) in
-      let has : (room z == 0) ≡ false = grind (arith, nat_tests, r_is, some) in
-      let units : min (wanted z q.asked - call.units) (room z) ≡ n =
-      ap (λ x. min (x - call.units) (room z)) (sym w_is)
+      let has : (units_left z == 0) ≡ false = grind (arith, nat_tests, r_is, some) in
+      let units : min (wanted z q.asked - call.units) (units_left z) ≡ n =
+      ap (λ x. min (x - call.units) (units_left z)) (sym w_is)
       ∙ (ap (λ x. min (w - call.units) x) (sym r_is) ∙ sym n_is) in
       record {
         may = record {
@@ -48,13 +48,13 @@ module _ (z : Tables) (q : BandwidthRequest) (call : Call) (w r n : ℕ) where
         registered = tt;
         is =
             ap (λ (b : Bool). if b then Settled (lowering z q call (wanted z q.asked))
-            else if room z == 0 then Settled (staying z q call)
+            else if units_left z == 0 then Settled (staying z q call)
             else Asking
-            (record { pool = call.pool; units = min (wanted z q.asked - call.units) (room z) })
+            (record { pool = call.pool; units = min (wanted z q.asked - call.units) (units_left z) })
             (raising z q call) (staying z q call)) wants
             ∙ (ap (λ (b : Bool). if b then Settled (staying z q call)
             else Asking
-            (record { pool = call.pool; units = min (wanted z q.asked - call.units) (room z) })
+            (record { pool = call.pool; units = min (wanted z q.asked - call.units) (units_left z) })
             (raising z q call) (staying z q call)) has
             ∙ ap (λ (x : ℕ). Asking (record { pool = call.pool; units = x }) (raising z q call)
             (staying z q call)) units);

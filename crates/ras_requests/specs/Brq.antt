@@ -17,8 +17,8 @@ use Rattle.ras_requests.specs.Standing.{Standing, NoCall, NoLeg, HasLeg, standin
 use Rattle.ras_requests.specs.Plans.{Served, Plan, Settled, Asking, unchanged}
 
 -- the units that the zone has left
-abbrev pub room : Tables → ℕ
-room z = z.config.limit - in_use z.calls
+abbrev pub units_left : Tables → ℕ
+units_left z = z.config.limit - in_use z.calls
 
 -- the units that are asked for, but no more than a call may have
 abbrev pub wanted : Tables → ℕ → ℕ
@@ -45,13 +45,13 @@ raising z q call more = record {
 abbrev pub staying : Tables → BandwidthRequest → Call → Served
 staying z q call = unchanged z (Brj q.seq InsufficientResources call.units)
 
--- a call that needs no more than it has; one that finds no room; and one for which
+-- a call that needs no more than it has; one for which no units are left; and one for which
 -- its pool is asked
 abbrev pub resizing : Tables → BandwidthRequest → Call → Plan
 resizing z q call =
     if nat_le (wanted z q.asked) call.units then Settled (lowering z q call (wanted z q.asked))
-    else if room z == 0 then Settled (staying z q call)
-    else Asking (record { pool = call.pool; units = min (wanted z q.asked - call.units) (room z) })
+    else if units_left z == 0 then Settled (staying z q call)
+    else Asking (record { pool = call.pool; units = min (wanted z q.asked - call.units) (units_left z) })
     (raising z q call) (staying z q call)
 
 -- A BRQ: of this endpoint if it is registered, with its standing to the call.

@@ -8,7 +8,7 @@ ghost use Rattle.ras_requests.specs.Standing.{NoCall, standing_in};
 ghost use Rattle.zone_config.specs.Networks.{pool_of};
 ghost use Rattle.ras_requests.specs.Conclusions.{Concludes, Decides, IsFor};
 
-use crate::brq::{room, wanted};
+use crate::brq::{units_left, wanted};
 use crate::conclusion::{Conclusion, Decision};
 use admission::{Call, Leg};
 use pools::Pool;
@@ -80,8 +80,8 @@ fn make<P: Pool>(
     if wanted == 0 {
         return Conclusion::Settled(opening_without_units(q, pool, told));
     }
-    let room = room(tables);
-    if room == 0 {
+    let left = units_left(tables);
+    if left == 0 {
         return Conclusion::Settled(denial(q, AdmissionRejectReason::RequestDenied));
     }
     Conclusion::Asking(UnitRequest {
@@ -89,7 +89,7 @@ fn make<P: Pool>(
         endpoint: q.endpoint,
         call: q.call,
         pool,
-        units: u64::from(wanted).min(room) as u32,
+        units: u64::from(wanted).min(left) as u32,
         purpose: Purpose::Opening(leg_told(q, told)),
     })
 }

@@ -2,7 +2,7 @@
 
 ghost use Rattle.std.specs.Prelude.{◌≡◌, ◌≤◌, ◌-◌, None, Some};
 ghost use Rattle.std.specs.FinMap as fin;
-ghost use Rattle.ras_requests.specs.Brq.{bandwidth, resizing, room, wanted};
+ghost use Rattle.ras_requests.specs.Brq.{bandwidth, resizing, units_left, wanted};
 ghost use Rattle.zone_tables.specs.Soundness.{SoundTables};
 ghost use Rattle.ras_requests.specs.Conclusions.{Concludes, IsFor};
 
@@ -14,8 +14,8 @@ use zone_config::Moment;
 use zone_tables::{CallChange, Change, Purpose, UnitRequest, ZoneTables};
 
 /// The units that the zone has left.
-pub(crate) fn room<P: Pool>(tables: &ZoneTables<P>) -> u64
-    ensures room { result ≡ room tables.now.tables }
+pub(crate) fn units_left<P: Pool>(tables: &ZoneTables<P>) -> u64
+    ensures left { result ≡ units_left tables.now.tables }
     ensures sound { SoundTables tables.now.tables }
 {
     tables.config().parts().limit - tables.in_use()
@@ -44,8 +44,8 @@ fn resize<P: Pool>(
     if wanted <= call.units {
         return Conclusion::Settled(lowering(q, call, wanted));
     }
-    let room = room(tables);
-    if room == 0 {
+    let left = units_left(tables);
+    if left == 0 {
         let reason = BandRejectReason::InsufficientResources;
         return Conclusion::Settled(rejection(q, reason, call.units));
     }
@@ -54,7 +54,7 @@ fn resize<P: Pool>(
         endpoint: q.endpoint,
         call: q.call,
         pool: call.pool,
-        units: u64::from(wanted - call.units).min(room) as u32,
+        units: u64::from(wanted - call.units).min(left) as u32,
         purpose: Purpose::Raising(call.units),
     })
 }
