@@ -35,7 +35,7 @@ module _ (z : Tables) (q : BandwidthRequest) (call : Call) (w r n : ℕ) where
       record {
         may = record {
           some = omega (arith, n_is, more, some);
-          room = omega (arith, n_is, r_is, some, within);
+          limit = omega (arith, n_is, r_is, some, within);
           pool = below;
           purpose = record {
             call = call;

@@ -166,7 +166,7 @@ module _ (u : Usage) (b : IsBacked u) (q : UnitRequest) (may : IsUnitRequest u q
         (new_call q.pool n leg) b.pools may.pool);
     call_limit = EachCall-insert (λ call. call.units ≤ u.call_limit) u.calls q.call
         (new_call q.pool n leg) b.call_limit (omega (arith, fits.1, can.1));
-    limit = omega (arith, in_use-open u.calls q.call q.pool n leg can.0.absent, fits.1, may.room);
+    limit = omega (arith, in_use-open u.calls q.call q.pool n leg can.0.absent, fits.1, may.limit);
   }
   lent_for n fits (Raising had) can =
       subst (λ h. IsBacked (with_usage u (update u.calls q.call (with_units (h + n)))
@@ -187,7 +187,7 @@ module _ (u : Usage) (b : IsBacked u) (q : UnitRequest) (may : IsUnitRequest u q
           arith,
           in_use-set_units u.calls q.call can.call (can.call.units + n) can.there,
           fits.1,
-          may.room,
+          may.limit,
         );
       }))
 

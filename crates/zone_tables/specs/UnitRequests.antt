@@ -75,7 +75,7 @@ IsEnterable t q Wait = Unit {0}
 -- the request may be put: it is for some units, which the limit of all calls allows
 pub record IsUnitRequest (u : Usage) (q : UnitRequest) : Type 0 where
   pub some : 1 ≤ q.units
-  pub room : in_use u.calls + q.units ≤ u.limit
+  pub limit : in_use u.calls + q.units ≤ u.limit
   pub pool : q.pool < length u.pools
   pub purpose : IsPurpose u q q.purpose
 
