@@ -1,5 +1,5 @@
 -- What a request calls for as it comes, case by case.
-use Rattle.std.proofs.Common.{Bor, ◌≡◌, ◌≢◌, ◌<◌, ◌≤◌, ℕ, Bool, true, false, refl, sym, ◌∙◌, ap}
+use Rattle.std.proofs.Common.{Bor, ◌≡◌, ◌≢◌, ℕ, Bool, true, false, refl, sym, ◌∙◌, ap}
 use Rattle.std.proofs.Common.{Some, None, arith}
 use Rattle.std.specs.Prelude.{Option, IfSome, ◌==◌, is_some, if◌then◌else◌}
 use Rattle.std.specs.Option.{option_copied}
@@ -67,11 +67,6 @@ module _ (s : State) (now : ℕ) (key : KeptKey) (request : Request) (dropped : 
       → request_course s now key dropped request
       ≡ request_case s now key request (Some its_plan.0) Full dropped
   all_taken there full = by_place Full (place_unknown true there (grind (arith, nat_tests)))
-
-  pub finds_none : fin.get s.kept key ≡ None → fin.len s.kept ≡ s.tables.config.kept
-      → dropped ≡ None → request_course s now key dropped request ≡ Ignoring Busy
-  finds_none there full is = all_taken there full
-      ∙ ap (request_case s now key request (Some its_plan.0) Full) is
 
   pub takes_place : fin.get s.kept key ≡ None → fin.len s.kept ≡ s.tables.config.kept
       → is_some dropped ≡ true → request_course s now key dropped request

@@ -1,5 +1,5 @@
 -- What was chosen for an event is what its outcome shows.
-use Rattle.std.proofs.Common.{◌≡◌, ◌≤◌, ◌+◌, ℕ, Bool, true, false, List, length, refl, sym, ◌∙◌, ap, subst}
+use Rattle.std.proofs.Common.{◌≡◌, ◌+◌, ℕ, Bool, true, false, List, refl, sym, ap, subst}
 use Rattle.std.proofs.Common.{Some, None, arith}
 use Rattle.std.specs.Prelude.{Option, IfSome, MatchOption, ◌==◌, is_some, if◌then◌else◌}
 use Rattle.std.proofs.lemmas.Bool.Decides.{nat_tests}
@@ -11,7 +11,6 @@ use Rattle.kept_replies.specs.declared.entry.KeptState.{KeptState}
 use Rattle.kept_replies.specs.declared.entry.KeptState.TheVariants.{Done, Pending}
 use Rattle.kept_replies.specs.declared.key.KeptKey.{KeptKey}
 use Rattle.kept_replies.specs.Kept.{NonePasses, Passes, births, is_over, reply_in}
-use Rattle.ras_writing.specs.Replies.{encoding_of}
 use Rattle.zone_events.specs.declared.due_item.DueItem.{DueItem}
 use Rattle.zone_events.specs.declared.due_item.DueItem.TheVariants.{RegistrationOver, Interrogate}
 use Rattle.zone_events.specs.declared.due_item.DueItem.TheVariants.{Silent, Retry, KeptOver, PoolTurn}

@@ -13,7 +13,7 @@ use Rattle.kept_replies.specs.declared.entry.KeptEntry.{KeptEntry}
 use Rattle.kept_replies.specs.declared.entry.KeptState.{KeptState}
 use Rattle.kept_replies.specs.declared.entry.KeptState.TheVariants.{Done, Pending}
 use Rattle.kept_replies.specs.Kept.{KeptReplies, AreBornApart, IsFreeBirth, KeptTable}
-use Rattle.kept_replies.specs.Kept.{Becomes, NonePasses, Passes, births, without, without_birth}
+use Rattle.kept_replies.specs.Kept.{Passes, births, without, without_birth}
 use Rattle.kept_replies.specs.Kept.{is_over, left_in}
 use Rattle.kept_replies.proofs.Births.{births-has}
 use Rattle.kept_replies.proofs.KeyOrder.{key_cmp_total, key_cmp-IsAntisymmetric}

@@ -1,10 +1,9 @@
 -- Steps in which no request is served.
-use Rattle.std.proofs.Common.{Bor, ◌≡◌, ◌<◌, ◌≤◌, ◌+◌, ℕ, Bool, true, List, refl, sym, ap, subst}
+use Rattle.std.proofs.Common.{Bor, ◌≡◌, ◌<◌, ◌≤◌, ◌+◌, ℕ, true, List, refl, sym, ap, subst}
 use Rattle.std.proofs.Common.{Some, None, arith}
-use Rattle.std.specs.Prelude.{Option, IsTrue, is_some, if◌then◌else◌}
+use Rattle.std.specs.Prelude.{Option, IsTrue, is_some}
 use Rattle.std.specs.Option.{IsSomeAnd, option_copied}
 use Rattle.std.proofs.lemmas.Bool.Decides.{nat_tests}
-use Rattle.std.specs.FinMap as fin
 use Rattle.registrations.specs.declared.registration.Registration.{Registration}
 use Rattle.zone_events.specs.declared.due_item.DueItem.{DueItem}
 use Rattle.expiry.specs.declared.times.Times.{Times}
@@ -71,25 +70,8 @@ does_hear old now id tables is =
       few = tt;
     })
 
--- nothing changes
-pub does_nothing : (old : Running) (now : ℕ) (c : Course) (what : Note) (output : Option Datagram)
-    → IsAllowed old.state now c (choices_of (noted_outcome what output))
-    → course_ending old.state now c (choices_of (noted_outcome what output))
-    ≡ Some (noted_outcome what output, old.state)
-    → ask_in c ≡ None → HasFewOctets output
-    → Does old now c (noted_outcome what output) old
-does_nothing old now c what output allowed makes asks few = record {
-  allowed = allowed;
-  makes = makes;
-  lasts = ap (λ ask. lasts_after old.lasts ask None) (sym asks);
-  counts = counts_same old.state.tables.pools old.state.tables.pools
-      (same_after_end old.state.tables.pools None);
-  births = λ before. born_same old.state.kept old.state.steps before;
-  few = few;
-}
-
 -- who is asked was asked less than so often
-pub tries_few : (times : Times) (now : ℕ) (r : Registration) → IsTrue (is_to_be_asked times now r)
+tries_few : (times : Times) (now : ℕ) (r : Registration) → IsTrue (is_to_be_asked times now r)
     → times.asks ≤ 16 → r.tries < 16
 tries_few times now r is few = grind (arith, nat_tests)
 
@@ -98,9 +80,3 @@ pub tries_few_in : (times : Times) (now : ℕ) (w : Option Registration)
     → IsSomeAnd w (λ r. r.tries < 16)
 tries_few_in times now None is few = is
 tries_few_in times now (Some r) is few = tries_few times now r is few
-
--- a look-up that finds something
-pub found_some : {A : Type 0} {v : Option A} (w : Option (Bor A)) → option_copied w ≡ v
-    → is_some w ≡ true → is_some v ≡ true
-found_some None is some = absurd (cc some)
-found_some (Some x) is some = ap is_some (sym is)

@@ -14,7 +14,6 @@ use Rattle.kept_replies.specs.declared.entry.KeptEntry.{KeptEntry}
 use Rattle.kept_replies.specs.declared.entry.KeptState.TheVariants.{Pending}
 use Rattle.kept_replies.specs.Kept.{AreBornApart, births, left_in}
 use Rattle.kept_replies.proofs.Births.{births-has}
-use Rattle.ras_machine.specs.declared.job.Job.{Job}
 use Rattle.ras_machine.specs.declared.job.Occasion.TheVariants.{Again}
 use Rattle.zone_events.specs.declared.outcome.Outcome.{Outcome}
 use Rattle.ras_machine.specs.State.{State}
@@ -25,12 +24,6 @@ use Rattle.ras_machine.specs.Keeping.{Task, dropped_for}
 use Rattle.ras_machine.specs.Machine.{Choices, again_course, note_at, plan_ending}
 use Rattle.ras_machine.specs.Machine.{retry_course, retry_in_course, serving, with_answer, with_name}
 use Rattle.ras_machine.specs.Courses.{IsAgain}
-
--- what holds where a call succeeded, by two of its clauses
-pub if_ok_by_both : {A B : Type 0} (P Q R : A → Type 0) (r : Result A B) → IfOk r P → IfOk r Q
-    → ((x : A) → P x → Q x → R x) → IfOk r R
-if_ok_by_both P Q R (Ok x) h k f = f x h k
-if_ok_by_both P Q R (Err e) h k f = tt
 
 -- a request that is served comes to something
 pub plan_there : (z : Tables) (now : ℕ) (request : Request) → HasReply request

@@ -3,7 +3,6 @@ use Rattle.std.specs.Prelude.{ℕ, ◌≡◌, ◌≤◌, ◌+◌, List, length, 
 use Rattle.std.specs.Option.{IsSomeAnd}
 use Rattle.std.specs.FinMap.{get}
 use Rattle.kept_replies.specs.Kept.{NonePasses, births, is_over}
-use Rattle.pools.specs.declared.interface.Lend.{Lend}
 use Rattle.ras_module.specs.declared.request.Request.{Request}
 use Rattle.zone_events.specs.declared.due_item.DueItem.{DueItem}
 use Rattle.zone_events.specs.declared.due_item.DueItem.TheVariants.{Retry}

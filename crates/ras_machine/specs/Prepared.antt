@@ -4,7 +4,6 @@ use Rattle.std.specs.Prelude.{if◌then◌else◌}
 use Rattle.ras_module.specs.declared.request.Request.{Request}
 use Rattle.ras_reading.specs.Messages.{message_reading}
 use Rattle.ras_grammar.specs.declared.fault.ReadFault.{ReadFault}
-use Rattle.kept_replies.specs.declared.key.KeptKey.{KeptKey}
 use Rattle.zone_events.specs.declared.event.Event.{Event}
 use Rattle.zone_events.specs.declared.event.Event.TheVariants as event
 use Rattle.ras_machine.specs.declared.prepared.Arrival.{Arrival}

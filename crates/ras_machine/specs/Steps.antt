@@ -1,7 +1,5 @@
 -- Steps of the machine.
-use Rattle.std.specs.Prelude.{ℕ, ◌≡◌, ◌≤◌, ◌++◌, List, [], ◌∷◌, length, Some, Option, None, IfSome}
-use Rattle.std.specs.List.{zip}
-use Rattle.admission.specs.Calls.{in_use}
+use Rattle.std.specs.Prelude.{ℕ, ◌≡◌, ◌≤◌, List, length, Some, Option, None, IfSome}
 use Rattle.pools.specs.Account.{IsAnswer}
 use Rattle.kept_replies.specs.Kept.{NonePasses, Passes, is_over}
 use Rattle.zone_events.specs.declared.due_item.DueItem.{DueItem}
@@ -14,10 +12,8 @@ use Rattle.zone_events.specs.declared.outcome.IgnoredCause.TheVariants.{Busy}
 use Rattle.zone_events.specs.declared.outcome.Note.{Note}
 use Rattle.zone_events.specs.declared.outcome.Note.TheVariants as note
 use Rattle.zone_events.specs.declared.outcome.Outcome.{Outcome}
-use Rattle.ras_machine.specs.State.{State, Running}
-use Rattle.zone_tables.specs.Soundness.{IsLentTo}
-use Rattle.ras_machine.specs.Soundness.{Sound}
-use Rattle.zone_tables.specs.Pools.{figures_at, lasts_after}
+use Rattle.ras_machine.specs.State.{State}
+use Rattle.zone_tables.specs.Pools.{figures_at}
 use Rattle.zone_tables.specs.Pools.{RequestedUnits}
 use Rattle.ras_requests.specs.Plans.{Plan, Settled, Naming, Asking}
 use Rattle.ras_machine.specs.Unused.{IsUnusedFor}

@@ -25,7 +25,10 @@ pub enum Course {
 /// A request that is to be served, and what is concluded about it.
 #[derive(Drop)]
 pub struct Task {
+    /// Its datagram, with the occasion on which it is served.
     pub job: Job,
+    /// As it was read.
     pub request: Request,
+    /// What it comes to, once an identifier is handed out or a pool has answered, if it needs that.
     pub conclusion: Conclusion,
 }

@@ -23,8 +23,9 @@ use zone_tables::ZoneTables;
 /// The steps that a zone makes at most.
 const MOST_STEPS: u64 = 1 << 62;
 
-/// The zone, the replies that are kept, the clock, the number of the next interrogation, the moment
-/// of the next turn of the pools, and the number of steps made.
+/// The tables, the replies that are kept, the clock, the number of the next interrogation, the moment
+/// of the next turn of the pools, and the number of steps made. By its type all of it is sound, but
+/// for two facts that hold between steps: the pools' counts are small, and what is kept was born before.
 #[derive(Drop)]
 pub struct Machine<P: Pool> {
     pub(crate) alloc: Global,
@@ -63,6 +64,8 @@ impl<P: Pool> Model for Machine<P> {
 }
 
 impl<P: Pool> Machine<P> {
+    /// A machine in which no step was made. The pools have nothing lent, and are as many as the
+    /// settings have networks.
     pub fn new(alloc: Global, config: Config, pools: PoolSet<P>) -> Self
         requires idle { All (λ a. IsTrue (is_idle a)) pools }
         requires each { length pools ≡ length config.networks }
@@ -83,18 +86,21 @@ impl<P: Pool> Machine<P> {
         }
     }
 
+    /// The clock: the latest moment of an event so far.
     pub fn clock(&self) -> Moment
         ensures { result ≡ self.now.state.clock }
     {
         self.clock
     }
 
+    /// How many steps were made.
     pub fn steps(&self) -> u64
         ensures { result ≡ self.now.state.steps }
     {
         self.steps
     }
 
+    /// Whether no further step is made, as 2^62 were.
     pub fn is_closed(&self) -> bool
         ensures { IsTrue result ↔ (self.now.state.steps ≡ most_steps) }
     {

@@ -31,7 +31,9 @@ pub enum Message {
 /// What arrived: a datagram with what its octets are, or the moment for a turn.
 #[derive(Drop)]
 pub enum Arrival {
+    /// A datagram, by its source and its octets, with what these are.
     Datagram(KeptKey, Message),
+    /// The moment for a turn.
     Turn,
 }
 

@@ -1,4 +1,4 @@
-use Rattle.std.proofs.Common.{◌≡◌, ◌∙◌, ℕ, ap, subst}
+use Rattle.std.proofs.Common.{◌∙◌, ℕ, ap, subst}
 use Rattle.std.specs.Prelude.{MatchOption}
 use Rattle.admission.specs.Calls.{OpenCalls}
 use Rattle.expiry.specs.declared.times.Times.{Times}

@@ -1,4 +1,4 @@
-use Rattle.std.proofs.Common.{ap, subst, sym, arith}
+use Rattle.std.proofs.Common.{ap, subst, sym}
 use Rattle.ras_machine.specs.State.{Running}
 use Rattle.ras_machine.specs.Courses.{Does, Performs, course_of}
 use Rattle.ras_machine.specs.inside.Parts.{running_of}

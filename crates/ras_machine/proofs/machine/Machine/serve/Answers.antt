@@ -1,7 +1,6 @@
-use Rattle.std.proofs.Common.{◌≡◌, ◌∙◌, List, ℕ, Some, None, ap, subst, sym}
+use Rattle.std.proofs.Common.{◌∙◌, List, ℕ, Some, None, ap, subst, sym}
 use Rattle.std.specs.Prelude.{Option}
 use Rattle.std.specs.Option.{IsSomeAnd}
-use Rattle.ras_requests.specs.declared.conclusion.Conclusion.TheVariants as conclusion
 use Rattle.ras_requests.specs.declared.conclusion.Decision.{Decision}
 use Rattle.zone_tables.specs.Changes.{IsPossible}
 use Rattle.ras_requests.specs.Conclusions.{IsConclusion, served}
