@@ -20,8 +20,7 @@ use Rattle.zone_events.specs.declared.outcome.Note.{Note}
 use Rattle.zone_events.specs.declared.outcome.Note.TheVariants as note
 use Rattle.zone_events.specs.declared.outcome.Outcome.{Outcome}
 use Rattle.ras_machine.specs.State.{State, Running}
-use Rattle.ras_requests.specs.Plans.{Plan}
-use Rattle.ras_requests.specs.Requests.{plan_of, HasReply}
+use Rattle.ras_requests.specs.Requests.{HasReply}
 use Rattle.ras_machine.specs.Keeping.{is_repeat}
 use Rattle.ras_machine.specs.Turns.{IsNothingDueIn}
 use Rattle.ras_machine.specs.Machine.{Ending, Course, Repeating, at_moment, course}
