@@ -1,12 +1,24 @@
--- The faults of single bits, among those of messages.
+-- The faults of messages: their numbers, and the faults of single bits among them.
 use Rattle.std.specs.Prelude.{ℕ, ◌≡◌, ◌⊎◌, List, Bool, take, Result, Ok, Err}
 use Rattle.std.specs.Borrow.{Bor}
 use Rattle.per_bits.specs.declared.fault.ReadFault.{ReadFault as BitFault}
 use Rattle.per_bits.specs.declared.fault.ReadFault.TheVariants as bit
 use Rattle.ras_grammar.specs.declared.fault.ReadFault.{ReadFault}
 use Rattle.ras_grammar.specs.declared.fault.ReadFault.TheVariants.{Truncated, BadLength, Fragmented}
-use Rattle.ras_grammar.specs.declared.fault.ReadFault.TheVariants.{TooMany, BadChoice, Memory}
+use Rattle.ras_grammar.specs.declared.fault.ReadFault.TheVariants.{TooMany, BadChoice}
+use Rattle.ras_grammar.specs.declared.fault.ReadFault.TheVariants.{BadCharacter, Memory}
 
+-- the number of a fault
+abbrev pub read_fault_number : ReadFault → ℕ
+read_fault_number Truncated = 1
+read_fault_number BadLength = 2
+read_fault_number Fragmented = 3
+read_fault_number TooMany = 4
+read_fault_number BadChoice = 5
+read_fault_number BadCharacter = 6
+read_fault_number Memory = 7
+
+-- a fault of single bits, as one of a message
 abbrev pub fault_of : BitFault → ReadFault
 fault_of bit.Truncated = Truncated
 fault_of bit.BadLength = BadLength

@@ -1,5 +1,8 @@
 //! Why octets are no message.
 
+ghost use Rattle.std.specs.Prelude.{◌≡◌};
+ghost use Rattle.ras_grammar.specs.Faults.{read_fault_number};
+
 use std::alloc::AllocError;
 use thiserror::Error;
 
@@ -7,19 +10,36 @@ use thiserror::Error;
 #[derive(Clone, Copy, Debug, PartialEq, Eq, Error)]
 pub enum ReadFault {
     #[error("the octets end")]
-    Truncated = 1,
+    Truncated,
     #[error("a length or a number is outside its range")]
-    BadLength = 2,
+    BadLength,
     #[error("a length is in fragments")]
-    Fragmented = 3,
+    Fragmented,
     #[error("a small number is in its long form")]
-    TooMany = 4,
+    TooMany,
     #[error("an alternative has no such index")]
-    BadChoice = 5,
+    BadChoice,
     #[error("a character can't be dialled")]
-    BadCharacter = 6,
+    BadCharacter,
     #[error("out of memory")]
-    Memory = 7,
+    Memory,
+}
+
+impl ReadFault {
+    /// The number of the fault.
+    pub fn number(&self) -> u8
+        ensures { result ≡ read_fault_number self.now }
+    {
+        match self {
+            ReadFault::Truncated => 1,
+            ReadFault::BadLength => 2,
+            ReadFault::Fragmented => 3,
+            ReadFault::TooMany => 4,
+            ReadFault::BadChoice => 5,
+            ReadFault::BadCharacter => 6,
+            ReadFault::Memory => 7,
+        }
+    }
 }
 
 impl From<per_bits::ReadFault> for ReadFault {
