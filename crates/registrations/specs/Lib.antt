@@ -1,3 +1,4 @@
 pub mod Registry
 pub mod Agreement
+pub mod Faults
 pub mod inside
