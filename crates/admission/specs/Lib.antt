@@ -1,3 +1,4 @@
 pub mod Legs
 pub mod Calls
+pub mod Faults
 pub mod inside
