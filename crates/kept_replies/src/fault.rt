@@ -1,14 +1,29 @@
 //! Why nothing more can be kept.
 
+ghost use Rattle.std.specs.Prelude.{◌≡◌};
+ghost use Rattle.kept_replies.specs.Faults.{reserve_fault_number};
+
 use thiserror::Error;
 
-/// Why no room is made for one more reply. The number of a fault is `fault as u8`.
+/// Why no room is made for one more reply.
 #[derive(Clone, Copy, Debug, PartialEq, Eq, Error)]
 pub enum ReserveFault {
     /// As many replies are kept as may be, and none of them is over.
     #[error("as many replies are kept as may be")]
-    Busy = 1,
+    Busy,
     /// Memory was refused.
     #[error("out of memory")]
-    Memory = 2,
+    Memory,
+}
+
+impl ReserveFault {
+    /// The number of the fault.
+    pub fn number(&self) -> u8
+        ensures { result ≡ reserve_fault_number self.now }
+    {
+        match self {
+            ReserveFault::Busy => 1,
+            ReserveFault::Memory => 2,
+        }
+    }
 }

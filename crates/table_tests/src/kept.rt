@@ -200,8 +200,8 @@ fn a_reply_is_found_until_it_is_dropped(rt: HostRuntime) -> Result<(), Fail> {
 
 #[test]
 fn faults_have_their_numbers(rt: HostRuntime) {
-    assert_eq!(rt; ReserveFault::Busy as u8, 1);
-    assert_eq!(rt; ReserveFault::Memory as u8, 2);
+    assert_eq!(rt; ReserveFault::Busy.number(), 1);
+    assert_eq!(rt; ReserveFault::Memory.number(), 2);
 }
 
 // A reply in place of another needs no further place, and the birth of the other is free again.
