@@ -1,12 +1,14 @@
 -- What a replay answers, and the exit status of each fault.
-use Rattle.std.specs.Prelude.{ℕ, ◌≡◌, List, map, Option, Result, Ok, Err}
+use Rattle.std.specs.Prelude.{ℕ, ◌≡◌, List, map, Result, Ok, Err}
 use Rattle.pools.specs.Account.{Account}
 use Rattle.pools.specs.Specs.{account_of}
 use Rattle.script.specs.declared.fault.ScriptFault.TheVariants as script
+use Rattle.script.specs.declared.fault.RunFault.{RunFault}
 use Rattle.script.specs.declared.fault.RunFault.TheVariants as run
 use Rattle.script.specs.declared.read.Script.{Script}
 use Rattle.script.specs.Reads.{ReadsScript}
-use Rattle.script.specs.Runs.{IsRunAnswer}
+use Rattle.script.specs.Runs.{IsRunAnswer, IsFlushedAfter}
+use Rattle.script.specs.Streams.{InputState, OutputState}
 use Rattle.gatekeeper.specs.declared.replay.ReplayFault.{ReplayFault}
 use Rattle.gatekeeper.specs.declared.replay.ReplayFault.TheVariants.{Script as OfScript}
 use Rattle.gatekeeper.specs.declared.replay.ReplayFault.TheVariants.{Run as OfRun}
@@ -28,15 +30,20 @@ status_of (OfRun run.WrongPools) = 1
 abbrev pub accounts_of : Script → List Account
 accounts_of script = map account_of script.pools
 
+-- What a run of a script over its pools answers and writes; what it wrote is flushed.
+pub record RunsScript (script : Script) (old new : OutputState) (answer : Result Unit RunFault)
+    : Type 0 where
+  pub run : IsRunAnswer script (accounts_of script) old.contents new.contents answer
+  pub flushed : IsFlushedAfter answer new.flushed
+
 -- A script was read and run, with its pools; or it was read and not run to its end; or it was not
 -- read, and the writer is as it was.
-abbrev pub Replays : Option (List ℕ) → Option (List ℕ) → Option (List ℕ) → Option (List ℕ)
-    → Result Unit ReplayFault → Type 0
+abbrev pub Replays : InputState → InputState → OutputState → OutputState → Result Unit ReplayFault
+    → Type 0
 Replays left left_now old new (Ok done) =
-    (script : Script) × ReadsScript left left_now (Ok script)
-    × IsRunAnswer script (accounts_of script) old new (Ok done)
+    (script : Script) × ReadsScript left left_now (Ok script) × RunsScript script old new (Ok done)
 Replays left left_now old new (Err (OfRun fault)) =
     (script : Script) × ReadsScript left left_now (Ok script)
-    × IsRunAnswer script (accounts_of script) old new (Err fault)
+    × RunsScript script old new (Err fault)
 Replays left left_now old new (Err (OfScript fault)) =
     ReadsScript left left_now (Err fault) × (new ≡ old)

@@ -3,11 +3,10 @@
 ghost use Rattle.std.specs.Prelude.{◌≡◌, map, IfOk, IsTrue, OnErr};
 ghost use Rattle.pools.specs.Account.{opening_account};
 ghost use Rattle.pools.specs.Specs.{account_of};
-ghost use Rattle.script.specs.Runs.{IsRunAnswer};
-ghost use Rattle.gatekeeper.specs.Replays.{accounts_of};
+ghost use Rattle.gatekeeper.specs.Replays.{RunsScript};
 
 use pools::{FixedPool, PacedPool, Pool, PoolSpec, StepPool};
-use script::{RunFault, Script, run_script};
+use script::{Output, RunFault, Script, run_script};
 use std::alloc::{AllocError, Global};
 use std::io::Write;
 
@@ -48,14 +47,13 @@ fn are_new<P: Pool>(pools: &[P], specs: &[PoolSpec]) -> bool
 }
 
 /// Runs a script with the pools that were made for it, once it is seen that they are its pools.
-fn run_made<P: Pool, W: Write>(
+fn run_made<P: Pool, W: Write + Drop>(
     alloc: Global,
     script: Script,
     pools: Vec<P>,
-    out: &mut W,
+    out: &mut Output<W>,
 ) -> Result<(), RunFault>
-    ensures { IsRunAnswer script (accounts_of script)
-        (W.contents out.old) (W.contents out.new) result }
+    ensures { RunsScript script out.old out.new result }
 {
     if !are_new(&pools, script.pools.as_slice()) {
         return Err(RunFault::WrongPools);
@@ -65,14 +63,13 @@ fn run_made<P: Pool, W: Write>(
 
 /// Makes the pools of a script, each in a box, and runs it; nothing is written where there is no
 /// memory for the pools.
-pub fn run_with_pools<W: Write>(
+pub fn run_with_pools<W: Write + Drop>(
     alloc: Global,
     script: Script,
-    out: &mut W,
+    out: &mut Output<W>,
 ) -> Result<Result<(), RunFault>, AllocError>
-    ensures run { IfOk result (λ run. IsRunAnswer script (accounts_of script)
-        (W.contents out.old) (W.contents out.new) run) }
-    ensures err { OnErr result (W.contents out.new ≡ W.contents out.old) }
+    ensures run { IfOk result (RunsScript script out.old out.new) }
+    ensures err { OnErr result (out.new ≡ out.old) }
 {
     let mut pools: Vec<Box<dyn Pool + Send>> = Vec::new(alloc);
     for spec in script.pools.as_slice() {

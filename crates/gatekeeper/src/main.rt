@@ -10,6 +10,7 @@ mod replay;
 
 use cli::{Choice, chosen};
 use replay::{ReplayFault, replay};
+use script::Output;
 use std::alloc::{AllocError, Global};
 use std::io::BufWriter;
 use std::process::ExitCode;
@@ -53,10 +54,11 @@ fn out_of_memory(rt: &impl Eprint) -> u8
 
 /// Replays the script on standard input to standard output.
 fn replay_input<R: Input + Print + Eprint>(rt: &R, alloc: Global) -> u8 {
-    let mut input = rt.reader();
-    let Ok(mut out) = BufWriter::new(alloc, io::writer(rt)) else {
+    let mut input = script::Input::new(rt.reader());
+    let Ok(buffer) = BufWriter::new(alloc, io::writer(rt)) else {
         return out_of_memory(rt);
     };
+    let mut out = Output::new(buffer);
     match replay(alloc, &mut input, &mut out) {
         Ok(()) => 0,
         Err(fault) => refuse(rt, &fault),

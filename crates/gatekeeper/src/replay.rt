@@ -4,7 +4,7 @@ ghost use Rattle.std.specs.Prelude.{◌≡◌};
 ghost use Rattle.gatekeeper.specs.Replays.{status_of, Replays};
 
 use crate::boxed_pools::run_with_pools;
-use script::{RunFault, ScriptFault, read_script};
+use script::{Input, Output, RunFault, ScriptFault, read_script};
 use std::alloc::{AllocError, Global};
 use std::io::{Read, Write};
 use thiserror::Error;
@@ -46,13 +46,12 @@ impl ReplayFault {
 
 /// Reads a script whole, and then runs it and writes its lines. Of a script that isn't read nothing
 /// is written.
-pub fn replay<R: Read, W: Write>(
+pub fn replay<R: Read + Drop, W: Write + Drop>(
     alloc: Global,
-    input: &mut R,
-    out: &mut W,
+    input: &mut Input<R>,
+    out: &mut Output<W>,
 ) -> Result<(), ReplayFault>
-    ensures { Replays (R.remaining input.old) (R.remaining input.new)
-        (W.contents out.old) (W.contents out.new) result }
+    ensures { Replays input.old input.new out.old out.new result }
 {
     match read_script(alloc, input) {
         Ok(script) => match run_with_pools(alloc, script, out) {

@@ -4,7 +4,7 @@ use crate::meter::Metered;
 use pools::{FixedPool, PacedPool, Pool, PoolSet, PoolSpec, StepPool};
 use ras_core::{Event, Outcome, StepFault, Zone};
 use registrations::Registration;
-use script::{Script, ScriptFault, read_script, write_outcomes};
+use script::{Input, Script, ScriptFault, read_script, write_outcomes};
 use std::alloc::{AllocError, AllocFailed, Global};
 use std::io;
 use std::sync::Arc;
@@ -214,8 +214,7 @@ fn perform<P: Pool>(
 }
 
 fn script_of(alloc: Global, text: &[u8]) -> Result<Script, Trouble> {
-    let mut input = text;
-    match read_script(alloc, &mut input) {
+    match read_script(alloc, &mut Input::new(text)) {
         Ok(script) => Ok(script),
         Err(ScriptFault::Memory) => Err(Trouble::Memory),
         Err(_) => Err(Trouble::Otherwise("the script isn't read")),

@@ -1,7 +1,7 @@
 -- What is read of an input is what a script is read of.
 use Rattle.std.proofs.Common.{◌≡◌, ℕ, ◌≤◌, Bool, if◌then◌else◌, true, false, Option, Some, None}
 use Rattle.std.proofs.Common.{Result, Ok, Err, List}
-use Rattle.std.proofs.Common.{length, refl, subst, map, arith, nat_lt}
+use Rattle.std.proofs.Common.{length, refl, subst, map, arith, nat_lt, ap, IsTrue, ◌↔◌}
 use Rattle.std.proofs.lemmas.Bool.Decides.{nat_tests}
 use Rattle.std.specs.Io.KnownBytes.{Consumes, IsAtEnd}
 use Rattle.ras_module.specs.declared.address.Address.{Address}
@@ -19,9 +19,10 @@ use Rattle.script.specs.Lines.{line_of}
 use Rattle.script.specs.Scripts.{script_from, script_with, script_unless, in_place, said_by}
 use Rattle.script.specs.Scripts.{bad_line}
 use Rattle.script.specs.Scripts.{script_of, parts_of}
-use Rattle.script.specs.Scripts.{GivesUnlessStopped}
+use Rattle.script.specs.Scripts.{GivesUnlessStopped, GivesUnlessMemory}
 use Rattle.script.specs.Reads.{ConsumesAtMost, ConsumesExactly, IsInputFault, IsAtEndIfRead}
 use Rattle.script.specs.Reads.{ReadsScript}
+use Rattle.script.specs.Streams.{InputState}
 
 too_long : (text : List ℕ) → length text ≡ 1048577 → script_of text ≡ Err TooLong
 unfolding script_of
@@ -63,24 +64,46 @@ ends (Err NoDefaultPool) left e = e
 ends (Err Stream) left e = tt
 ends (Err Memory) left e = tt
 
-pub whole_answer : (old new : Option (List ℕ)) (text : List ℕ) (answer : Result Script ScriptFault)
-    → Consumes old new text → IsAtEnd new
-    → length text ≤ 1048576 → GivesUnlessStopped (script_of text) answer
+unless_stopped : (answer result : Result Script ScriptFault) → GivesUnlessMemory answer result
+    → GivesUnlessStopped answer result
+unless_stopped answer (Ok script) h = h
+unless_stopped answer (Err TooLong) h = h
+unless_stopped answer (Err (BadLine line)) h = h
+unless_stopped answer (Err NoZone) h = h
+unless_stopped answer (Err NoDefaultPool) h = h
+unless_stopped answer (Err Stream) h = tt
+unless_stopped answer (Err Memory) h = tt
+
+no_stream : (answer result : Result Script ScriptFault) → GivesUnlessMemory answer result
+    → result ≡ Err Stream → ⊥
+no_stream answer result h e =
+    subst (λ (r : Result Script ScriptFault). GivesUnlessMemory answer r) e h
+
+-- what a fault of reading says of the stream, as the answer's
+of_fault : (fault : ScriptFault) (failed : Bool) → ((fault ≡ Stream) ↔ IsTrue failed)
+    → (let answer : Result Script ScriptFault = Err fault in answer ≡ Err Stream) ↔ IsTrue failed
+of_fault fault failed h = (λ e. h.0 (cc e), λ t. ap Err (h.1 t))
+
+pub whole_answer : (old new : InputState) (text : List ℕ) (answer : Result Script ScriptFault)
+    → Consumes old.left new.left text → IsAtEnd new.left → new.failed ≡ false
+    → length text ≤ 1048576 → GivesUnlessMemory (script_of text) answer
     → ReadsScript old new answer
-whole_answer old new text answer taken end few meaning = record {
+whole_answer old new text answer taken end sound few meaning = record {
   text = text;
   taken = taken;
   few = omega (arith, few);
-  meaning = meaning;
+  meaning = unless_stopped (script_of text) answer meaning;
   long = λ e. absurd (not_long text few
-      (subst (λ (a : Result Script ScriptFault). GivesUnlessStopped (script_of text) a) e meaning));
-  end = ends answer new end;
+      (subst (λ (a : Result Script ScriptFault). GivesUnlessMemory (script_of text) a) e meaning));
+  end = ends answer new.left end;
+  stream = (λ e. absurd (no_stream (script_of text) answer meaning e), λ t. absurd (cc (t, sound)));
 }
 
-pub fault_answer : (old new : Option (List ℕ)) (fault : ScriptFault) → IsInputFault fault
-    → (fault ≡ TooLong → ConsumesExactly 1048577 old new)
-    → ConsumesAtMost 1048577 old new → ReadsScript old new (Err fault)
-fault_answer old new TooLong kind long most =
+pub fault_answer : (old new : InputState) (fault : ScriptFault) → IsInputFault fault
+    → (fault ≡ TooLong → ConsumesExactly 1048577 old.left new.left)
+    → ConsumesAtMost 1048577 old.left new.left
+    → ((fault ≡ Stream) ↔ IsTrue new.failed) → ReadsScript old new (Err fault)
+fault_answer old new TooLong kind long most stream =
     let exact = long refl in record {
       text = exact.octets;
       taken = exact.taken;
@@ -88,23 +111,26 @@ fault_answer old new TooLong kind long most =
       meaning = too_long exact.octets exact.exact;
       long = λ e. exact.exact;
       end = tt;
+      stream = of_fault TooLong new.failed stream;
     }
-fault_answer old new (BadLine line) kind long most = absurd kind
-fault_answer old new NoZone kind long most = absurd kind
-fault_answer old new NoDefaultPool kind long most = absurd kind
-fault_answer old new Stream kind long most = record {
+fault_answer old new (BadLine line) kind long most stream = absurd kind
+fault_answer old new NoZone kind long most stream = absurd kind
+fault_answer old new NoDefaultPool kind long most stream = absurd kind
+fault_answer old new Stream kind long most stream = record {
   text = most.octets;
   taken = most.taken;
   few = most.few;
   meaning = tt;
   long = λ e. absurd (cc e);
   end = tt;
+  stream = of_fault Stream new.failed stream;
 }
-fault_answer old new Memory kind long most = record {
+fault_answer old new Memory kind long most stream = record {
   text = most.octets;
   taken = most.taken;
   few = most.few;
   meaning = tt;
   long = λ e. absurd (cc e);
   end = tt;
+  stream = of_fault Memory new.failed stream;
 }

@@ -6,6 +6,7 @@ pub mod Lines
 pub mod Said
 pub mod Scripts
 pub mod Faults
+pub mod Streams
 pub mod Reads
 pub mod Prints
 pub mod Runs

@@ -1,11 +1,13 @@
 -- What is read for a script.
-use Rattle.std.specs.Prelude.{ℕ, ◌≡◌, ◌≤◌, List, length, Option, Result, Ok, Err}
+use Rattle.std.specs.Prelude.{ℕ, ◌≡◌, ◌≤◌, List, length, Option, Result, Ok, Err, IsTrue}
+use Rattle.std.specs.Prelude.{◌↔◌}
 use Rattle.std.specs.Io.KnownBytes.{Consumes, IsAtEnd}
 use Rattle.script.specs.declared.fault.ScriptFault.{ScriptFault}
 use Rattle.script.specs.declared.fault.ScriptFault.TheVariants.{TooLong, BadLine, NoZone}
 use Rattle.script.specs.declared.fault.ScriptFault.TheVariants.{NoDefaultPool, Stream, Memory}
 use Rattle.script.specs.declared.read.Script.{Script}
 use Rattle.script.specs.Scripts.{script_of, GivesUnlessStopped}
+use Rattle.script.specs.Streams.{InputState}
 
 -- a reading of the input as such ends so, and for no other reason
 abbrev pub IsInputFault : ScriptFault → Type 0
@@ -37,12 +39,13 @@ IsAtEndIfRead (Err TooLong) left = Unit {0}
 IsAtEndIfRead (Err Stream) left = Unit {0}
 IsAtEndIfRead (Err Memory) left = Unit {0}
 
--- At most one octet past the greatest size is read, and the answer is what the octets say.
-pub record ReadsScript (old new : Option (List ℕ))
-    (answer : Result Script ScriptFault) : Type 0 where
+-- At most one octet past the greatest size is read, and the answer is what the octets say. That the
+-- stream failed is answered exactly where the last read failed; no octet is read behind it.
+pub record ReadsScript (old new : InputState) (answer : Result Script ScriptFault) : Type 0 where
   pub text : List ℕ
-  pub taken : Consumes old new text
+  pub taken : Consumes old.left new.left text
   pub few : length text ≤ 1048577
   pub meaning : GivesUnlessStopped (script_of text) answer
   pub long : answer ≡ Err TooLong → length text ≡ 1048577
-  pub end : IsAtEndIfRead answer new
+  pub end : IsAtEndIfRead answer new.left
+  pub stream : (answer ≡ Err Stream) ↔ IsTrue new.failed

@@ -1,5 +1,5 @@
 -- What a run of a script answers, and what it writes.
-use Rattle.std.specs.Prelude.{ℕ, ◌≡◌, ◌<◌, ◌==◌, ◌&&◌, Bool, zero, suc, List, [], length, take}
+use Rattle.std.specs.Prelude.{ℕ, ◌≡◌, ◌<◌, ◌==◌, ◌&&◌, Bool, IsTrue, zero, suc, List, [], length, take}
 use Rattle.std.specs.Prelude.{Option, is_none, Result, Ok, Err}
 use Rattle.std.specs.Io.KnownBytes.{Keeps, Appends}
 use Rattle.pools.specs.Account.{Account}
@@ -65,3 +65,12 @@ abbrev pub IsRunAnswer : Script → List Account → Option (List ℕ) → Optio
     → Result Unit RunFault → Type 0
 IsRunAnswer script pools old new answer =
     IsRunOf (start_of script.config pools) script.events old new answer
+
+-- Behind a run that came to its end, or stopped at an event, the writer is flushed.
+abbrev pub IsFlushedAfter : Result Unit RunFault → Bool → Type 0
+IsFlushedAfter (Ok done) flushed = IsTrue flushed
+IsFlushedAfter (Err (Memory zero)) flushed = Unit {0}
+IsFlushedAfter (Err (Memory (suc before))) flushed = IsTrue flushed
+IsFlushedAfter (Err (Closed event)) flushed = IsTrue flushed
+IsFlushedAfter (Err Stream) flushed = Unit {0}
+IsFlushedAfter (Err WrongPools) flushed = Unit {0}

@@ -105,3 +105,13 @@ GivesUnlessStopped answer (Err (BadLine line)) = answer ≡ Err (BadLine line)
 GivesUnlessStopped answer (Err NoZone) = answer ≡ Err NoZone
 GivesUnlessStopped answer (Err NoDefaultPool) = answer ≡ Err NoDefaultPool
 GivesUnlessStopped answer (Ok script) = answer ≡ Ok script
+
+-- This is the answer, unless there was no memory: of a text that is there no read fails.
+abbrev pub GivesUnlessMemory : Result Script ScriptFault → Result Script ScriptFault → Type 0
+GivesUnlessMemory answer (Err Stream) = ⊥
+GivesUnlessMemory answer (Err Memory) = Unit {0}
+GivesUnlessMemory answer (Err TooLong) = answer ≡ Err TooLong
+GivesUnlessMemory answer (Err (BadLine line)) = answer ≡ Err (BadLine line)
+GivesUnlessMemory answer (Err NoZone) = answer ≡ Err NoZone
+GivesUnlessMemory answer (Err NoDefaultPool) = answer ≡ Err NoDefaultPool
+GivesUnlessMemory answer (Ok script) = answer ≡ Ok script

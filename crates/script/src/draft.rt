@@ -2,7 +2,7 @@
 
 ghost use Rattle.std.specs.Prelude.{◌≡◌, IsTrue, ◌↔◌, OnOk, None, []};
 ghost use Rattle.script.specs.Said.{Said, with_line, MayFollow};
-ghost use Rattle.script.specs.Scripts.{script_from, GivesUnlessStopped};
+ghost use Rattle.script.specs.Scripts.{script_from, GivesUnlessMemory};
 
 use crate::draft_config::{config_of, networks_of, specs_of, with_settings};
 use crate::fault::ScriptFault;
@@ -81,7 +81,7 @@ impl Draft {
 
     /// The script that the lines make.
     pub fn into_script(self, alloc: Global) -> Result<Script, ScriptFault>
-        ensures { GivesUnlessStopped
+        ensures { GivesUnlessMemory
             (script_from self.zone self.settings self.pools self.events) result }
     {
         let Draft {

@@ -1,13 +1,17 @@
 //! Input of a limited size.
 
-ghost use Rattle.std.specs.Prelude.{◌≡◌, ◌≤◌, IfErr, IfOk, vec_len};
-ghost use Rattle.std.specs.Io.KnownBytes.{Consumes, IsAtEnd};
+ghost use Rattle.std.specs.Prelude.{◌≡◌, ◌↔◌, ◌≤◌, false, IfErr, IfOk, IsTrue, IsErr, MatchResult};
+ghost use Rattle.std.specs.Prelude.{vec_len};
+ghost use Rattle.std.specs.Io.{ReadsAtMost};
+ghost use Rattle.std.specs.Io.KnownBytes.{Consumes, IsAtEnd, ReadConsumes};
 ghost use Rattle.script.specs.Reads.{ConsumesAtMost, ConsumesExactly, IsInputFault};
-ghost use Rattle.script.specs.declared.fault.ScriptFault.TheVariants.{TooLong};
+ghost use Rattle.script.specs.declared.fault.ScriptFault.TheVariants.{TooLong, Stream};
 
 use crate::fault::ScriptFault;
 use std::alloc::Global;
+use std::io;
 use std::io::Read;
+use std::marker::Model;
 
 /// The octets that a script has at most.
 const MOST: usize = 1_048_576;
@@ -15,16 +19,70 @@ const MOST: usize = 1_048_576;
 /// The octets that are asked for at a time.
 const CHUNK: usize = 4096;
 
+/// A reader that remembers whether its last read failed. Contracts see that beside the octets that it
+/// has left, where these are known.
+#[derive(Drop)]
+pub struct Input<R: Read + Drop> {
+    reader: R,
+    failed: bool,
+}
+
+impl<R: Read + Drop> Model for Input<R> {
+    ghost use Rattle.script.specs.Streams.{InputState};
+
+    ghost Value = { InputState };
+
+    ghost view = { λ i. record { left = R.remaining i.reader; failed = i.failed } };
+}
+
+impl<R: Read + Drop> Input<R> {
+    /// A reader of which nothing was read yet.
+    pub fn new(reader: R) -> Self
+        ensures { result ≡ record { left = R.remaining reader; failed = false } }
+    {
+        Input {
+            reader,
+            failed: false,
+        }
+    }
+
+    /// The reader, with what is left of it.
+    pub fn into_reader(self) -> R
+        ensures { R.remaining result ≡ self.left }
+    {
+        let Input { reader, .. } = self;
+        reader
+    }
+}
+
+impl<R: Read + Drop> Read for Input<R> {
+    ghost remaining = { λ i. i.left };
+
+    fn read(&mut self, buf: &mut [u8]) -> io::Result<usize>
+        ensures bound { ReadsAtMost result buf.new }
+        ensures bytes { ReadConsumes self.old.left self.new.left result buf.new }
+        ensures failed { IsTrue self.new.failed ↔ IsErr result }
+    {
+        let read = self.reader.read(buf);
+        self.failed = read.is_err();
+        read
+    }
+}
+
 /// Reads an input to its end. At most one octet past the greatest size is read.
-pub fn read_whole<R: Read>(alloc: Global, reader: &mut R) -> Result<Vec<u8>, ScriptFault>
-    ensures whole { IfOk result
-        (λ v. Consumes (R.remaining reader.old) (R.remaining reader.new) v.items) }
-    ensures end { IfOk result (λ v. IsAtEnd (R.remaining reader.new)) }
+pub fn read_whole<R: Read + Drop>(
+    alloc: Global,
+    input: &mut Input<R>,
+) -> Result<Vec<u8>, ScriptFault>
+    ensures whole { IfOk result (λ v. Consumes input.old.left input.new.left v.items) }
+    ensures end { IfOk result (λ v. IsAtEnd input.new.left) }
     ensures len { IfOk result (λ v. vec_len v ≤ 1048576) }
     ensures long { IfErr result (λ e. e ≡ TooLong
-        → ConsumesExactly 1048577 (R.remaining reader.old) (R.remaining reader.new)) }
-    ensures most { ConsumesAtMost 1048577 (R.remaining reader.old) (R.remaining reader.new) }
+        → ConsumesExactly 1048577 input.old.left input.new.left) }
+    ensures most { ConsumesAtMost 1048577 input.old.left input.new.left }
     ensures kinds { IfErr result IsInputFault }
+    ensures stream { MatchResult result (λ _. input.new.failed ≡ false)
+        (λ e. (e ≡ Stream) ↔ IsTrue input.new.failed) }
 {
     let mut all = Vec::new(alloc);
     let mut chunk = [0u8; CHUNK];
@@ -33,7 +91,7 @@ pub fn read_whole<R: Read>(alloc: Global, reader: &mut R) -> Result<Vec<u8>, Scr
         if room == 0 {
             return Err(ScriptFault::TooLong);
         }
-        match reader.read(&mut chunk[..room]) {
+        match input.read(&mut chunk[..room]) {
             Ok(0) => return Ok(all),
             Ok(n) => all.extend_from_slice(&chunk[..n])?,
             Err(_) => return Err(ScriptFault::Stream),

@@ -6,6 +6,7 @@ mod draft_config;
 mod fault;
 mod input;
 mod line;
+mod output;
 mod pool;
 mod print;
 mod read;
@@ -14,6 +15,8 @@ mod setting;
 mod words;
 
 pub use fault::{RunFault, ScriptFault};
+pub use input::Input;
+pub use output::Output;
 pub use print::write_outcomes;
 pub use read::{Events, Script, read_script};
 pub use run::run_script;

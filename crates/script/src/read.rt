@@ -1,12 +1,12 @@
 //! Reading a script.
 
 ghost use Rattle.std.specs.Prelude.{◌≡◌, ◌≤◌, length};
-ghost use Rattle.script.specs.Scripts.{script_of, GivesUnlessStopped};
+ghost use Rattle.script.specs.Scripts.{script_of, GivesUnlessMemory};
 ghost use Rattle.script.specs.Reads.{ReadsScript};
 
 use crate::draft::Draft;
 use crate::fault::ScriptFault;
-use crate::input::read_whole;
+use crate::input::{Input, read_whole};
 use crate::line::line_of;
 use pools::PoolSpecs;
 use ras_core::{Config, Event};
@@ -66,7 +66,7 @@ pub struct Script {
 /// The script that a text is.
 fn script_of(alloc: Global, text: &[u8]) -> Result<Script, ScriptFault>
     requires { length text.now ≤ 1048576 }
-    ensures { GivesUnlessStopped (script_of text.now) result }
+    ensures { GivesUnlessMemory (script_of text.now) result }
 {
     let mut draft = Draft::new(alloc);
     let mut rest = text;
@@ -88,10 +88,13 @@ fn script_of(alloc: Global, text: &[u8]) -> Result<Script, ScriptFault>
 
 /// Reads the script that an input is, to the input's end. Lines are counted from 1, the blank ones
 /// too. At most one octet past the greatest size is read.
-pub fn read_script<R: Read>(alloc: Global, reader: &mut R) -> Result<Script, ScriptFault>
-    ensures { ReadsScript (R.remaining reader.old) (R.remaining reader.new) result }
+pub fn read_script<R: Read + Drop>(
+    alloc: Global,
+    input: &mut Input<R>,
+) -> Result<Script, ScriptFault>
+    ensures { ReadsScript input.old input.new result }
 {
-    match read_whole(alloc, reader) {
+    match read_whole(alloc, input) {
         Ok(text) => script_of(alloc, &text),
         Err(fault) => Err(fault),
     }

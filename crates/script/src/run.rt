@@ -1,9 +1,10 @@
 //! Running a script.
 
 ghost use Rattle.std.specs.Prelude.{◌≡◌, ◌↔◌, ◌⊎◌, map, Err, IfErr, IfOk, true, false};
-ghost use Rattle.script.specs.Runs.{IsRunAnswer, are_pools_of, start_of};
+ghost use Rattle.script.specs.Runs.{IsRunAnswer, IsFlushedAfter, are_pools_of, start_of};
 
 use crate::fault::RunFault;
+use crate::output::Output;
 use crate::print::write_outcomes;
 use crate::read::Script;
 use pools::{Pool, PoolSet};
@@ -35,14 +36,15 @@ fn zone_of<P: Pool>(alloc: Global, config: Config, pools: Vec<P>) -> Result<Zone
 /// outcome. The pools are those of the script, in its order: as many, and each of them idle, and
 /// else they are refused before anything is written. Where an event can't be run, the lines of those
 /// before it are written. The writer is flushed.
-pub fn run_script<P: Pool, W: Write>(
+pub fn run_script<P: Pool, W: Write + Drop>(
     alloc: Global,
     script: Script,
     pools: Vec<P>,
-    out: &mut W,
+    out: &mut Output<W>,
 ) -> Result<(), RunFault>
     ensures answer { IsRunAnswer script (map P.account pools.items)
-        (W.contents out.old) (W.contents out.new) result }
+        out.old.contents out.new.contents result }
+    ensures flushed { IsFlushedAfter result out.new.flushed }
     ensures wrong { (result ≡ Err RunFault.WrongPools)
         ↔ (are_pools_of script.config (map P.account pools.items) ≡ false) }
 {

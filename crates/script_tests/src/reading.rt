@@ -3,13 +3,12 @@
 use pools::PoolSpec;
 use ras_core::{Event, Network};
 use ras_module::Address;
-use script::{RunFault, ScriptFault, read_script};
+use script::{Input, RunFault, ScriptFault, read_script};
 use std::alloc::Global;
 use std::test::Fail;
 
 fn fault_of(alloc: Global, text: &[u8]) -> Option<ScriptFault> {
-    let mut input = text;
-    read_script(alloc, &mut input).err()
+    read_script(alloc, &mut Input::new(text)).err()
 }
 
 /// The first of these lines that isn't refused as the first line of a script.
@@ -187,13 +186,13 @@ fn one_octet_past_the_limit_is_read(rt: HostRuntime) -> Result<(), Fail> {
         (1_048_580, ScriptFault::TooLong, 3),
     ] {
         let script = vec![in rt.alloc(); b'\n'; size]?;
-        let mut input = script.as_slice();
+        let mut input = Input::new(script.as_slice());
         assert_eq!(rt;
             read_script(rt.alloc(), &mut input).err(),
             Some(fault),
             "{size}"
         );
-        assert_eq!(rt; input.len(), left, "{size}");
+        assert_eq!(rt; input.into_reader().len(), left, "{size}");
     }
     let script = vec![in rt.alloc(); b'x'; 1_048_577]?;
     assert_eq!(rt; fault_of(rt.alloc(), &script), Some(ScriptFault::TooLong));
@@ -202,10 +201,9 @@ fn one_octet_past_the_limit_is_read(rt: HostRuntime) -> Result<(), Fail> {
 
 #[test]
 fn a_script_is_read(rt: HostRuntime) -> Result<(), Fail> {
-    let mut input: &[u8] =
-        b"zone old 10.9.9.9:9\n\nset limit 3000\n set  asks 016 \nset limit 4000\n\
+    let text: &[u8] = b"zone old 10.9.9.9:9\n\nset limit 3000\n set  asks 016 \nset limit 4000\n\
         zone g\xC3\xA9 10.0.0.1:1719\nat 0 from 10.0.0.5:1719\n";
-    let script = read_script(rt.alloc(), &mut input)?;
+    let script = read_script(rt.alloc(), &mut Input::new(text))?;
     let parts = script.config.parts();
     assert_eq!(rt; parts.identifier.as_slice(), [103, 233].as_slice());
     assert_eq!(rt;
@@ -242,10 +240,10 @@ fn is_turn(event: &Event, milliseconds: u64) -> bool {
 
 #[test]
 fn events_are_read(rt: HostRuntime) -> Result<(), Fail> {
-    let mut input: &[u8] =
+    let text: &[u8] =
         b"zone gk 10.0.0.1:1719\nat 0012 from 255.0.0.05:65535 0aBf\nturn 9007199254740991\n\n\
         at 9007199254740991 from 0.0.0.0:0\n  turn   00 ";
-    let script = read_script(rt.alloc(), &mut input)?;
+    let script = read_script(rt.alloc(), &mut Input::new(text))?;
     let events = script.events.as_slice();
     assert_eq!(rt; events.len(), 4);
     let source = Address {
@@ -265,11 +263,10 @@ fn events_are_read(rt: HostRuntime) -> Result<(), Fail> {
 
 #[test]
 fn each_setting_has_its_key(rt: HostRuntime) -> Result<(), Fail> {
-    let mut input: &[u8] =
-        b"zone gk 10.0.0.1:1719\nset limit 1\nset call_limit 2\nset time_to_live 3\n\
+    let text: &[u8] = b"zone gk 10.0.0.1:1719\nset limit 1\nset call_limit 2\nset time_to_live 3\n\
         set endpoints 4\nset calls 5\nset kept 6\nset window 7\nset silence 8\nset delay 9\n\
         set retries 10\nset asks 11\nset ask_wait 12\nset pool_turn 13\n";
-    let script = read_script(rt.alloc(), &mut input)?;
+    let script = read_script(rt.alloc(), &mut Input::new(text))?;
     let parts = script.config.parts();
     let calls = (parts.limit, parts.call_limit, parts.calls, parts.endpoints);
     assert_eq!(rt; calls, (1, 2, 5, 4));
@@ -282,9 +279,9 @@ fn each_setting_has_its_key(rt: HostRuntime) -> Result<(), Fail> {
 
 #[test]
 fn pool_lines_describe_the_pools(rt: HostRuntime) -> Result<(), Fail> {
-    let mut input: &[u8] = b"zone gk 10.0.0.1:1719\npool fixed 0 for 10.1.0.0/16\n\
+    let text: &[u8] = b"zone gk 10.0.0.1:1719\npool fixed 0 for 10.1.0.0/16\n\
         pool step 1000000000000 64 for 10.2.0.1/32\npool paced 2500 4294967295\n";
-    let script = read_script(rt.alloc(), &mut input)?;
+    let script = read_script(rt.alloc(), &mut Input::new(text))?;
     let specs = script.pools.as_slice();
     assert_eq!(rt; specs.len(), 3);
     assert!(rt; matches!(specs[0], PoolSpec::Fixed { limit: 0 }));
@@ -309,8 +306,8 @@ fn pool_lines_describe_the_pools(rt: HostRuntime) -> Result<(), Fail> {
 
 #[test]
 fn without_a_pool_line_there_is_a_fixed_pool_of_the_limit(rt: HostRuntime) -> Result<(), Fail> {
-    let mut input: &[u8] = b"zone gk 10.0.0.1:1719\nset limit 3000\n";
-    let script = read_script(rt.alloc(), &mut input)?;
+    let text: &[u8] = b"zone gk 10.0.0.1:1719\nset limit 3000\n";
+    let script = read_script(rt.alloc(), &mut Input::new(text))?;
     let specs = script.pools.as_slice();
     assert_eq!(rt; specs.len(), 1);
     assert!(rt; matches!(specs[0], PoolSpec::Fixed { limit: 3000 }));

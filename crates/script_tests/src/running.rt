@@ -1,7 +1,7 @@
 //! Scripts that are run, and streams that fail.
 
 use pools::{FixedPool, Lend, Pool, StepPool};
-use script::{RunFault, ScriptFault, read_script, run_script};
+use script::{Input, Output, RunFault, ScriptFault, read_script, run_script};
 use std::alloc::Global;
 use std::io;
 use std::test::Fail;
@@ -14,26 +14,26 @@ fn a_script_is_run(rt: HostRuntime) -> Result<(), Fail> {
     )?;
     text.resize(text.len() + 2 * 4097, b'0')?;
     text.extend_from_slice(b"\nat 0 from 10.0.0.5:1719 80\nturn 999\nturn 1000\nturn 0\n")?;
-    let script = read_script(rt.alloc(), &mut text.as_slice())?;
-    let mut out = Vec::new(rt.alloc());
+    let script = read_script(rt.alloc(), &mut Input::new(text.as_slice()))?;
+    let mut out = Output::new(Vec::new(rt.alloc()));
     let mut pools = Vec::new(rt.alloc());
     pools.push(FixedPool::new(100_000))?;
     run_script(rt.alloc(), script, pools, &mut out)?;
     let lines = b"1 ignored unreadable\n2 ignored too-long\n3 ignored not-served\n4 idle\n\
         5 done pool-turn\n6 idle\n";
-    assert_eq!(rt; out.as_slice(), lines.as_slice());
+    assert_eq!(rt; out.into_writer().as_slice(), lines.as_slice());
     Ok(())
 }
 
 /// What is answered to a run of one event with these pools, and how many octets are written.
 fn answer_with<P: Pool>(alloc: Global, pools: Vec<P>) -> Option<(Result<(), RunFault>, usize)> {
-    let mut input: &[u8] = b"zone gk 10.0.0.1:1719\nat 0 from 10.0.0.5:1719 80\n";
-    let Ok(script) = read_script(alloc, &mut input) else {
+    let text: &[u8] = b"zone gk 10.0.0.1:1719\nat 0 from 10.0.0.5:1719 80\n";
+    let Ok(script) = read_script(alloc, &mut Input::new(text)) else {
         return None;
     };
-    let mut out = Vec::new(alloc);
+    let mut out = Output::new(Vec::new(alloc));
     let answer = run_script(alloc, script, pools, &mut out);
-    Some((answer, out.len()))
+    Some((answer, out.into_writer().len()))
 }
 
 #[test]
@@ -106,16 +106,16 @@ impl io::Write for Full {
 #[test]
 fn a_stream_that_fails_is_told(rt: HostRuntime) -> Result<(), Fail> {
     let text = b"zone gk 10.0.0.1:1719\nat 0 from 10.0.0.5:1719\nat 1 from 10.0.0.5:1719\n";
-    let mut input = Faltering { text, reads: 0 };
+    let mut input = Input::new(Faltering { text, reads: 0 });
     assert_eq!(rt;
         read_script(rt.alloc(), &mut input).err(),
         Some(ScriptFault::Stream)
     );
-    let mut input = Faltering { text, reads: 2 };
+    let mut input = Input::new(Faltering { text, reads: 2 });
     assert!(rt; read_script(rt.alloc(), &mut input).is_ok());
     for flushes in [true, false] {
-        let script = read_script(rt.alloc(), &mut text.as_slice())?;
-        let mut out = Full { writes: 0, flushes };
+        let script = read_script(rt.alloc(), &mut Input::new(text.as_slice()))?;
+        let mut out = Output::new(Full { writes: 0, flushes });
         let mut pools = Vec::new(rt.alloc());
         pools.push(FixedPool::new(100_000))?;
         assert_eq!(rt;

@@ -15,6 +15,7 @@ loop-preserved g c =
       len = grind (arith, common_steps);
       rounds = grind (arith, common_steps);
       bytes = rw now (Consumes-trans _ _ _ _ _ c.loop.invariant.bytes c.in-Ok.ensures.bytes.0);
+      sound = λ some. search rules;
     }
 
 pub returns-in_err-extend_from_slice-in-Ok-clause-most :

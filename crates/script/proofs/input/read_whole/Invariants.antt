@@ -1,4 +1,4 @@
-use Rattle.std.proofs.Common.{◌≤◌, vec_len}
+use Rattle.std.proofs.Common.{◌≡◌, ◌<◌, ◌≤◌, false, vec_len}
 use Rattle.std.specs.Io.KnownBytes.{Consumes}
 use Rattle.script.proofs.input.read_whole.Given as goal
 
@@ -6,5 +6,6 @@ abbrev pub invariant-loop : goal.invariant-loop
 invariant-loop g l = record {
   len : vec_len l.all ≤ 1048577;
   rounds : l.counter ≤ vec_len l.all;
-  bytes : Consumes (g.R.Read.remaining l.initial.reader) (g.R.Read.remaining l.reader) l.all.items;
+  bytes : Consumes l.initial.input.left l.input.left l.all.items;
+  sound : 0 < vec_len l.all → l.input.failed ≡ false;
 }

@@ -1,7 +1,7 @@
 use Rattle.std.proofs.Common.{◌≡◌, ◌+◌, ◌∙◌, subst, sym, ap, arith, rules, length, ◌<◌, Result}
 use Rattle.std.proofs.lemmas.Bool.Decides.{nat_tests}
 use Rattle.script.specs.Said.{Said, MayFollow}
-use Rattle.script.specs.Scripts.{script_of, GivesUnlessStopped}
+use Rattle.script.specs.Scripts.{script_of, GivesUnlessMemory}
 use Rattle.script.specs.declared.fault.ScriptFault.{ScriptFault}
 use Rattle.script.specs.declared.read.Script.{Script}
 use Rattle.script.proofs.Reading.{answer_from, readings, first_answer, last_answer, answer_more}
@@ -54,7 +54,7 @@ loop-rest-preserved c =
 pub returns : goal.returns
 returns c =
     let none : length c.loop-rest.rest.now ≡ 0 = grind (arith, nat_tests) in
-    subst (λ (answer : Result Script ScriptFault). GivesUnlessStopped answer c.into_script.result)
+    subst (λ (answer : Result Script ScriptFault). GivesUnlessMemory answer c.into_script.result)
     (sym (c.loop-rest.invariant.answer
     ∙ last_answer (c.loop-rest.number + 1) c.loop-rest.draft c.loop-rest.rest.now none))
     c.into_script.ensures
