@@ -57,3 +57,6 @@ impl Moment {
         self.milliseconds
     }
 }
+
+// A zone's clock begins at 0.
+const _: () = prove!(Moment::START.milliseconds == 0);
