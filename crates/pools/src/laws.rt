@@ -1,24 +1,24 @@
-//! What holds of the accounts of a set, whatever its pools are.
+//! What holds of the members of a set, whatever its pools are.
 ghost use Rattle.std.specs.Prelude.{◌≡◌, ◌≢◌, ◌+◌, ◌<◌, ℕ, List, length, slice_set, IsTrue, All};
-ghost use Rattle.pools.specs.Account.{Account, is_idle};
-ghost use Rattle.pools.specs.Accounts.{account_at, total_loans};
+ghost use Rattle.pools.specs.Account.{is_idle};
+ghost use Rattle.pools.specs.Members.{Member, member_at, total_loans};
 
-/// Where one account of a list changes, there are as many accounts, the others stay, and what all
-/// pools have lent changes by as much as what that pool has lent.
-pub fn one_account_changes()
-    ensures count { (accounts : List Account) (i : ℕ) (after : Account) →
-        length (slice_set accounts i after) ≡ length accounts }
-    ensures changed { (accounts : List Account) (i : ℕ) (after : Account) → i < length accounts →
-        account_at (slice_set accounts i after) i ≡ after }
-    ensures others { (accounts : List Account) (i j : ℕ) (after : Account) → j ≢ i →
-        account_at (slice_set accounts i after) j ≡ account_at accounts j }
-    ensures total { (accounts : List Account) (i : ℕ) (after : Account) → i < length accounts →
-        total_loans (slice_set accounts i after) + (account_at accounts i).figures.lent
-        ≡ total_loans accounts + after.figures.lent }
+/// Where one member of a list changes, there are as many, the others stay, and what all pools have
+/// lent changes by as much as what that pool has lent.
+pub fn one_member_changes()
+    ensures count { (members : List Member) (i : ℕ) (after : Member) →
+        length (slice_set members i after) ≡ length members }
+    ensures changed { (members : List Member) (i : ℕ) (after : Member) → i < length members →
+        member_at (slice_set members i after) i ≡ after }
+    ensures others { (members : List Member) (i j : ℕ) (after : Member) → j ≢ i →
+        member_at (slice_set members i after) j ≡ member_at members j }
+    ensures total { (members : List Member) (i : ℕ) (after : Member) → i < length members →
+        total_loans (slice_set members i after) + (member_at members i).account.figures.lent
+        ≡ total_loans members + after.account.figures.lent }
 {}
 
 /// Idle pools have lent nothing at all.
 pub fn idle_pools_lend_nothing()
-    ensures { (accounts : List Account) → All (λ a. IsTrue (is_idle a)) accounts →
-        total_loans accounts ≡ 0 }
+    ensures { (members : List Member) → All (λ m. IsTrue (is_idle m.account)) members →
+        total_loans members ≡ 0 }
 {}
