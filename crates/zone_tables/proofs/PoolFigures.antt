@@ -1,7 +1,7 @@
--- The figures and the last requests of pools, as their accounts change.
+-- The figures and the tallies of pools, as the members of their set change.
 use Rattle.std.proofs.Common.{◌≡◌, ◌≢◌, ◌<◌, ◌≤◌, ◌+◌, ◌^◌, IsTrue, ℕ, List, [], ◌∷◌, length, map}
-use Rattle.std.proofs.Common.{get_or, set, All, refl, sym, ◌∙◌, ap, arith, Some}
-use Rattle.std.proofs.lemmas.List.{map-set, get_or-set_other}
+use Rattle.std.proofs.Common.{get_or, set, All, refl, sym, ◌∙◌, ap, arith}
+use Rattle.std.proofs.lemmas.List.{map-set, get_or-set_other, length-map}
 use Rattle.std.proofs.lemmas.List.Elements.{All-map, All-set}
 use Rattle.std.proofs.lemmas.Grind.{get_or-set_at}
 use Rattle.std.proofs.Math.ListN as seq
@@ -9,11 +9,14 @@ use Rattle.std.proofs.Math.Seq.{map-set_same}
 use Rattle.pools.specs.declared.interface.Figures.{Figures}
 use Rattle.pools.specs.declared.interface.Lend.{Lend}
 use Rattle.pools.specs.declared.interface.Lend.TheVariants.{Lent, Refused, Wait}
-use Rattle.pools.specs.Account.{Account, opening_account, account_after_answer}
-use Rattle.pools.specs.Account.{account_after_return}
+use Rattle.pools.specs.Account.{Account, opening_account}
 use Rattle.pools.specs.Account.{IsWithinLimit, is_idle, account_without_loans, figures_after_answer}
-use Rattle.pools.specs.Accounts.{account_at, accounts_after_answer, accounts_after_return}
+use Rattle.pools.specs.Members.{Member, accounts_of, member_after_answer, member_after_return}
+use Rattle.pools.specs.Members.{member_at, members_after_answer, members_after_return}
+use Rattle.pools.specs.Members.{members_after_turn, new_member}
 use Rattle.zone_tables.specs.Pools.{figures_of, lasts_of, figures_at, pools_after_answer}
+use Rattle.zone_tables.specs.Pools.{tallies_after_answer, tallies_after_turn, tallies_of}
+use Rattle.zone_tables.specs.Pools.{tally_after_answer, tally_after_turn, tally_at, tally_of}
 use Rattle.zone_tables.specs.Pools.{pools_after_return}
 use Rattle.zone_tables.specs.Pools.{figures_after_return, figures_without_loans, without_loans}
 use Rattle.zone_tables.specs.Soundness.{HasCounts}
@@ -21,38 +24,76 @@ use Rattle.zone_tables.specs.Soundness.{HasCounts}
 abbrev figures : Account → Figures
 figures a = a.figures
 
--- the figures at a place are those of the account there
-pub figures_there : (accounts : List Account) (i : ℕ)
-    → figures_at (figures_of accounts) i ≡ (account_at accounts i).figures
-figures_there accounts i = seq.get_or-map figures accounts i (opening_account 0)
+abbrev account : Member → Account
+account m = m.account
 
-pub figures-answer : (accounts : List Account) (i asked : ℕ) (answer : Lend)
-    → figures_of (accounts_after_answer accounts i asked answer)
-    ≡ pools_after_answer (figures_of accounts) i answer
-figures-answer accounts i asked answer =
-    map-set figures accounts i (account_after_answer (account_at accounts i) asked answer)
-    ∙ ap (λ f. set (figures_of accounts) i (figures_after_answer f answer))
-    (sym (figures_there accounts i))
+-- the member past the end
+abbrev nobody : Member
+nobody = new_member (opening_account 0)
 
-pub lasts-answer : (accounts : List Account) (i asked : ℕ) (answer : Lend)
-    → lasts_of (accounts_after_answer accounts i asked answer)
-    ≡ set (lasts_of accounts) i (Some (asked, answer))
-lasts-answer accounts i asked answer =
-    map-set (λ a. a.last) accounts i (account_after_answer (account_at accounts i) asked answer)
+-- the figures at a place are those of the pool there
+pub figures_there : (members : List Member) (i : ℕ)
+    → figures_at (figures_of (accounts_of members)) i ≡ (member_at members i).account.figures
+figures_there members i =
+    seq.get_or-map figures (accounts_of members) i (opening_account 0)
+    ∙ ap figures (seq.get_or-map account members i nobody)
 
-pub figures-return : (accounts : List Account) (i n : ℕ)
-    → figures_of (accounts_after_return accounts i n)
-    ≡ pools_after_return (figures_of accounts) i n
-figures-return accounts i n =
-    map-set figures accounts i (account_after_return (account_at accounts i) n)
-    ∙ ap (λ f. set (figures_of accounts) i (figures_after_return f n))
-    (sym (figures_there accounts i))
+-- there are as many figures as pools
+pub length-figures : (members : List Member)
+    → length (figures_of (accounts_of members)) ≡ length members
+length-figures members = length-map (accounts_of members) figures ∙ length-map members account
 
-pub lasts-return : (accounts : List Account) (i n : ℕ)
-    → lasts_of (accounts_after_return accounts i n) ≡ lasts_of accounts
-lasts-return accounts i n =
-    map-set_same (λ a. a.last) accounts i (account_after_return (account_at accounts i) n)
-    (opening_account 0) refl
+tally_there : (members : List Member) (i : ℕ)
+    → tally_at (tallies_of members) i ≡ tally_of (member_at members i)
+tally_there members i = seq.get_or-map tally_of members i nobody
+
+-- one member is written
+figures-set : (members : List Member) (i : ℕ) (m : Member)
+    → figures_of (accounts_of (set members i m))
+    ≡ set (figures_of (accounts_of members)) i m.account.figures
+figures-set members i m =
+    ap figures_of (map-set account members i m) ∙ map-set figures (accounts_of members) i m.account
+
+pub figures-answer : (members : List Member) (i asked : ℕ) (answer : Lend)
+    → figures_of (accounts_of (members_after_answer members i asked answer))
+    ≡ pools_after_answer (figures_of (accounts_of members)) i answer
+figures-answer members i asked answer =
+    figures-set members i (member_after_answer (member_at members i) asked answer)
+    ∙ ap (λ f. set (figures_of (accounts_of members)) i (figures_after_answer f answer))
+    (sym (figures_there members i))
+
+pub tallies-answer : (members : List Member) (i asked : ℕ) (answer : Lend)
+    → tallies_of (members_after_answer members i asked answer)
+    ≡ tallies_after_answer (tallies_of members) (record { pool = i; units = asked }) answer
+tallies-answer members i asked answer =
+    map-set tally_of members i (member_after_answer (member_at members i) asked answer)
+    ∙ ap (λ t. set (tallies_of members) i (tally_after_answer t asked answer))
+    (sym (tally_there members i))
+
+pub figures-return : (members : List Member) (i n : ℕ)
+    → figures_of (accounts_of (members_after_return members i n))
+    ≡ pools_after_return (figures_of (accounts_of members)) i n
+figures-return members i n =
+    figures-set members i (member_after_return (member_at members i) n)
+    ∙ ap (λ f. set (figures_of (accounts_of members)) i (figures_after_return f n))
+    (sym (figures_there members i))
+
+pub tallies-return : (members : List Member) (i n : ℕ)
+    → tallies_of (members_after_return members i n) ≡ tallies_of members
+tallies-return members i n =
+    map-set_same tally_of members i (member_after_return (member_at members i) n) nobody refl
+
+-- each pool makes a turn
+pub figures-turn : (members : List Member)
+    → figures_of (accounts_of (members_after_turn members)) ≡ figures_of (accounts_of members)
+figures-turn [] = refl
+figures-turn (m ∷ members) = ap (λ fs. m.account.figures ∷ fs) (figures-turn members)
+
+pub tallies-turn : (members : List Member)
+    → tallies_of (members_after_turn members) ≡ tallies_after_turn (tallies_of members)
+tallies-turn [] = refl
+tallies-turn (m ∷ members) =
+    ap (λ ts. tally_after_turn (tally_of m) ∷ ts) (tallies-turn members)
 
 -- one pool changes
 module _ (pools : List Figures) (i : ℕ) (f : Figures) where
@@ -102,17 +143,20 @@ pub figures-close : (accounts : List Account)
 figures-close [] = refl
 figures-close (a ∷ accounts) = ap (λ fs. without_loans a.figures ∷ fs) (figures-close accounts)
 
-pub lasts-close : (accounts : List Account)
-    → lasts_of (map account_without_loans accounts) ≡ lasts_of accounts
+pub lasts-close : (members : List Member)
+    → lasts_of (map account_without_loans (accounts_of members))
+    ≡ map (λ t. t.last) (tallies_of members)
 lasts-close [] = refl
-lasts-close (a ∷ accounts) = ap (λ ls. a.last ∷ ls) (lasts-close accounts)
+lasts-close (m ∷ members) = ap (λ ls. m.account.last ∷ ls) (lasts-close members)
 
 pub repaid : (pools : List Figures) → All (λ f. f.lent ≡ 0) (figures_without_loans pools)
 repaid pools = All-map (λ f. f.lent ≡ 0) without_loans pools (λ k d h. refl)
 
-pub within_limits : (accounts : List Account) → All IsWithinLimit accounts
-    → All (λ f. f.lent ≤ f.limit) (figures_of accounts)
-within_limits accounts h = All-map (λ f. f.lent ≤ f.limit) figures accounts h
+pub within_limits : (members : List Member) → All (λ m. IsWithinLimit m.account) members
+    → All (λ f. f.lent ≤ f.limit) (figures_of (accounts_of members))
+within_limits members h =
+    All-map (λ f. f.lent ≤ f.limit) figures (accounts_of members)
+    (All-map IsWithinLimit account members h)
 
 -- idle pools have counted less than 2^62 refusals and waits
 idle_counts : (a : Account) → IsTrue (is_idle a) → HasCounts (2 ^ 62) a.figures
@@ -121,7 +165,9 @@ idle_counts a idle = record {
   waits = grind (arith, idle);
 }
 
-pub All-idle : (accounts : List Account) → All (λ a. IsTrue (is_idle a)) accounts
-    → All (HasCounts (2 ^ 62)) (figures_of accounts)
-All-idle accounts idle = All-map (HasCounts (2 ^ 62)) figures accounts
-    (λ k d below. idle_counts (get_or accounts k d) (idle k d below))
+pub All-idle : (members : List Member) → All (λ m. IsTrue (is_idle m.account)) members
+    → All (HasCounts (2 ^ 62)) (figures_of (accounts_of members))
+All-idle members idle =
+    All-map (HasCounts (2 ^ 62)) figures (accounts_of members)
+    (All-map (λ a. HasCounts (2 ^ 62) a.figures) account members
+    (λ k d below. idle_counts (get_or members k d).account (idle k d below)))

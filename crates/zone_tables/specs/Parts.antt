@@ -4,7 +4,7 @@ use Rattle.std.specs.FinMap.{len}
 use Rattle.registrations.specs.Registry.{Live, IsConsistent}
 use Rattle.admission.specs.Calls.{OpenCalls, EachCall, IsCall, in_use}
 use Rattle.pools.specs.declared.interface.Figures.{Figures}
-use Rattle.zone_tables.specs.Tables.{Tables, Last}
+use Rattle.zone_tables.specs.Tables.{Tables, Tally}
 use Rattle.zone_config.specs.declared.config.ConfigParts.{ConfigParts}
 use Rattle.zone_config.specs.Ranges.{IsConfig}
 use Rattle.zone_tables.specs.Soundness.{HaveAliasesApart, HaveEndpoints, IsLentTo}
@@ -32,11 +32,11 @@ usage_of z = record {
   call_limit = z.config.call_limit;
 }
 
--- with the last request of each pool, and how many more calls can be opened so that no memory is
--- taken for them
+-- with the tally of each pool, and how many more calls can be opened so that no memory is taken for
+-- them
 pub record Lending : Type 0 where
   pub usage : Usage
-  pub lasts : List Last
+  pub tallies : List Tally
   pub room : ℕ
 
 -- these calls are open instead, and these are the figures of the pools
@@ -82,7 +82,7 @@ pub record AreSoundParts (config : ConfigParts) (roll : Roll) (u : Usage) : Type
   pub calls : IsSoundUsage u
   pub parts : AreParts config roll u
 
--- the tables as the gatekeeper runs: beside them, the last request of each pool with its answer
+-- the tables as the gatekeeper runs: beside them, the tally of each pool
 pub record RunningTables : Type 0 where
   pub tables : Tables
-  pub lasts : List Last
+  pub tallies : List Tally

@@ -1,9 +1,10 @@
--- The figures of a zone's pools, and what they were asked for last.
+-- The figures of a zone's pools, and their tallies.
 use Rattle.std.specs.Prelude.{ℕ, ◌-◌, List, map, slice_index_or, slice_set, Option, None, Some}
 use Rattle.pools.specs.declared.interface.Figures.{Figures}
 use Rattle.pools.specs.declared.interface.Lend.{Lend}
 use Rattle.pools.specs.Account.{Account, opening_account, figures_after_answer}
-use Rattle.zone_tables.specs.Tables.{Last}
+use Rattle.pools.specs.Members.{Member, one_more}
+use Rattle.zone_tables.specs.Tables.{Last, Tally}
 
 -- the figures of each account, and its last request with the answer
 abbrev pub figures_of : List Account → List Figures
@@ -11,6 +12,13 @@ figures_of accounts = map (λ a. a.figures) accounts
 
 abbrev pub lasts_of : List Account → List Last
 lasts_of accounts = map (λ a. a.last) accounts
+
+-- the last request of each pool, with what its set counted of it
+abbrev pub tally_of : Member → Tally
+tally_of m = record { last = m.account.last; requests = m.requests; turns = m.turns }
+
+abbrev pub tallies_of : List Member → List Tally
+tallies_of members = map tally_of members
 
 -- the figures at a place; past the end, those of a pool of no units
 abbrev pub figures_at : List Figures → ℕ → Figures
@@ -46,9 +54,29 @@ pub record RequestedUnits : Type 0 where
   pub pool : ℕ
   pub units : ℕ
 
--- The pool that was asked has that request, with the answer, as its last one; the last requests of
--- all others stay, and all stay if none was asked.
-abbrev pub lasts_after : List Last → Option RequestedUnits → Option Lend → List Last
-lasts_after lasts (Some requested) (Some answer) = slice_set lasts requested.pool (Some (requested.units, answer))
-lasts_after lasts (Some requested) None = lasts
-lasts_after lasts None answer = lasts
+-- the tally at a place; past the end, that of a pool that was asked and told nothing
+abbrev pub tally_at : List Tally → ℕ → Tally
+tally_at tallies pool =
+    slice_index_or tallies pool (record { last = None; requests = 0; turns = 0 })
+
+-- a pool was asked once for these units, and gave this answer
+abbrev pub tally_after_answer : Tally → ℕ → Lend → Tally
+tally_after_answer t units answer = record t {
+  last = Some (units, answer);
+  requests = one_more t.requests;
+}
+
+-- a pool made one turn
+abbrev pub tally_after_turn : Tally → Tally
+tally_after_turn t = record t { turns = one_more t.turns }
+
+-- The pool that was asked has that request, with the answer, as its last one, and was asked once
+-- more; the tallies of all others stay.
+abbrev pub tallies_after_answer : List Tally → RequestedUnits → Lend → List Tally
+tallies_after_answer tallies requested answer =
+    slice_set tallies requested.pool
+    (tally_after_answer (tally_at tallies requested.pool) requested.units answer)
+
+-- each pool made one turn
+abbrev pub tallies_after_turn : List Tally → List Tally
+tallies_after_turn tallies = map tally_after_turn tallies

@@ -40,3 +40,10 @@ heard_now now id live = update live id (after_hear now)
 -- what a pool was asked for last, with its answer
 abbrev pub Last : Type 0
 Last = Option (ℕ × Lend)
+
+-- What is known of a pool beside its figures: its last request, how often it was asked for units, and
+-- how many turns it made.
+pub record Tally : Type 0 where
+  pub last : Last
+  pub requests : ℕ
+  pub turns : ℕ

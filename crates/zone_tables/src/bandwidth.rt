@@ -7,6 +7,7 @@ ghost use Rattle.keyed.specs.Maps.{update};
 ghost use Rattle.admission.specs.Calls.{IsConsistent, after_leave, freed_by_leave, in_use, leg_at};
 ghost use Rattle.admission.specs.Calls.{legs_of, new_call, with_leg, with_units};
 ghost use Rattle.pools.specs.Account.{IsAnswer, is_idle};
+ghost use Rattle.pools.specs.Members.{accounts_of};
 ghost use Rattle.zone_tables.specs.Pools.{figures_at, figures_of, figures_without_loans, lasts_of};
 ghost use Rattle.zone_tables.specs.Pools.{pools_after_answer, pools_after_end, pools_after_return};
 ghost use Rattle.zone_tables.specs.Changes.{IsCallChange, IsJoinable, IsLowerable, IsOpenable};
@@ -17,7 +18,7 @@ ghost use Rattle.zone_config.specs.Ranges.{IsConfig};
 ghost use Rattle.zone_tables.specs.Parts.{IsSoundUsage, with_usage};
 ghost use Rattle.zone_tables.specs.Leaving.{HaveLeft};
 ghost use Rattle.zone_tables.specs.Soundness.{HasCounts};
-ghost use Rattle.zone_tables.specs.Pools.{lasts_after};
+ghost use Rattle.zone_tables.specs.Pools.{tallies_after_answer, tallies_after_turn, tallies_of};
 
 use crate::change::CallChange;
 use crate::unit_request::{Purpose, UnitRequest};
@@ -41,7 +42,8 @@ pub struct Bandwidth<P: Pool> {
 impl<P: Pool> Model for Bandwidth<P> {
     ghost use Rattle.std.specs.Coded.{codes};
     ghost use Rattle.std.specs.FinMap as fin;
-    ghost use Rattle.zone_tables.specs.Pools.{figures_of, lasts_of};
+    ghost use Rattle.pools.specs.Members.{accounts_of};
+    ghost use Rattle.zone_tables.specs.Pools.{figures_of, tallies_of};
     ghost use Rattle.zone_tables.specs.Parts.{IsSoundUsage, Lending};
 
     ghost Value = { Lending };
@@ -51,18 +53,18 @@ impl<P: Pool> Model for Bandwidth<P> {
     ghost view = { λ b. record {
       usage = record {
         calls = b.calls.calls;
-        pools = figures_of b.pools;
+        pools = figures_of (accounts_of b.pools);
         most = b.calls.most;
         limit = b.limit;
         call_limit = b.call_limit;
       };
-      lasts = lasts_of b.pools;
+      tallies = tallies_of b.pools;
       room = b.calls.room;
     } };
 
     ghost invariant = { λ b. IsSoundUsage (record {
       calls = b.calls.calls;
-      pools = figures_of b.pools;
+      pools = figures_of (accounts_of b.pools);
       most = b.calls.most;
       limit = b.limit;
       call_limit = b.call_limit;
@@ -72,15 +74,15 @@ impl<P: Pool> Model for Bandwidth<P> {
 impl<P: Pool> Bandwidth<P> {
     /// No call, and pools with nothing lent.
     pub fn new(alloc: Global, config: &Config, pools: PoolSet<P>) -> Self
-        requires { All (λ a. IsTrue (is_idle a)) pools }
+        requires { All (λ m. IsTrue (is_idle m.account)) pools }
         ensures usage { result.usage ≡ record {
           calls = fin.empty;
-          pools = figures_of pools;
+          pools = figures_of (accounts_of pools);
           most = config.now.calls;
           limit = config.now.limit;
           call_limit = config.now.call_limit;
         } }
-        ensures lasts { result.lasts ≡ lasts_of pools }
+        ensures tallies { result.tallies ≡ tallies_of pools }
         ensures sound { IsSoundUsage result.usage }
         ensures settings { IsConfig config.now }
     {
@@ -143,7 +145,7 @@ impl<P: Pool> Bandwidth<P> {
     /// Makes room for so many more calls.
     pub fn reserve(&mut self, more: usize) -> Result<(), AllocError>
         ensures usage { self.new.usage ≡ self.old.usage }
-        ensures lasts { self.new.lasts ≡ self.old.lasts }
+        ensures tallies { self.new.tallies ≡ self.old.tallies }
         ensures room { OnOk result (more ≤ self.new.room) }
     {
         self.calls.reserve(more)
@@ -155,7 +157,7 @@ impl<P: Pool> Bandwidth<P> {
         ensures ok { OnOk result (self.new.usage ≡ with_usage self.old.usage
             (calls_after change self.old.usage.calls)
             (pools_after change self.old.usage.calls self.old.usage.pools)) }
-        ensures lasts { self.new.lasts ≡ self.old.lasts }
+        ensures tallies { self.new.tallies ≡ self.old.tallies }
         ensures sound { OnOk result (IsSoundUsage self.new.usage) }
         ensures err { OnErr result (self.new.usage ≡ self.old.usage) }
     {
@@ -174,7 +176,7 @@ impl<P: Pool> Bandwidth<P> {
         requires { IsOpenable self.old.usage key pool }
         ensures ok { OnOk result (self.new.usage ≡ with_usage self.old.usage
             (fin.insert self.old.usage.calls key (new_call pool 0 leg)) self.old.usage.pools) }
-        ensures lasts { self.new.lasts ≡ self.old.lasts }
+        ensures tallies { self.new.tallies ≡ self.old.tallies }
         ensures err { OnErr result (self.new.usage ≡ self.old.usage) }
     {
         self.calls.reserve(1)?;
@@ -186,7 +188,7 @@ impl<P: Pool> Bandwidth<P> {
         requires { IsJoinable self.old.usage.calls key leg }
         ensures usage { self.new.usage ≡ with_usage self.old.usage
             (update self.old.usage.calls key (with_leg leg)) self.old.usage.pools }
-        ensures lasts { self.new.lasts ≡ self.old.lasts }
+        ensures tallies { self.new.tallies ≡ self.old.tallies }
     {
         self.calls.join(key, leg).unwrap();
     }
@@ -196,7 +198,7 @@ impl<P: Pool> Bandwidth<P> {
         ensures usage { self.new.usage ≡ with_usage self.old.usage
             (update self.old.usage.calls key.now (with_units units))
             (pools_after_return self.old.usage.pools pool back) }
-        ensures lasts { self.new.lasts ≡ self.old.lasts }
+        ensures tallies { self.new.tallies ≡ self.old.tallies }
     {
         self.pools.take_back(pool, u64::from(back));
         self.calls.set_units(key, units).unwrap();
@@ -208,7 +210,7 @@ impl<P: Pool> Bandwidth<P> {
             (after_leave self.old.usage.calls key.now endpoint.now)
             (pools_after_end self.old.usage.pools
             (freed_by_leave self.old.usage.calls key.now endpoint.now)) }
-        ensures lasts { self.new.lasts ≡ self.old.lasts }
+        ensures tallies { self.new.tallies ≡ self.old.tallies }
     {
         let left = self.calls.leave(key, endpoint).unwrap();
         if let Some((pool, units)) = left.ended {
@@ -219,7 +221,7 @@ impl<P: Pool> Bandwidth<P> {
     /// An endpoint leaves all its calls.
     pub fn leave_all(&mut self, endpoint: &EndpointId)
         ensures left { HaveLeft endpoint.now self.old.usage self.new.usage }
-        ensures lasts { self.new.lasts ≡ self.old.lasts }
+        ensures tallies { self.new.tallies ≡ self.old.tallies }
         ensures sound { IsSoundUsage self.new.usage }
     {
         while let Some(call) = self.calls.call_of(endpoint) {
@@ -227,15 +229,17 @@ impl<P: Pool> Bandwidth<P> {
         }
     }
 
-    /// The pools make a turn.
+    /// Each pool makes a turn.
     pub fn turn(&mut self)
-        ensures { self.new ≡ self.old }
+        ensures usage { self.new.usage ≡ self.old.usage }
+        ensures tallies { self.new.tallies ≡ tallies_after_turn self.old.tallies }
+        ensures sound { IsSoundUsage self.new.usage }
     {
         self.pools.turn();
     }
 
-    /// Requests units of a pool for a call, which opens with them, or gets them, if they are lent.
-    /// This takes no memory.
+    /// Requests units of a pool, once, for a call, which opens with them, or gets them, if they are
+    /// lent. This takes no memory.
     pub fn request_units(&mut self, request: &UnitRequest) -> Lend
         requires room { 0 < self.old.room }
         requires may { IsUnitRequest self.old.usage request.now }
@@ -245,8 +249,8 @@ impl<P: Pool> Bandwidth<P> {
         ensures usage { self.new.usage ≡ with_usage self.old.usage
             (calls_after_answer request.now result self.old.usage.calls)
             (pools_after_answer self.old.usage.pools request.now.pool result) }
-        ensures lasts { self.new.lasts ≡ lasts_after self.old.lasts
-            (Some (units_requested request.now)) (Some result) }
+        ensures tallies { self.new.tallies
+            ≡ tallies_after_answer self.old.tallies (units_requested request.now) result }
         ensures sound { IsSoundUsage self.new.usage }
     {
         let answer = self.pools.lend(request.pool, u64::from(request.units));
@@ -258,7 +262,8 @@ impl<P: Pool> Bandwidth<P> {
     pub fn close(self) -> Vec<P>
         ensures figures { figures_of (map P.account result.items)
             ≡ figures_without_loans self.usage.pools }
-        ensures lasts { lasts_of (map P.account result.items) ≡ self.lasts }
+        ensures lasts { lasts_of (map P.account result.items)
+            ≡ map (λ t. t.last) self.tallies }
         ensures repaid { All (λ f. f.lent ≡ 0) (figures_of (map P.account result.items)) }
     {
         let Bandwidth { pools, .. } = self;

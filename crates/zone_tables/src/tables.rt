@@ -12,6 +12,7 @@ ghost use Rattle.zone_tables.specs.Leaving.{AreSameButLent, IsOther};
 ghost use Rattle.pools.specs.Account.{IsAnswer, is_idle};
 ghost use Rattle.zone_tables.specs.Tables.{empty_tables, with_live};
 ghost use Rattle.zone_tables.specs.Disengaging.{without_endpoint, without_legs_of, without_silent};
+ghost use Rattle.pools.specs.Members.{accounts_of};
 ghost use Rattle.zone_tables.specs.Pools.{figures_at, figures_of, figures_without_loans, lasts_of};
 ghost use Rattle.zone_tables.specs.Pools.{pools_after_answer};
 ghost use Rattle.zone_tables.specs.Parts.{usage_of};
@@ -19,7 +20,7 @@ ghost use Rattle.zone_tables.specs.Changes.{IsPossible, IsRegistered};
 ghost use Rattle.zone_tables.specs.UnitRequests.{IsUnitRequest};
 ghost use Rattle.zone_tables.specs.UnitRequests.{units_requested, calls_after_answer, leg_of_purpose};
 ghost use Rattle.zone_tables.specs.Changes.{changed, heard};
-ghost use Rattle.zone_tables.specs.Pools.{lasts_after};
+ghost use Rattle.zone_tables.specs.Pools.{tallies_after_answer, tallies_after_turn, tallies_of};
 ghost use Rattle.zone_tables.specs.Soundness.{HasCounts, SoundTables};
 
 use crate::bandwidth::Bandwidth;
@@ -61,7 +62,7 @@ impl<P: Pool> Model for ZoneTables<P> {
         calls = m.bandwidth.usage.calls;
         pools = m.bandwidth.usage.pools;
       };
-      lasts = m.bandwidth.lasts;
+      tallies = m.bandwidth.tallies;
     } };
 
     ghost invariant = { λ m. AreSoundParts m.config m.endpoints m.bandwidth.usage };
@@ -70,10 +71,10 @@ impl<P: Pool> Model for ZoneTables<P> {
 impl<P: Pool> ZoneTables<P> {
     /// The tables of a zone in which nobody is registered and no call is open.
     pub fn new(alloc: Global, config: Config, pools: PoolSet<P>) -> Self
-        requires idle { All (λ a. IsTrue (is_idle a)) pools }
+        requires idle { All (λ m. IsTrue (is_idle m.account)) pools }
         requires each { length pools ≡ length config.networks }
-        ensures tables { result.tables ≡ empty_tables config (figures_of pools) }
-        ensures lasts { result.lasts ≡ lasts_of pools }
+        ensures tables { result.tables ≡ empty_tables config (figures_of (accounts_of pools)) }
+        ensures tallies { result.tallies ≡ tallies_of pools }
         ensures sound { SoundTables result.tables }
     {
         let endpoints = Endpoints::new(alloc, config.endpoints());
@@ -214,7 +215,8 @@ impl<P: Pool> ZoneTables<P> {
     pub fn close(self) -> Vec<P>
         ensures figures { figures_of (map P.account result.items)
             ≡ figures_without_loans self.tables.pools }
-        ensures lasts { lasts_of (map P.account result.items) ≡ self.lasts }
+        ensures lasts { lasts_of (map P.account result.items)
+            ≡ map (λ t. t.last) self.tallies }
     {
         let ZoneTables { bandwidth, .. } = self;
         bandwidth.close()
@@ -246,8 +248,8 @@ impl<P: Pool> ZoneTables<P> {
         }
     }
 
-    /// Requests units of a pool for a call, which opens with them, or gets them, if they are lent.
-    /// The memory is there before the pool is asked.
+    /// Requests units of a pool, once, for a call, which opens with them, or gets them, if they are
+    /// lent. The memory is there before the pool is asked.
     pub fn request_units(&mut self, request: &UnitRequest) -> Result<Lend, AllocError>
         requires may { IsUnitRequest (usage_of self.old.tables) request.now }
         requires leg { IfSome (leg_of_purpose request.now.purpose) (IsRegistered self.old.tables.live) }
@@ -258,8 +260,8 @@ impl<P: Pool> ZoneTables<P> {
           calls = calls_after_answer request.now answer self.old.tables.calls;
           pools = pools_after_answer self.old.tables.pools request.now.pool answer;
         }) }
-        ensures lasts { IfOk result (λ answer. self.new.lasts
-            ≡ lasts_after self.old.lasts (Some (units_requested request.now)) (Some answer)) }
+        ensures tallies { IfOk result (λ answer. self.new.tallies
+            ≡ tallies_after_answer self.old.tallies (units_requested request.now) answer) }
         ensures sound { SoundTables self.new.tables }
         ensures err { OnErr result (self.new ≡ self.old) }
     {
@@ -270,7 +272,7 @@ impl<P: Pool> ZoneTables<P> {
     /// An endpoint leaves all its calls.
     fn leave_all(&mut self, id: &EndpointId)
         ensures tables { self.new.tables ≡ without_legs_of self.old.tables id.now }
-        ensures lasts { self.new.lasts ≡ self.old.lasts }
+        ensures tallies { self.new.tallies ≡ self.old.tallies }
         ensures pools { AreSameButLent self.old.tables.pools self.new.tables.pools }
         ensures gone { EachLeg (IsOther id.now) self.new.tables.calls }
     {
@@ -281,7 +283,7 @@ impl<P: Pool> ZoneTables<P> {
     pub fn lapse(&mut self, id: &EndpointId)
         ensures tables { self.new.tables ≡ without_endpoint self.old.tables id.now }
         ensures sound { SoundTables self.new.tables }
-        ensures lasts { self.new.lasts ≡ self.old.lasts }
+        ensures tallies { self.new.tallies ≡ self.old.tallies }
         ensures pools { AreSameButLent self.old.tables.pools self.new.tables.pools }
     {
         self.leave_all(id);
@@ -292,7 +294,7 @@ impl<P: Pool> ZoneTables<P> {
     pub fn silence(&mut self, id: &EndpointId)
         ensures tables { self.new.tables ≡ without_silent self.old.tables id.now }
         ensures sound { SoundTables self.new.tables }
-        ensures lasts { self.new.lasts ≡ self.old.lasts }
+        ensures tallies { self.new.tallies ≡ self.old.tallies }
         ensures pools { AreSameButLent self.old.tables.pools self.new.tables.pools }
     {
         self.leave_all(id);
@@ -305,14 +307,16 @@ impl<P: Pool> ZoneTables<P> {
         ensures tables { self.new.tables
             ≡ with_live self.old.tables (update self.old.tables.live id.now (after_ask now)) }
         ensures sound { SoundTables self.new.tables }
-        ensures lasts { self.new.lasts ≡ self.old.lasts }
+        ensures tallies { self.new.tallies ≡ self.old.tallies }
     {
         self.endpoints.interrogated(now, id);
     }
 
-    /// The pools make a turn.
+    /// Each pool makes a turn.
     pub fn turn_pools(&mut self)
-        ensures { self.new ≡ self.old }
+        ensures tables { self.new.tables ≡ self.old.tables }
+        ensures tallies { self.new.tallies ≡ tallies_after_turn self.old.tallies }
+        ensures sound { SoundTables self.new.tables }
     {
         self.bandwidth.turn();
     }

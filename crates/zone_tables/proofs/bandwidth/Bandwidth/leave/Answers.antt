@@ -1,11 +1,11 @@
 use Rattle.std.proofs.Common.{◌≡◌, sym, ap, ◌∙◌, subst, arith}
-use Rattle.std.proofs.lemmas.List.{length-map}
 use Rattle.admission.specs.Calls.{after_leave, freed_by_leave}
+use Rattle.pools.specs.Members.{accounts_of}
 use Rattle.zone_tables.specs.Parts.{Lending, with_usage}
-use Rattle.zone_tables.specs.Pools.{figures_of, lasts_of, pools_after_return, pools_after_end}
+use Rattle.zone_tables.specs.Pools.{figures_of, tallies_of, pools_after_return, pools_after_end}
 use Rattle.zone_tables.proofs.Answered.{on_ok}
-use Rattle.zone_tables.proofs.PoolFigures.{within_limits}
-use Rattle.zone_tables.proofs.PoolFigures.{figures-return, figures_there, lasts-return}
+use Rattle.zone_tables.proofs.PoolFigures.{length-figures, within_limits}
+use Rattle.zone_tables.proofs.PoolFigures.{figures-return, figures_there, tallies-return}
 use Rattle.zone_tables.proofs.Backing.{IsSoundUsage-held}
 use Rattle.zone_tables.proofs.Backing.{IsBacked-is, IsBacked-leave, call_left, freed_as}
 use Rattle.zone_tables.proofs.Backing.{freed_is_lent}
@@ -23,7 +23,7 @@ take_back-requires-clause-pool g c =
       arith,
       freed_pool u c.self.invariant.backed c.args.key.now c.args.endpoint.now call.0 call.1
           (c.in-Some.pool, c.in-Some.units) freed,
-      length-map i.pools (λ a. a.figures),
+      length-figures i.pools,
     )
 
 pub take_back-requires-clause-lent : goal.take_back-requires-clause-lent
@@ -48,7 +48,7 @@ invariant_of-self g c =
     let call = call_left _ _ c.self.view_is c.args.key.now c.args.endpoint.now c.requires in
     let freed = freed_as c.leave.result c.unwrap-left.result c.unwrap-left.ensures _ _
     c.leave.ensures.ended c.in-Some.is in
-    let pools = ap figures_of c.take_back.ensures.after
+    let pools = ap (λ ms. figures_of (accounts_of ms)) c.take_back.ensures.after
     ∙ (figures-return i.pools c.in-Some.pool c.from.result
     ∙ (ap (pools_after_return u.pools c.in-Some.pool) c.from.ensures
     ∙ ap (pools_after_end u.pools) (sym freed))) in
@@ -56,7 +56,7 @@ invariant_of-self g c =
     IsSoundUsage-held c.leave.new.self c.take_back.new.self i.limit i.call_limit
     (IsBacked-is (with_usage u _
     (pools_after_end u.pools (freed_by_leave u.calls c.args.key.now c.args.endpoint.now)))
-    c.leave.new.self.calls (figures_of c.take_back.new.self) c.leave.new.self.most
+    c.leave.new.self.calls (figures_of (accounts_of c.take_back.new.self)) c.leave.new.self.most
     (IsBacked-leave u c.self.invariant.backed c.args.key.now c.args.endpoint.now call.0 call.1)
     left.rows pools left.most)
     (left.sound) (within_limits _ c.take_back.ensures.sound.within_limits)
@@ -83,7 +83,7 @@ returns-in-Some-clause-usage g c =
     let u = usage_in i.calls i.pools i.limit i.call_limit in
     let freed = freed_as c.leave.result c.unwrap-left.result c.unwrap-left.ensures _ _
     c.leave.ensures.ended c.in-Some.is in
-    let pools = ap figures_of c.take_back.ensures.after
+    let pools = ap (λ ms. figures_of (accounts_of ms)) c.take_back.ensures.after
     ∙ (figures-return i.pools c.in-Some.pool c.from.result
     ∙ (ap (pools_after_return u.pools c.in-Some.pool) c.from.ensures
     ∙ ap (pools_after_end u.pools) (sym freed))) in
@@ -100,8 +100,8 @@ returns-in-Some-clause-usage g c =
       call_limit = i.call_limit;
     })
 
-pub returns-in-Some-clause-lasts : goal.returns-in-Some-clause-lasts
-returns-in-Some-clause-lasts g c =
-    ap lasts_of c.take_back.ensures.after
-    ∙ (lasts-return c.self.inside.pools c.in-Some.pool c.from.result
-    ∙ ap (λ (l : Lending). l.lasts) c.self.view_is)
+pub returns-in-Some-clause-tallies : goal.returns-in-Some-clause-tallies
+returns-in-Some-clause-tallies g c =
+    ap tallies_of c.take_back.ensures.after
+    ∙ (tallies-return c.self.inside.pools c.in-Some.pool c.from.result
+    ∙ ap (λ (l : Lending). l.tallies) c.self.view_is)

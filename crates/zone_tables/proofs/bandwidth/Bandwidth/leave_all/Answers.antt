@@ -15,7 +15,7 @@ loop-call-init g c = record {
   most = refl;
   limit = refl;
   call_limit = refl;
-  lasts = refl;
+  tallies = refl;
 }
 
 pub loop-call-smaller : goal.loop-call-smaller
@@ -43,7 +43,7 @@ loop-call-preserved g c =
       most = ap (λ (u : Usage). u.most) usage ∙ so_far.most;
       limit = ap (λ (u : Usage). u.limit) usage ∙ so_far.limit;
       call_limit = ap (λ (u : Usage). u.call_limit) usage ∙ so_far.call_limit;
-      lasts = c.leave.ensures.lasts ∙ so_far.lasts;
+      tallies = c.leave.ensures.tallies ∙ so_far.tallies;
     }
 
 pub returns-clause-left : goal.returns-clause-left

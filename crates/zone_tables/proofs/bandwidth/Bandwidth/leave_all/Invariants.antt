@@ -14,7 +14,7 @@ invariant-loop-call g l = record {
   most : l.self.usage.most ≡ l.fn.self.usage.most;
   limit : l.self.usage.limit ≡ l.fn.self.usage.limit;
   call_limit : l.self.usage.call_limit ≡ l.fn.self.usage.call_limit;
-  lasts : l.self.lasts ≡ l.fn.self.lasts;
+  tallies : l.self.tallies ≡ l.fn.self.tallies;
 }
 
 abbrev pub decreases-loop-call : goal.decreases-loop-call

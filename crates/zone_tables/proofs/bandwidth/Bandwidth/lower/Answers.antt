@@ -2,11 +2,12 @@ use Rattle.std.proofs.Common.{◌≡◌, sym, ap, ◌∙◌, subst, arith}
 use Rattle.keyed.specs.Maps.{update}
 use Rattle.admission.specs.Calls.{with_units}
 use Rattle.zone_tables.specs.Changes.{IsLowerable}
+use Rattle.pools.specs.Members.{accounts_of}
 use Rattle.zone_tables.specs.Parts.{Lending, with_usage}
-use Rattle.zone_tables.specs.Pools.{figures_of, lasts_of, pools_after_return}
+use Rattle.zone_tables.specs.Pools.{figures_of, tallies_of, pools_after_return}
 use Rattle.zone_tables.proofs.Answered.{on_ok}
 use Rattle.zone_tables.proofs.PoolFigures.{within_limits}
-use Rattle.zone_tables.proofs.PoolFigures.{figures-return, figures_there, lasts-return}
+use Rattle.zone_tables.proofs.PoolFigures.{figures-return, figures_there, tallies-return}
 use Rattle.zone_tables.proofs.Backing.{IsSoundUsage-held}
 use Rattle.zone_tables.proofs.Backing.{IsBacked-is, IsBacked-lower, back_is_lent, usage_in}
 use Rattle.zone_tables.proofs.bandwidth.Bandwidth.lower.Goals as goal
@@ -36,10 +37,10 @@ invariant_of-self g c =
     on_ok c.set_units.result c.unwrap.result c.unwrap.ensures c.set_units.ensures.ok in
     IsSoundUsage-held c.set_units.new.self c.take_back.new.self i.limit i.call_limit
     (IsBacked-is (with_usage u _ (pools_after_return u.pools c.args.pool c.args.back))
-    c.set_units.new.self.calls (figures_of c.take_back.new.self) c.set_units.new.self.most
+    c.set_units.new.self.calls (figures_of (accounts_of c.take_back.new.self)) c.set_units.new.self.most
     (IsBacked-lower u c.self.invariant.backed c.args.key.now c.args.units c.args.pool c.args.back can)
     lowered.rows
-    (ap figures_of c.take_back.ensures.after ∙ (figures-return i.pools c.args.pool c.from.result
+    (ap (λ ms. figures_of (accounts_of ms)) c.take_back.ensures.after ∙ (figures-return i.pools c.args.pool c.from.result
     ∙ ap (pools_after_return u.pools c.args.pool) c.from.ensures))
     lowered.most)
     (lowered.sound) (within_limits _ c.take_back.ensures.sound.within_limits)
@@ -50,7 +51,7 @@ returns-clause-usage g c =
     let u = usage_in i.calls i.pools i.limit i.call_limit in
     let lowered =
     on_ok c.set_units.result c.unwrap.result c.unwrap.ensures c.set_units.ensures.ok in
-    let pools = ap figures_of c.take_back.ensures.after
+    let pools = ap (λ ms. figures_of (accounts_of ms)) c.take_back.ensures.after
     ∙ (figures-return i.pools c.args.pool c.from.result
     ∙ ap (pools_after_return u.pools c.args.pool) c.from.ensures) in
     subst (λ (l : Lending). usage_in c.set_units.new.self c.take_back.new.self i.limit i.call_limit
@@ -64,8 +65,8 @@ returns-clause-usage g c =
       call_limit = i.call_limit;
     })
 
-pub returns-clause-lasts : goal.returns-clause-lasts
-returns-clause-lasts g c =
-    ap lasts_of c.take_back.ensures.after
-    ∙ (lasts-return c.self.inside.pools c.args.pool c.from.result
-    ∙ ap (λ (l : Lending). l.lasts) c.self.view_is)
+pub returns-clause-tallies : goal.returns-clause-tallies
+returns-clause-tallies g c =
+    ap tallies_of c.take_back.ensures.after
+    ∙ (tallies-return c.self.inside.pools c.args.pool c.from.result
+    ∙ ap (λ (l : Lending). l.tallies) c.self.view_is)

@@ -1,5 +1,6 @@
 use Rattle.std.proofs.Common.{refl}
 use Rattle.std.specs.FinMap as fin
+use Rattle.pools.specs.Members.{accounts_of}
 use Rattle.zone_tables.specs.Parts.{Usage}
 use Rattle.zone_tables.specs.Pools.{figures_of}
 use Rattle.zone_tables.proofs.Backing.{IsBacked-is, IsBacked-start, IsSoundUsage-held, within_idle}
@@ -9,7 +10,7 @@ pub invariant_of-result : goal.invariant_of-result
 invariant_of-result g c =
     let u : Usage = record {
       calls = fin.empty;
-      pools = figures_of c.args.pools;
+      pools = figures_of (accounts_of c.args.pools);
       most = c.new.result.most;
       limit = c.parts.result.now.limit;
       call_limit = c.call_limit.result;

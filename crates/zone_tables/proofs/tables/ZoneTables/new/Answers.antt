@@ -1,10 +1,11 @@
 use Rattle.std.proofs.Common.{◌≡◌, All, refl, sym, subst, arith, length}
 use Rattle.std.specs.FinMap as fin
-use Rattle.std.proofs.lemmas.List.{length-map}
 use Rattle.admission.proofs.Soundness.{EachCall-empty}
+use Rattle.pools.specs.Members.{accounts_of}
 use Rattle.zone_tables.specs.Pools.{figures_of}
 use Rattle.zone_tables.specs.Changes.{IsRegistered}
 use Rattle.zone_tables.specs.Parts.{AreParts, Roll, Usage}
+use Rattle.zone_tables.proofs.PoolFigures.{length-figures}
 use Rattle.zone_tables.proofs.SoundParts.{SoundTables-parts}
 use Rattle.zone_tables.proofs.tables.ZoneTables.new.Goals as goal
 
@@ -12,13 +13,13 @@ pub invariant_of-result : goal.invariant_of-result
 invariant_of-result g c =
     let u : Usage = record {
       calls = fin.empty;
-      pools = figures_of c.args.pools;
+      pools = figures_of (accounts_of c.args.pools);
       most = c.args.config.calls;
       limit = c.args.config.limit;
       call_limit = c.args.config.call_limit;
     } in
     let as_many : length u.pools ≡ length c.args.config.networks =
-    omega (arith, length-map c.args.pools (λ a. a.figures), c.requires.each) in
+    omega (arith, length-figures c.args.pools, c.requires.each) in
     record {
       settings = c.new-bandwidth.ensures.settings;
       endpoints = c.new-endpoints.ensures.sound;
