@@ -18,10 +18,10 @@ use Rattle.ras_machine.specs.declared.job.Occasion.{Occasion}
 use Rattle.ras_machine.specs.declared.job.Occasion.TheVariants.{First, Again}
 use Rattle.zone_events.specs.declared.outcome.Outcome.{Outcome}
 use Rattle.ras_machine.specs.State.{State, Running}
-use Rattle.zone_tables.specs.Tables.{Last}
+use Rattle.zone_tables.specs.Tables.{Tally}
 use Rattle.zone_tables.specs.Parts.{RunningTables}
 use Rattle.ras_requests.specs.Plans.{Served, Plan, Asking}
-use Rattle.zone_tables.specs.Pools.{figures_at, pools_after_answer, lasts_after}
+use Rattle.zone_tables.specs.Pools.{figures_at, pools_after_answer, tallies_after_answer}
 use Rattle.ras_requests.specs.Requests.{seq_of}
 use Rattle.ras_machine.specs.Keeping.{Progress, Task, answered, answered_by, dropped_for, in_progress}
 use Rattle.ras_machine.specs.Keeping.{kept_with, plan_at, state_after, waits, with_answered_pool}
@@ -35,10 +35,11 @@ use Rattle.ras_machine.specs.Courses.{heard_at, Does}
 use Rattle.ras_machine.specs.Soundness.{AreBornBefore}
 use Rattle.zone_tables.specs.Soundness.{HasCounts}
 use Rattle.ras_machine.specs.Steps.{IsTimely, MayChoose, ask_in_plan, choices_of}
+use Rattle.ras_machine.specs.Steps.{tallies_after_ask}
 use Rattle.zone_tables.proofs.PoolFigures.{All-answer}
 use Rattle.ras_machine.proofs.Dropping.{born_kept_with}
 
-module _ (s : State) (lasts : List Last) (now : ℕ) (key : KeptKey) (request : Request)
+module _ (s : State) (tallies : List Tally) (now : ℕ) (key : KeptKey) (request : Request)
     (id : List ℕ) (q : UnitRequest) where
   abbrev pub asking : Plan
   asking = Asking (units_requested q) (granted_by s.tables q) (refused_by s.tables q)
@@ -65,7 +66,7 @@ module _ (s : State) (lasts : List Last) (now : ℕ) (key : KeptKey) (request : 
       calls = calls_after_answer q answer s.tables.calls;
       pools = pools_after_answer s.tables.pools q.pool answer;
     };
-    lasts = lasts_after lasts (Some (units_requested q)) (Some answer);
+    tallies = tallies_after_answer tallies (units_requested q) answer;
   }) occasion now (Some id)
 
   abbrev pub asked_kept : Occasion → Bool → Reply → KeptReplies
@@ -79,7 +80,7 @@ module _ (s : State) (lasts : List Last) (now : ℕ) (key : KeptKey) (request : 
       tables = (asked_zone occasion answer).tables;
       kept = asked_kept occasion w reply;
     };
-    lasts = (asked_zone occasion answer).lasts;
+    tallies = (asked_zone occasion answer).tallies;
   }
 
   abbrev asked_answer : Occasion → Lend → Bool → Reply → Ending
@@ -156,10 +157,10 @@ module _ (s : State) (lasts : List Last) (now : ℕ) (key : KeptKey) (request : 
   ask_is (First dropped) = refl
   ask_is (Again born left) = refl
 
-  lasts_are : (occasion : Occasion) (answer : Lend)
-      → (asked_zone occasion answer).lasts ≡ lasts_after lasts (Some (units_requested q)) (Some answer)
-  lasts_are (First dropped) answer = refl
-  lasts_are (Again born left) answer = refl
+  tallies_are : (occasion : Occasion) (answer : Lend)
+      → (asked_zone occasion answer).tallies ≡ tallies_after_answer tallies (units_requested q) answer
+  tallies_are (First dropped) answer = refl
+  tallies_are (Again born left) answer = refl
 
   pools_are : (occasion : Occasion) (answer : Lend)
       → (asked_zone occasion answer).tables.pools ≡ pools_after_answer s.tables.pools q.pool answer
@@ -172,7 +173,7 @@ module _ (s : State) (lasts : List Last) (now : ℕ) (key : KeptKey) (request : 
       → IsAnswer (figures_at s.tables.pools q.pool) q.units answer
       → IsTimely s now occasion → AreBornBefore s.steps s.kept
       → length (encoding_of (reply_of q answer w s.tables.config.delay)) ≤ 20000
-      → Does (record { state = s; lasts = lasts }) now (Serving (record {
+      → Does (record { state = s; tallies = tallies }) now (Serving (record {
         job = record { key = key; occasion = occasion };
         request = request;
         plan = plan_at occasion now (Some id) plan;
@@ -180,7 +181,7 @@ module _ (s : State) (lasts : List Last) (now : ℕ) (key : KeptKey) (request : 
       (asked_running occasion answer w (reply_of q answer w s.tables.config.delay))
   does_asked occasion answer w plan asks w_is seq fits timely before few =
       let reply = reply_of q answer w s.tables.config.delay in
-      subst (λ (p : Plan). Does (record { state = s; lasts = lasts }) now (Serving (record {
+      subst (λ (p : Plan). Does (record { state = s; tallies = tallies }) now (Serving (record {
         job = record { key = key; occasion = occasion };
         request = request;
         plan = plan_at occasion now (Some id) p;
@@ -188,8 +189,8 @@ module _ (s : State) (lasts : List Last) (now : ℕ) (key : KeptKey) (request : 
       (sym asks.is) (record {
         allowed = (timely, may_choose occasion answer reply fits);
         makes = asked_by occasion answer w w_is seq;
-        lasts = lasts_are occasion answer
-            ∙ sym (ap (λ ask. lasts_after lasts ask (Some answer)) (ask_is occasion));
+        tallies = tallies_are occasion answer
+            ∙ sym (ap (λ ask. tallies_after_ask tallies ask (Some answer)) (ask_is occasion));
         counts = λ most h. subst (λ (pools : List Figures). All (HasCounts (most + 1)) pools)
             (sym (pools_are occasion answer))
             (All-answer most s.tables.pools q.pool answer h (asks.may).pool);
@@ -211,7 +212,7 @@ pub does_answered : (old : Running) (now : ℕ) (job : Job) (id : List ℕ)
         calls = calls_after_answer q answer old.state.tables.calls;
         pools = pools_after_answer old.state.tables.pools q.pool answer;
       };
-      lasts = lasts_after old.lasts (Some (units_requested q)) (Some answer);
+      tallies = tallies_after_answer old.tallies (units_requested q) answer;
     }) job.occasion now (Some id)
     → kept ≡ kept_with old.state.kept job.key job.occasion old.state.steps
     (state_after request reply w (term_of old.state.tables.config now))
@@ -228,14 +229,14 @@ pub does_answered : (old : Running) (now : ℕ) (job : Job) (id : List ℕ)
       given = None;
     }) (record {
       state = record old.state { tables = tables.tables; kept = kept };
-      lasts = tables.lasts;
+      tallies = tables.tallies;
     })
 does_answered old now job id request q answer w reply tables kept w_is seq fits timely before
     reply_is few tables_is kept_is plan asks =
     let s = old.state in
-    let due = asked_running s old.lasts now job.key request id q job.occasion answer w in
+    let due = asked_running s old.tallies now job.key request id q job.occasion answer w in
     let told = reply_of q answer w s.tables.config.delay in
-    let does = does_asked s old.lasts now job.key request id q job.occasion answer
+    let does = does_asked s old.tallies now job.key request id q job.occasion answer
     w plan asks w_is seq fits timely before
     (subst (λ (r : Reply). length (encoding_of r) ≤ 20000) reply_is few) in
     let course = Serving (record {
@@ -246,20 +247,20 @@ does_answered old now job id request q answer w reply tables kept w_is seq fits 
     let kept_so = kept_is ∙ ap (λ (r : Reply). kept_with s.kept job.key job.occasion s.steps
     (state_after request r w (term_of s.tables.config now))) reply_is in
     subst (λ (r : Reply). Does old now course
-    (asked_outcome s old.lasts now job.key request id q job.occasion answer r) (record {
+    (asked_outcome s old.tallies now job.key request id q job.occasion answer r) (record {
       state = record s { tables = tables.tables; kept = kept };
-      lasts = tables.lasts;
+      tallies = tables.tallies;
     })) (sym reply_is)
-    (subst (λ (z : RunningTables). Does old now course (asked_outcome s old.lasts now job.key request
+    (subst (λ (z : RunningTables). Does old now course (asked_outcome s old.tallies now job.key request
     id q job.occasion answer told) (record {
       state = record s { tables = z.tables; kept = kept };
-      lasts = z.lasts;
+      tallies = z.tallies;
     })) (sym tables_is)
-    (subst (λ (k : KeptReplies). Does old now course (asked_outcome s old.lasts now job.key request
+    (subst (λ (k : KeptReplies). Does old now course (asked_outcome s old.tallies now job.key request
     id q job.occasion answer told) (record {
       state = record s {
-        tables = (asked_zone s old.lasts now job.key request id q job.occasion answer).tables;
+        tables = (asked_zone s old.tallies now job.key request id q job.occasion answer).tables;
         kept = k;
       };
-      lasts = (asked_zone s old.lasts now job.key request id q job.occasion answer).lasts;
+      tallies = (asked_zone s old.tallies now job.key request id q job.occasion answer).tallies;
     })) (sym kept_so) does))

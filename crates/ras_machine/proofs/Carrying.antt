@@ -15,7 +15,7 @@ use Rattle.ras_machine.specs.declared.job.Job.{Job}
 use Rattle.ras_machine.specs.declared.job.Occasion.{Occasion}
 use Rattle.ras_machine.specs.declared.job.Occasion.TheVariants.{First, Again}
 use Rattle.zone_events.specs.declared.outcome.Outcome.{Outcome}
-use Rattle.zone_tables.specs.Tables.{Tables, Last}
+use Rattle.zone_tables.specs.Tables.{Tables, Tally}
 use Rattle.ras_machine.specs.State.{State, Running}
 use Rattle.zone_tables.specs.Parts.{RunningTables}
 use Rattle.ras_requests.specs.Plans.{Served, Plan, Settled, Naming, Asking, with_heard}
@@ -28,16 +28,16 @@ use Rattle.ras_machine.specs.Courses.{heard_at, resolved, Does}
 use Rattle.ras_machine.specs.Soundness.{AreBornBefore}
 use Rattle.zone_tables.specs.Soundness.{CountsOneMore}
 use Rattle.ras_machine.specs.Steps.{IsUnusedIn, IsTimely, MayChoose, ask_in_plan, choices_of}
-use Rattle.zone_tables.specs.Pools.{lasts_after}
+use Rattle.ras_machine.specs.Steps.{tallies_after_ask}
 use Rattle.zone_tables.proofs.ButLent.{counts_same, same_after_change}
 use Rattle.ras_machine.proofs.Dropping.{born_kept_with}
 
 -- the zone after a change, in which the endpoint was heard
-abbrev pub zone_after : Tables → List Last → ℕ → Occasion → Option (List ℕ) → Change → RunningTables
-zone_after z lasts now occasion endpoint change =
-    heard_at (changed (record { tables = z; lasts = lasts }) now change) occasion now endpoint
+abbrev pub zone_after : Tables → List Tally → ℕ → Occasion → Option (List ℕ) → Change → RunningTables
+zone_after z tallies now occasion endpoint change =
+    heard_at (changed (record { tables = z; tallies = tallies }) now change) occasion now endpoint
 
-module _ (s : State) (lasts : List Last) (now : ℕ) (key : KeptKey) (request : Request)
+module _ (s : State) (tallies : List Tally) (now : ℕ) (key : KeptKey) (request : Request)
     (reply : Reply) (change : Change) where
   abbrev pub task_by : Occasion → Plan → Task
   task_by occasion plan = record {
@@ -57,7 +57,7 @@ module _ (s : State) (lasts : List Last) (now : ℕ) (key : KeptKey) (request : 
 
   abbrev pub state_by : Occasion → Option (List ℕ) → State
   state_by occasion endpoint = record s {
-    tables = (zone_after s.tables lasts now occasion endpoint change).tables;
+    tables = (zone_after s.tables tallies now occasion endpoint change).tables;
     kept = kept_with s.kept key occasion s.steps (Done reply (now + s.tables.config.window));
   }
 
@@ -121,14 +121,14 @@ module _ (s : State) (lasts : List Last) (now : ℕ) (key : KeptKey) (request : 
   nothing_asked (Again born left) endpoint (Naming named) given is = refl
   nothing_asked occasion endpoint (Asking ask lent refused) given is = absurd (cc is)
 
-  lasts_stay : (occasion : Occasion) (endpoint : Option (List ℕ))
-      → (zone_after s.tables lasts now occasion endpoint change).lasts ≡ lasts
-  lasts_stay (First dropped) None = refl
-  lasts_stay (First dropped) (Some id) = refl
-  lasts_stay (Again born left) endpoint = refl
+  tallies_stay : (occasion : Occasion) (endpoint : Option (List ℕ))
+      → (zone_after s.tables tallies now occasion endpoint change).tallies ≡ tallies
+  tallies_stay (First dropped) None = refl
+  tallies_stay (First dropped) (Some id) = refl
+  tallies_stay (Again born left) endpoint = refl
 
   pools_are : (occasion : Occasion) (endpoint : Option (List ℕ))
-      → (zone_after s.tables lasts now occasion endpoint change).tables.pools
+      → (zone_after s.tables tallies now occasion endpoint change).tables.pools
       ≡ (after_change now change s.tables).pools
   pools_are (First dropped) None = refl
   pools_are (First dropped) (Some id) = refl
@@ -137,7 +137,7 @@ module _ (s : State) (lasts : List Last) (now : ℕ) (key : KeptKey) (request : 
   abbrev pub running_by : Occasion → Option (List ℕ) → Running
   running_by occasion endpoint = record {
     state = state_by occasion endpoint;
-    lasts = (zone_after s.tables lasts now occasion endpoint change).lasts;
+    tallies = (zone_after s.tables tallies now occasion endpoint change).tallies;
   }
 
   pub does_by : (occasion : Occasion) (endpoint : Option (List ℕ)) (plan : Plan)
@@ -145,14 +145,14 @@ module _ (s : State) (lasts : List Last) (now : ℕ) (key : KeptKey) (request : 
       → resolved plan given ≡ Some served_by → IfSome given (IsUnusedIn s)
       → IsTimely s now occasion
       → AreBornBefore s.steps s.kept → length (encoding_of reply) ≤ 20000
-      → Does (record { state = s; lasts = lasts }) now
+      → Does (record { state = s; tallies = tallies }) now
       (Serving (task_by occasion (plan_at occasion now endpoint plan)))
       (outcome_by occasion given) (running_by occasion endpoint)
   does_by occasion endpoint plan given is unused timely before few = record {
     allowed = (timely, may_choose occasion endpoint plan given is unused);
     makes = answer_by occasion endpoint plan given is;
-    lasts = lasts_stay occasion endpoint
-        ∙ sym (ap (λ ask. lasts_after lasts ask None)
+    tallies = tallies_stay occasion endpoint
+        ∙ sym (ap (λ ask. tallies_after_ask tallies ask None)
         (nothing_asked occasion endpoint plan given is));
     counts = subst (λ (pools : List Figures). CountsOneMore s.tables.pools pools)
         (sym (pools_are occasion endpoint))
@@ -168,7 +168,7 @@ pub does_carried : (old : Running) (now : ℕ) (job : Job) (endpoint : Option (L
     (given : Option (List ℕ)) (tables : RunningTables) (kept : KeptReplies)
     → IfSome given (IsUnusedIn old.state) → IsTimely old.state now job.occasion
     → AreBornBefore old.state.steps old.state.kept → length (encoding_of d.reply) ≤ 20000
-    → tables ≡ zone_after old.state.tables old.lasts now job.occasion endpoint d.change
+    → tables ≡ zone_after old.state.tables old.tallies now job.occasion endpoint d.change
     → kept ≡ kept_with old.state.kept job.key job.occasion old.state.steps
     (Done d.reply (now + old.state.tables.config.window))
     → (plan : Plan) (request : Request) → resolved plan given ≡ Some (served old.state.tables now d)
@@ -184,7 +184,7 @@ pub does_carried : (old : Running) (now : ℕ) (job : Job) (endpoint : Option (L
       given = given;
     }) (record {
       state = record old.state { tables = tables.tables; kept = kept };
-      lasts = tables.lasts;
+      tallies = tables.tallies;
     })
 does_carried old now job endpoint d given tables kept unused timely before few tables_is kept_is
     plan request is =
@@ -194,17 +194,17 @@ does_carried old now job endpoint d given tables kept unused timely before few t
       request = request;
       plan = plan_at job.occasion now endpoint plan;
     }) in
-    let outcome = outcome_by s old.lasts now job.key request d.reply d.change job.occasion given in
+    let outcome = outcome_by s old.tallies now job.key request d.reply d.change job.occasion given in
     subst (λ (z : RunningTables). Does old now course outcome (record {
       state = record s { tables = z.tables; kept = kept };
-      lasts = z.lasts;
+      tallies = z.tallies;
     })) (sym tables_is)
     (subst (λ (k : KeptReplies). Does old now course outcome (record {
       state = record s {
-        tables = (zone_after s.tables old.lasts now job.occasion endpoint d.change).tables;
+        tables = (zone_after s.tables old.tallies now job.occasion endpoint d.change).tables;
         kept = k;
       };
-      lasts = (zone_after s.tables old.lasts now job.occasion endpoint d.change).lasts;
+      tallies = (zone_after s.tables old.tallies now job.occasion endpoint d.change).tallies;
     })) (sym kept_is)
-    (does_by s old.lasts now job.key request d.reply d.change
+    (does_by s old.tallies now job.key request d.reply d.change
     job.occasion endpoint plan given is unused timely before few))

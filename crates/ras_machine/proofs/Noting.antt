@@ -17,12 +17,11 @@ use Rattle.ras_machine.specs.State.{Running}
 use Rattle.zone_tables.specs.Parts.{RunningTables}
 use Rattle.ras_machine.specs.Turns.{IsDueIn, effect}
 use Rattle.ras_machine.specs.Machine.{Course, Hearing, Doing, course_ending}
-use Rattle.zone_tables.specs.Pools.{lasts_after}
 use Rattle.zone_tables.specs.Changes.{heard}
 use Rattle.ras_machine.specs.Courses.{Does}
 use Rattle.zone_tables.specs.Leaving.{AreSameButLent}
 use Rattle.ras_machine.specs.Soundness.{AreBornBefore}
-use Rattle.ras_machine.specs.Steps.{HasFewOctets, IsAllowed, ask_in, choices_of}
+use Rattle.ras_machine.specs.Steps.{HasFewOctets, IsAllowed, choices_of, tallies_after}
 use Rattle.zone_tables.proofs.ButLent.{counts_same, same_after_end}
 use Rattle.ras_machine.proofs.Dropping.{born_same}
 
@@ -33,17 +32,18 @@ module _ (old value : Running) (is : old ≡ value) (now : ℕ) (item : DueItem)
   pub does_item : (output : Option Datagram) (outcome : Outcome)
       → outcome ≡ noted_outcome (note.Done item) output
       → (new : Running) → (effect old.state now item).output ≡ output
-      → (effect old.state now item).state ≡ new.state → new.lasts ≡ old.lasts
+      → (effect old.state now item).state ≡ new.state
+      → new.tallies ≡ tallies_after old.tallies (Doing item) None
       → AreSameButLent old.state.tables.pools new.state.tables.pools
       → (AreBornBefore old.state.steps old.state.kept
       → AreBornBefore (old.state.steps + 1) new.state.kept)
       → HasFewOctets output → Does value now (Doing item) outcome new
-  does_item output outcome noted new sent leaves lasts pools births few =
+  does_item output outcome noted new sent leaves tallies pools births few =
       subst (λ (m : Running). Does m now (Doing item) outcome new) is
       (subst (λ (o : Outcome). Does old now (Doing item) o new) (sym noted) (record {
         allowed = subst (λ (m : Running). IsDueIn m.state now item) (sym is) due;
         makes = λ j. Some (noted_outcome (note.Done item) (sent j), leaves j);
-        lasts = lasts;
+        tallies = tallies;
         counts = counts_same old.state.tables.pools new.state.tables.pools pools;
         births = births;
         few = few;
@@ -51,19 +51,19 @@ module _ (old value : Running) (is : old ≡ value) (now : ℕ) (item : DueItem)
 
 -- an endpoint gave a sign of life
 pub does_hear : (old : Running) (now : ℕ) (id : List ℕ) (tables : RunningTables)
-    → tables ≡ heard (record { tables = old.state.tables; lasts = old.lasts }) now (Some id)
+    → tables ≡ heard (record { tables = old.state.tables; tallies = old.tallies }) now (Some id)
     → Does old now (Hearing id) (noted_outcome note.Served None) (record {
       state = record old.state { tables = tables.tables };
-      lasts = tables.lasts;
+      tallies = tables.tallies;
     })
 does_hear old now id tables is =
     subst (λ (z : RunningTables). Does old now (Hearing id) (noted_outcome note.Served None) (record {
       state = record old.state { tables = z.tables };
-      lasts = z.lasts;
+      tallies = z.tallies;
     })) (sym is) (record {
       allowed = tt;
       makes = refl;
-      lasts = refl;
+      tallies = refl;
       counts = counts_same old.state.tables.pools old.state.tables.pools
           (same_after_end old.state.tables.pools None);
       births = λ before. born_same old.state.kept old.state.steps before;

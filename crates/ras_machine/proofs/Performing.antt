@@ -15,7 +15,7 @@ use Rattle.ras_machine.specs.inside.Parts.{AreSoundParts, running_of}
 abbrev pub stepped : Running → ℕ → ℕ → Running
 stepped r now steps = record {
   state = record r.state { clock = now; steps = steps + 1 };
-  lasts = r.lasts;
+  tallies = r.tallies;
 }
 
 -- the machine is seen by its parts, as they are once the course was done
@@ -51,7 +51,7 @@ module _ (old : Running) (z : RunningTables) (kept : KeptTable)
   performed = record {
     allowed = does.allowed;
     makes = ap (at_moment now (old.state.steps + 1)) does.makes;
-    lasts = does.lasts;
+    tallies = does.tallies;
     few = does.few;
     sound = sound_after;
   }

@@ -12,7 +12,6 @@ use Rattle.zone_events.specs.declared.outcome.Outcome.{Outcome}
 use Rattle.ras_requests.specs.declared.conclusion.Conclusion.{Conclusion}
 use Rattle.ras_requests.specs.declared.conclusion.Conclusion.TheVariants as conclusion
 use Rattle.ras_requests.specs.Plans.{Plan, Served, Settled, Naming, Asking}
-use Rattle.zone_tables.specs.Pools.{lasts_after}
 use Rattle.ras_requests.specs.Requests.{endpoint_of, plan_of, seq_of, HasReply}
 use Rattle.zone_tables.specs.Soundness.{CountsOneMore}
 use Rattle.zone_tables.specs.Changes.{heard}
@@ -29,8 +28,8 @@ use Rattle.ras_machine.specs.Soundness.{AreBornBefore, Sound}
 use Rattle.ras_machine.specs.Turns.{IsDueIn, IsNothingDueIn}
 use Rattle.ras_machine.specs.Machine.{Choices, Course, Ignoring, Hearing, Repeating, Serving, Doing}
 use Rattle.ras_machine.specs.Machine.{Idle, at_moment, course_at, course_ending, retry_course, serving}
-use Rattle.ras_machine.specs.Steps.{HasFewOctets, IsAllowed, IsTimely, IsUnusedIn, ask_in}
-use Rattle.ras_machine.specs.Steps.{choices_of}
+use Rattle.ras_machine.specs.Steps.{HasFewOctets, IsAllowed, IsTimely, IsUnusedIn}
+use Rattle.ras_machine.specs.Steps.{choices_of, tallies_after}
 use Rattle.ras_machine.specs.inside.Room.{IsPlaced}
 
 -- an endpoint is heard as its request is served for the first time
@@ -43,7 +42,7 @@ pub record Does (old : Running) (now : ℕ) (c : Course) (outcome : Outcome)
     (new : Running) : Type 0 where
   pub allowed : IsAllowed old.state now c (choices_of outcome)
   pub makes : course_ending old.state now c (choices_of outcome) ≡ Some (outcome, new.state)
-  pub lasts : new.lasts ≡ lasts_after old.lasts (ask_in c) outcome.answer
+  pub tallies : new.tallies ≡ tallies_after old.tallies c outcome.answer
   pub counts : CountsOneMore old.state.tables.pools new.state.tables.pools
   pub births : AreBornBefore old.state.steps old.state.kept
       → AreBornBefore (old.state.steps + 1) new.state.kept
@@ -55,7 +54,7 @@ pub record Performs (old : Running) (now : ℕ) (c : Course) (outcome : Outcome)
   pub allowed : IsAllowed old.state now c (choices_of outcome)
   pub makes : at_moment now (old.state.steps + 1) (course_ending old.state now c (choices_of outcome))
       ≡ Some (outcome, new.state)
-  pub lasts : new.lasts ≡ lasts_after old.lasts (ask_in c) outcome.answer
+  pub tallies : new.tallies ≡ tallies_after old.tallies c outcome.answer
   pub few : HasFewOctets outcome.output
   pub sound : Sound new.state
 

@@ -1,9 +1,10 @@
 -- Steps of the machine.
 use Rattle.std.specs.Prelude.{ℕ, ◌≡◌, ◌≤◌, List, length, Some, Option, None, IfSome}
+use Rattle.pools.specs.declared.interface.Lend.{Lend}
 use Rattle.pools.specs.Account.{IsAnswer}
 use Rattle.kept_replies.specs.Kept.{NonePasses, Passes, is_over}
 use Rattle.zone_events.specs.declared.due_item.DueItem.{DueItem}
-use Rattle.zone_events.specs.declared.due_item.DueItem.TheVariants.{Retry}
+use Rattle.zone_events.specs.declared.due_item.DueItem.TheVariants.{PoolTurn, Retry}
 use Rattle.zone_events.specs.declared.event.Event.{Event}
 use Rattle.ras_machine.specs.declared.job.Occasion.{Occasion}
 use Rattle.ras_machine.specs.declared.job.Occasion.TheVariants.{First, Again}
@@ -14,7 +15,8 @@ use Rattle.zone_events.specs.declared.outcome.Note.TheVariants as note
 use Rattle.zone_events.specs.declared.outcome.Outcome.{Outcome}
 use Rattle.ras_machine.specs.State.{State}
 use Rattle.zone_tables.specs.Pools.{figures_at}
-use Rattle.zone_tables.specs.Pools.{RequestedUnits}
+use Rattle.zone_tables.specs.Pools.{RequestedUnits, tallies_after_answer, tallies_after_turn}
+use Rattle.zone_tables.specs.Tables.{Tally}
 use Rattle.ras_requests.specs.Plans.{Plan, Settled, Naming, Asking}
 use Rattle.ras_machine.specs.Unused.{IsUnusedFor}
 use Rattle.ras_machine.specs.Turns.{IsDueIn, IsNothingDueIn}
@@ -79,6 +81,19 @@ ask_in_plan (Asking ask lent refused) = Some ask
 abbrev pub ask_in : Course → Option RequestedUnits
 ask_in (Serving task) = ask_in_plan task.plan
 ask_in other = None
+
+-- a pool was asked, if one is
+abbrev pub tallies_after_ask : List Tally → Option RequestedUnits → Option Lend → List Tally
+tallies_after_ask tallies (Some ask) (Some answer) = tallies_after_answer tallies ask answer
+tallies_after_ask tallies (Some ask) None = tallies
+tallies_after_ask tallies None answer = tallies
+
+-- The tallies of the pools after what an event calls for. At the turn of the pools each of them makes
+-- one turn. Else the pool that is asked is asked once, with this answer; the tallies of all others
+-- stay, and all stay if none is asked.
+abbrev pub tallies_after : List Tally → Course → Option Lend → List Tally
+tallies_after tallies (Doing PoolTurn) answer = tallies_after_turn tallies
+tallies_after tallies other answer = tallies_after_ask tallies (ask_in other) answer
 
 -- an output has at most 20,000 octets
 abbrev pub HasFewOctets : Option Datagram → Type 0

@@ -2,7 +2,8 @@
 
 ghost use Rattle.std.specs.Prelude.{◌≡◌, ◌<◌, ◌≤◌, ◌^◌, ◌+◌, ◌↔◌, All, IfOk, IsTrue, OnErr, length, map};
 ghost use Rattle.pools.specs.Account.{is_idle};
-ghost use Rattle.zone_tables.specs.Pools.{figures_of, figures_without_loans, lasts_of};
+ghost use Rattle.pools.specs.Members.{accounts_of};
+ghost use Rattle.zone_tables.specs.Pools.{figures_of, figures_without_loans, lasts_of, tallies_of};
 ghost use Rattle.zone_tables.specs.Soundness.{HasCounts};
 ghost use Rattle.ras_machine.specs.State.{opening};
 ghost use Rattle.ras_machine.specs.Machine.{Hearing, most_steps};
@@ -56,7 +57,7 @@ impl<P: Pool> Model for Machine<P> {
         next_pool_turn = m.next_pool_turn;
         steps = m.steps;
       };
-      lasts = m.tables.lasts;
+      tallies = m.tables.tallies;
     } };
 
     ghost invariant = { λ m.
@@ -67,10 +68,10 @@ impl<P: Pool> Machine<P> {
     /// A machine in which no step was made. The pools have nothing lent, and are as many as the
     /// settings have networks.
     pub fn new(alloc: Global, config: Config, pools: PoolSet<P>) -> Self
-        requires idle { All (λ a. IsTrue (is_idle a)) pools }
+        requires idle { All (λ m. IsTrue (is_idle m.account)) pools }
         requires each { length pools ≡ length config.networks }
-        ensures opening { result.state ≡ opening config (figures_of pools) }
-        ensures lasts { result.lasts ≡ lasts_of pools }
+        ensures opening { result.state ≡ opening config (figures_of (accounts_of pools)) }
+        ensures tallies { result.tallies ≡ tallies_of pools }
         ensures sound { Sound result.state }
     {
         let kept = Kept::new(alloc, config.kept());
@@ -118,7 +119,8 @@ impl<P: Pool> Machine<P> {
     pub fn close(self) -> Vec<P>
         ensures figures { figures_of (map P.account result.items)
             ≡ figures_without_loans self.state.tables.pools }
-        ensures lasts { lasts_of (map P.account result.items) ≡ self.lasts }
+        ensures lasts { lasts_of (map P.account result.items)
+            ≡ map (λ t. t.last) self.tallies }
     {
         let Machine { tables, .. } = self;
         tables.close()

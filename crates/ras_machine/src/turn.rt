@@ -135,7 +135,7 @@ impl<P: Pool> Machine<P> {
         Outcome::noted(Note::Done(DueItem::KeptOver(born)), None)
     }
 
-    /// The pools make a turn, and the next one is later.
+    /// Each pool makes a turn, and the next one is later.
     fn turn_pools(&mut self, now: Moment) -> Outcome
         requires { IsDueIn self.old.state now DueItem.PoolTurn }
         ensures { Does self.old now (Doing DueItem.PoolTurn) result self.new }

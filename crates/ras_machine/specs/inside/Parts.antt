@@ -18,7 +18,7 @@ running_of z kept clock interrogation_number next_pool_turn steps = record {
     next_pool_turn = next_pool_turn;
     steps = steps;
   };
-  lasts = z.lasts;
+  tallies = z.tallies;
 }
 
 -- what its parts keep by their types, and how they fit together; so many steps were made

@@ -56,7 +56,7 @@ returns-clause-does g c plan request is =
     let applied : c.apply.new.self ≡ changed i.tables now d.change =
     on_ok c.apply.result c.in_ok-apply.field-0 c.in_ok-apply.was c.apply.ensures.ok in
     let tables_is : tables
-    ≡ zone_after i.tables.tables i.tables.lasts now job.occasion endpoint d.change =
+    ≡ zone_after i.tables.tables i.tables.tallies now job.occasion endpoint d.change =
     c.hear.ensures.heard ∙ ap (λ (z : RunningTables). heard_at z job.occasion now endpoint) applied in
     let until_is : c.term-term.result.until ≡ now + i.tables.tables.config.window =
     ap (λ t. t.until) (c.term-term.ensures.same
@@ -82,7 +82,7 @@ returns-clause-does g c plan request is =
     }) in
     let new : Running = record {
       state = record old.state { tables = tables.tables; kept = kept };
-      lasts = tables.lasts;
+      tallies = tables.tallies;
     } in
     let due : Outcome = record {
       answer = None;

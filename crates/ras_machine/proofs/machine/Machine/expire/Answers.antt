@@ -16,7 +16,7 @@ returns g c =
     let rows_are = sym c.drop_born.ensures.becomes.rows in
     let new : Running = record {
       state = record old.state { kept = c.drop_born.new.self.kept };
-      lasts = old.lasts;
+      tallies = old.tallies;
     } in
     does_item old _ c.self.view_is c.args.now (KeptOver c.args.born) c.requires
     None c.noted.result c.noted.ensures new

@@ -15,7 +15,7 @@ returns g c =
     let id = c.args.endpoint in
     let new : Running = record {
       state = record old.state { tables = c.hear.new.self.tables };
-      lasts = c.hear.new.self.lasts;
+      tallies = c.hear.new.self.tallies;
     } in
     subst (λ (m : Running). Does m c.args.now (Hearing id) c.noted.result new) c.self.view_is
     (subst (λ (o : Outcome). Does old c.args.now (Hearing id) o new) (sym c.noted.ensures)

@@ -32,7 +32,7 @@ returns-clause-does g c =
         tables = c.interrogated.new.self.tables;
         interrogation_number = number.result;
       };
-      lasts = c.interrogated.new.self.lasts;
+      tallies = c.interrogated.new.self.tallies;
     } in
     let there : fin.get i.tables.tables.live c.args.id ≡ Some c.unwrap.result.now =
     sym c.get.ensures.found ∙ ap option_copied c.unwrap.ensures in
@@ -42,7 +42,7 @@ returns-clause-does g c =
     (ap (option_map (inquiry i.interrogation_number)) there
     ∙ ap Some (sym c.in_ok-output.ensures.encoded))
     (λ j. record old.state { tables = zone_is j; interrogation_number = sym number.ensures j })
-    c.interrogated.ensures.lasts
+    c.interrogated.ensures.tallies
     (subst (λ (z : Tables). AreSameButLent i.tables.tables.pools z.pools) zone_is
     (same_after_end i.tables.tables.pools None))
     (λ before. born_same i.kept.kept i.steps before) c.in_ok-output.ensures.few

@@ -7,7 +7,7 @@ use Rattle.zone_config.specs.declared.config.ConfigParts.{ConfigParts}
 use Rattle.ras_machine.specs.State.{Running}
 use Rattle.zone_tables.specs.Parts.{RunningTables}
 use Rattle.ras_machine.specs.inside.Parts.{running_of}
-use Rattle.zone_tables.specs.Pools.{pools_after_answer, lasts_after}
+use Rattle.zone_tables.specs.Pools.{pools_after_answer, tallies_after_answer}
 use Rattle.ras_machine.specs.Keeping.{dropped_for, kept_with, plan_at, state_after}
 use Rattle.zone_config.specs.Terms.{term_of}
 use Rattle.ras_machine.specs.Machine.{Serving, note_at}
@@ -59,10 +59,10 @@ returns-clause-does g c plan asks =
         calls = calls_after_answer q answer i.tables.tables.calls;
         pools = pools_after_answer i.tables.tables.pools q.pool answer;
       };
-      lasts = lasts_after i.tables.lasts (Some (units_requested q)) (Some answer);
+      tallies = tallies_after_answer i.tables.tallies (units_requested q) answer;
     } in
     let asked_is : c.request_units.new.self ≡ asked =
-    λ j. record { tables = c.in_ok-answer.ensures.tables j; lasts = c.in_ok-answer.ensures.lasts j } in
+    λ j. record { tables = c.in_ok-answer.ensures.tables j; tallies = c.in_ok-answer.ensures.tallies j } in
     let tables_is : tables ≡ heard_at asked job.occasion now (Some id) =
     c.hear.ensures.heard ∙ ap (λ (z : RunningTables). heard_at z job.occasion now (Some id)) asked_is in
     let config_is = c.config-config.ensures.same in
@@ -91,7 +91,7 @@ returns-clause-does g c plan asks =
     }) in
     let new : Running = record {
       state = record old.state { tables = tables.tables; kept = kept };
-      lasts = tables.lasts;
+      tallies = tables.tallies;
     } in
     let bytes_is : c.from_vec-bytes.result ≡ encoding_of reply = search rules in
     let due : Outcome = record {

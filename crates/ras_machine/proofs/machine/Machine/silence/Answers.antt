@@ -29,9 +29,9 @@ returns g c =
     running_of i.tables i.kept.kept i.clock i.interrogation_number i.next_pool_turn i.steps in
     let left = c.silence.new.self in
     let new : Running =
-    record { state = record old.state { tables = left.tables }; lasts = left.lasts } in
+    record { state = record old.state { tables = left.tables }; tallies = left.tallies } in
     does_item old _ c.self.view_is c.args.now (Silent c.args.id) c.requires
     None c.noted.result c.noted.ensures new
     refl (ap (λ (z : Tables). record old.state { tables = z }) (sym c.silence.ensures.tables))
-    c.silence.ensures.lasts c.silence.ensures.pools
+    c.silence.ensures.tallies c.silence.ensures.pools
     (λ before. born_same i.kept.kept i.steps before) tt
