@@ -6,4 +6,6 @@ pub mod Choosing
 pub mod Carrying
 pub mod Asking
 pub mod Noting
+pub mod PlansFor
+pub mod Waiting
 pub mod Performing

@@ -7,7 +7,7 @@ use Rattle.zone_tables.specs.Parts.{RunningTables}
 use Rattle.zone_tables.specs.Soundness.{HasCounts}
 use Rattle.ras_machine.specs.State.{Running}
 use Rattle.ras_machine.specs.Machine.{Course, at_moment, most_steps}
-use Rattle.ras_machine.specs.Soundness.{Sound}
+use Rattle.ras_machine.specs.Soundness.{AllWaitInProgress, Sound}
 use Rattle.ras_machine.specs.Courses.{Does, Performs}
 use Rattle.ras_machine.specs.inside.Parts.{AreSoundParts, running_of}
 
@@ -23,6 +23,7 @@ module _ (old : Running) (z : RunningTables) (kept : KeptTable)
     (clock interrogation_number next_pool_turn steps now : ℕ) (c : Course) (outcome : Outcome)
     (does : Does old now c outcome
     (running_of z kept.kept clock interrogation_number next_pool_turn steps))
+    (waiting : AllWaitInProgress z.tables.config.delay kept.kept)
     (sound : Sound old.state) (parts : AreSoundParts z kept clock interrogation_number steps)
     (moment : now < 2 ^ 53) (few_steps : old.state.steps < most_steps) where
   abbrev pub after : Running
@@ -41,6 +42,7 @@ module _ (old : Running) (z : RunningTables) (kept : KeptTable)
         entries = parts.kept.each;
         births = parts.kept.births;
         born = does.births sound.born;
+        waiting = waiting;
         clock = moment;
         least_number = parts.least_number;
         most_number = parts.most_number;

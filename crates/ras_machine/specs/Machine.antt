@@ -120,8 +120,9 @@ abbrev pub datagram_course : State → ℕ → KeptKey → Option ℕ → Course
 datagram_course s now key dropped = message_course s now key dropped (message_in key.bytes)
 
 -- A request that waits is served again. (The cases in which nothing is done are those of an
--- entry that isn't there, doesn't wait, or has a request without a plan; no run from the opening
--- state meets them.)
+-- entry that isn't there or doesn't wait, and such an entry is never due; and of a request without
+-- a plan. In a sound state each request that waits is an AdmissionRequest or a BandwidthRequest,
+-- and so has a plan.)
 abbrev pub again : KeptKey → ℕ → ℕ → Job
 again key born left = record { key = key; occasion = Again born left }
 

@@ -4,8 +4,9 @@ use Rattle.kept_replies.specs.Kept.{KeptReplies}
 use Rattle.zone_tables.specs.Tables.{Tables}
 use Rattle.zone_tables.specs.Soundness.{HasCounts}
 use Rattle.zone_tables.proofs.PoolFigures.{All-idle}
-use Rattle.ras_machine.specs.Soundness.{AreBornBefore}
+use Rattle.ras_machine.specs.Soundness.{AllWaitInProgress, AreBornBefore}
 use Rattle.ras_machine.proofs.Dropping.{born_nothing}
+use Rattle.ras_machine.proofs.Waiting.{waiting_nothing}
 use Rattle.ras_machine.proofs.machine.Machine.new.Goals as goal
 
 pub returns-clause-sound : goal.returns-clause-sound
@@ -23,6 +24,8 @@ returns-clause-sound g c =
       births = c.new-kept.ensures.sound.births;
       born = subst (λ (k : KeptReplies). AreBornBefore 0 k) (sym c.new-kept.ensures.kept)
           (born_nothing 0);
+      waiting = subst (λ (k : KeptReplies). AllWaitInProgress c.new.result.tables.config.delay k)
+          (sym c.new-kept.ensures.kept) (waiting_nothing c.new.result.tables.config.delay);
       clock = omega arith;
       least_number = search rules;
       most_number = search rules;

@@ -1,8 +1,10 @@
 use Rattle.std.proofs.Common.{ap, subst, sym}
 use Rattle.ras_machine.specs.State.{Running}
 use Rattle.ras_machine.specs.Courses.{Does, Performs, course_of}
+use Rattle.ras_machine.specs.Steps.{choices_of}
 use Rattle.ras_machine.specs.inside.Parts.{running_of}
 use Rattle.ras_machine.proofs.Performing.{performed, stepped}
+use Rattle.ras_machine.proofs.Waiting.{waiting_after}
 use Rattle.ras_machine.proofs.machine.Machine.perform.Goals as goal
 
 pub returns-clause-performs : goal.returns-clause-performs
@@ -16,7 +18,10 @@ returns-clause-performs g c =
     let outcome = c.in_ok-outcome.outcome in
     let does = subst (λ (m : Running). Does old now course outcome m) (sym c.self-2.view_is)
     c.in_ok-outcome.ensures.does in
+    let waiting = waiting_after old.state now c.requires.sound.waiting c.args.course
+    (choices_of outcome) outcome left.state does.makes in
     subst (λ (m : Running). Performs old now course outcome m)
     (ap (λ (m : Running). stepped left now m.state.steps) (sym c.self.view_is))
     (performed old i.tables i.kept i.clock i.interrogation_number i.next_pool_turn i.steps now
-    course outcome does c.requires.sound c.self-2.invariant c.requires.moment c.requires.few)
+    course outcome does waiting c.requires.sound c.self-2.invariant c.requires.moment
+    c.requires.few)
