@@ -179,6 +179,7 @@ impl Calls {
         ensures two_legs { (result ≡ Err CallFault.TwoLegs)
             ↔ (length (legs_in (map.get self.old.calls key)) ≡ 2) }
         ensures no_call { (result ≡ Err CallFault.NoCall) ↔ (map.get self.old.calls key ≡ None) }
+        ensures memory { result ≢ Err CallFault.Memory }
         ensures err { OnErr result (self.new ≡ self.old) }
     {
         let Some(call) = self.get(&key) else {
@@ -199,6 +200,7 @@ impl Calls {
         ensures changes { IsOk result ↔ IsSome (map.get self.old.calls key.now) }
         ensures no_call { (result ≡ Err CallFault.NoCall)
             ↔ (map.get self.old.calls key.now ≡ None) }
+        ensures memory { result ≢ Err CallFault.Memory }
         ensures err { OnErr result (self.new ≡ self.old) }
     {
         let Some(_call) = self.get(key) else {
@@ -219,6 +221,7 @@ impl Calls {
             ↔ (map.get self.old.calls key.now ≡ None) }
         ensures no_leg { (result ≡ Err CallFault.NoLeg) ↔ (IsSome (map.get self.old.calls key.now)
             × (leg_at self.old.calls key.now endpoint.now ≡ None)) }
+        ensures memory { result ≢ Err CallFault.Memory }
         ensures err { OnErr result (self.new ≡ self.old) }
     {
         let Some(call) = self.get(key) else {
