@@ -4,6 +4,7 @@
 
 mod call;
 mod call_list;
+mod copies;
 mod fault;
 mod leg;
 mod legs;

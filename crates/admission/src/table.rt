@@ -12,6 +12,7 @@ ghost use Rattle.admission.specs.inside.Stored.{Rewrites, with_legs_but};
 
 use crate::call::Call;
 use crate::call_list::{CallList, rising};
+use crate::copies::copies_of;
 use crate::fault::CallFault;
 use crate::leg::Leg;
 use crate::legs::Legs;
@@ -68,6 +69,18 @@ impl Calls {
             calls: IndexMap::new(alloc),
             most,
         }
+    }
+
+    /// A table of copies of these calls.
+    pub fn copy(&self) -> Result<Self, AllocError>
+        ensures calls { IfOk result (λ copy. copy.calls ≡ self.now.calls) }
+        ensures most { IfOk result (λ copy. copy.most ≡ self.now.most) }
+    {
+        let calls = copies_of(*self.calls.allocator(), &self.calls)?;
+        Ok(Calls {
+            calls,
+            most: self.most,
+        })
     }
 
     /// How many calls are open.

@@ -60,6 +60,14 @@ impl AliasTable {
         }
     }
 
+    /// An equal table.
+    pub fn copy(&self) -> Result<Self, AllocError>
+        ensures { IfOk result (λ copy. copy.held ≡ self.now.held) }
+    {
+        let rows = Vec::from_slice(*self.rows.allocator(), &self.rows)?;
+        Ok(AliasTable { rows })
+    }
+
     /// Who holds the alias.
     pub fn holder(&self, alias: &Alias) -> Option<&EndpointId>
         ensures { option_copied result ≡ holder_of self.now.held alias.now }

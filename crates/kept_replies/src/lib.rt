@@ -2,6 +2,7 @@
 //! (H.225.0, RAS timers and request in progress).
 #![tactic(auto)]
 
+mod copies;
 mod entry;
 mod fault;
 mod key;

@@ -10,6 +10,7 @@ ghost use Rattle.kept_replies.specs.Kept.{births, done, pending, is_over, is_ret
 ghost use Rattle.kept_replies.specs.inside.Stored.{Puts, Rewrites, Removes};
 ghost use Rattle.indexmap.specs.IndexMap.{get, spare};
 
+use crate::copies::copies_of;
 use crate::entry::{KeptEntry, KeptState};
 use crate::fault::ReserveFault;
 use crate::key::KeptKey;
@@ -61,6 +62,18 @@ impl Kept {
             rows: IndexMap::new(alloc),
             most,
         }
+    }
+
+    /// A table of copies of what is kept.
+    pub fn copy(&self) -> Result<Self, AllocError>
+        ensures kept { IfOk result (λ copy. copy.kept ≡ self.now.kept) }
+        ensures most { IfOk result (λ copy. copy.most ≡ self.now.most) }
+    {
+        let rows = copies_of(*self.rows.allocator(), &self.rows)?;
+        Ok(Kept {
+            rows,
+            most: self.most,
+        })
     }
 
     /// How many replies are kept.

@@ -8,3 +8,4 @@ pub mod Lists
 pub mod Searches
 pub mod Entries
 pub mod Listed
+pub mod Inserted

@@ -58,7 +58,10 @@ pub(crate) fn rising(alloc: Global, items: &[Registration]) -> Result<Registrati
     Ok(RegistrationList { items: copies })
 }
 
-fn copies_of(alloc: Global, items: &[Registration]) -> Result<Vec<Registration>, AllocError>
+pub(crate) fn copies_of(
+    alloc: Global,
+    items: &[Registration],
+) -> Result<Vec<Registration>, AllocError>
     ensures { IfOk result (λ copies. copies.items ≡ items.now) }
 {
     let mut copies = Vec::new(alloc);

@@ -12,7 +12,7 @@ ghost use Rattle.registrations.specs.Registry.{at_address, IsUnused, IsListOf, I
 
 use crate::fault::AddFault;
 use crate::fresh::{is_used, unused_from};
-use crate::list::{RegistrationList, rising};
+use crate::list::{RegistrationList, copies_of, rising};
 use crate::number::{number_in, numbered};
 use crate::registration::Registration;
 use ras_module::{Address, EndpointId, ReplyAliases};
@@ -64,6 +64,20 @@ impl Registrations {
             most,
             lowest: 1,
         }
+    }
+
+    /// A table of copies of these registrations, in the same order.
+    pub fn copy(&self) -> Result<Self, AllocError>
+        ensures live { IfOk result (λ copy. copy.live ≡ self.now.live) }
+        ensures most { IfOk result (λ copy. copy.most ≡ self.now.most) }
+        ensures order { IfOk result (λ copy. copy.order ≡ self.now.order) }
+    {
+        let items = copies_of(*self.items.allocator(), &self.items)?;
+        Ok(Registrations {
+            items,
+            most: self.most,
+            lowest: self.lowest,
+        })
     }
 
     /// How many endpoints are registered.

@@ -1,6 +1,6 @@
 //! What is set for a zone.
 
-ghost use Rattle.std.specs.Prelude.{◌≡◌, ◌≤◌, ◌<◌, ◌^◌, None};
+ghost use Rattle.std.specs.Prelude.{◌≡◌, ◌≤◌, ◌<◌, ◌^◌, IfOk, None};
 ghost use Rattle.std.specs.List.{find};
 ghost use Rattle.std.specs.Option.{option_copied};
 ghost use Rattle.zone_config.specs.Ranges.{config_fault_number, is_outside, range_fault};
@@ -13,6 +13,7 @@ use crate::moment::Moment;
 use crate::network::Networks;
 use crate::term::Term;
 use ras_module::{Address, Delay, Name, TimeToLive};
+use std::alloc::AllocError;
 use std::marker::Model;
 use thiserror::Error;
 
@@ -80,6 +81,31 @@ impl ConfigParts {
             pool_turn: Key::PoolTurn.default(),
             networks,
         }
+    }
+
+    /// Equal settings.
+    pub fn copy(&self) -> Result<Self, AllocError>
+        ensures { IfOk result (λ copy. copy ≡ self.now) }
+    {
+        let networks = self.networks.copy()?;
+        Ok(ConfigParts {
+            identifier: self.identifier,
+            address: self.address,
+            limit: self.limit,
+            call_limit: self.call_limit,
+            time_to_live: self.time_to_live,
+            endpoints: self.endpoints,
+            calls: self.calls,
+            kept: self.kept,
+            window: self.window,
+            silence: self.silence,
+            delay: self.delay,
+            retries: self.retries,
+            asks: self.asks,
+            ask_wait: self.ask_wait,
+            pool_turn: self.pool_turn,
+            networks,
+        })
     }
 }
 
@@ -164,6 +190,16 @@ impl Config {
         ensures ranges { IsConfig self.now }
     {
         &self.parts
+    }
+
+    /// Equal settings.
+    pub fn copy(&self) -> Result<Self, AllocError>
+        ensures copy { IfOk result (λ copy. copy ≡ self.now) }
+        ensures ranges { IfOk result IsConfig }
+    {
+        Ok(Config {
+            parts: self.parts.copy()?,
+        })
     }
 
     /// The settings, to be changed. This takes no memory.

@@ -1,9 +1,10 @@
 //! Networks of IPv4 addresses.
 
-ghost use Rattle.std.specs.Prelude.{◌≡◌};
+ghost use Rattle.std.specs.Prelude.{◌≡◌, IfOk};
 ghost use Rattle.std.specs.List.{list_any, position};
 ghost use Rattle.zone_config.specs.Networks.{front_bits, has_default, holds, is_too_long, pool_of, serves};
 
+use std::alloc::AllocError;
 use std::marker::Model;
 
 /// The IPv4 addresses that begin with the same bits.
@@ -60,6 +61,14 @@ impl Networks {
         ensures { result.now ≡ self.now }
     {
         &self.items
+    }
+
+    /// An equal list.
+    pub fn copy(&self) -> Result<Self, AllocError>
+        ensures { IfOk result (λ copy. copy ≡ self.now) }
+    {
+        let items = Vec::from_slice(*self.items.allocator(), &self.items)?;
+        Ok(Networks { items })
     }
 
     /// The place of the first pool that serves the address.

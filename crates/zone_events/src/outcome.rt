@@ -1,6 +1,6 @@
 //! What a step answers.
 
-ghost use Rattle.std.specs.Prelude.{◌≡◌, None};
+ghost use Rattle.std.specs.Prelude.{◌≡◌, ◌≤◌, [], IfSome, None, length, vec_capacity};
 ghost use Rattle.zone_events.specs.Events.{cause_number, noted_outcome};
 
 use crate::due_item::DueItem;
@@ -12,6 +12,22 @@ use ras_module::{EndpointId, Octets, Source};
 pub struct Datagram {
     pub to: Source,
     pub bytes: Octets,
+}
+
+impl Datagram {
+    /// An equal datagram, whose octets stand in this empty buffer. This takes no memory.
+    pub fn copy_into(&self, buffer: Vec<u8>) -> Self
+        requires empty { buffer.items ≡ [] }
+        requires room { length self.now.bytes ≤ vec_capacity buffer }
+        ensures { result ≡ self.now }
+    {
+        let mut bytes = buffer;
+        bytes.extend_from_slice(self.bytes.as_slice()).unwrap();
+        Datagram {
+            to: self.to,
+            bytes: Octets::from_vec(bytes),
+        }
+    }
 }
 
 /// Why a datagram was ignored: nothing is sent for it, and nothing but the clock and the number of
@@ -83,6 +99,27 @@ impl Outcome {
             note,
             dropped: None,
             given: None,
+        }
+    }
+
+    /// An equal outcome, of which the octets that are sent stand in this empty buffer. This takes no
+    /// memory.
+    pub fn copy_into(&self, buffer: Vec<u8>) -> Self
+        requires empty { buffer.items ≡ [] }
+        requires room { IfSome self.now.output
+            (λ output. length output.bytes ≤ vec_capacity buffer) }
+        ensures { result ≡ self.now }
+    {
+        let output = match &self.output {
+            Some(output) => Some(output.copy_into(buffer)),
+            None => None,
+        };
+        Outcome {
+            answer: self.answer,
+            output,
+            note: self.note,
+            dropped: self.dropped,
+            given: self.given,
         }
     }
 

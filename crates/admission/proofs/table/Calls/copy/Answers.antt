@@ -1,0 +1,7 @@
+use Rattle.admission.proofs.StoredCalls.{AreStored-same}
+use Rattle.admission.proofs.table.Calls.copy.Goals as goal
+
+pub invariant_of-result : goal.invariant_of-result
+invariant_of-result c =
+    AreStored-same c.self.inside.calls c.in_ok-calls.calls c.self.inside.most c.self.invariant
+    c.in_ok-calls.ensures
