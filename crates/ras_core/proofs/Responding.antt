@@ -25,7 +25,7 @@ running_step old what outcome new few p =
         allowed = p.allowed;
         makes = ap (λ b. if b then at_moment now (s.steps + 1) ending else None) below ∙ p.makes;
       };
-      lasts = p.lasts;
+      tallies = p.tallies;
       few = p.few;
       sound = p.sound;
     }

@@ -5,25 +5,24 @@ use Rattle.admission.specs.Calls.{in_use}
 use Rattle.zone_events.specs.declared.event.Event.{Event}
 use Rattle.zone_events.specs.declared.outcome.Outcome.{Outcome}
 use Rattle.zone_tables.specs.Soundness.{IsLentTo}
-use Rattle.zone_tables.specs.Pools.{lasts_after}
 use Rattle.ras_machine.specs.State.{State, Running}
 use Rattle.ras_machine.specs.Soundness.{Sound}
 use Rattle.ras_machine.specs.Machine.{course}
-use Rattle.ras_machine.specs.Steps.{HasFewOctets, Step, ask_in, choices_of}
+use Rattle.ras_machine.specs.Steps.{HasFewOctets, Step, choices_of, tallies_after}
 
 -- step after step, over entries of an event with its outcome
 abbrev pub Run : State → List (Event × Outcome) → State → Type 0
 Run s [] after = after ≡ s
 Run s (entry ∷ entries) after = (mid : State) × Step s entry.0 entry.1 mid × Run mid entries after
 
--- One step of a gatekeeper as it runs: the machine makes it; the pool that is asked has that
--- request, with the outcome's answer, as its last one, and no other pool's last request changes;
--- what is sent has at most 20,000 octets; and the state after it is sound.
+-- One step of a gatekeeper as it runs: the machine makes it; the pools were asked, and made their
+-- turn, as often as the machine calls for, and the pool that was asked gave the outcome's answer; what
+-- is sent has at most 20,000 octets; and the state after it is sound.
 pub record RunningStep (old : Running) (event : Event) (outcome : Outcome)
     (new : Running) : Type 0 where
   pub step : Step old.state event outcome new.state
-  pub lasts : new.lasts
-      ≡ lasts_after old.lasts (ask_in (course old.state event (choices_of outcome))) outcome.answer
+  pub tallies : new.tallies
+      ≡ tallies_after old.tallies (course old.state event (choices_of outcome)) outcome.answer
   pub few : HasFewOctets outcome.output
   pub sound : Sound new.state
 

@@ -6,7 +6,8 @@ ghost use Rattle.std.specs.FinMap as fin;
 ghost use Rattle.registrations.specs.Registry.{IsListOf};
 ghost use Rattle.admission.specs.Calls.{in_use};
 ghost use Rattle.pools.specs.Account.{is_idle};
-ghost use Rattle.zone_tables.specs.Pools.{figures_of, figures_without_loans, lasts_of};
+ghost use Rattle.pools.specs.Members.{accounts_of};
+ghost use Rattle.zone_tables.specs.Pools.{figures_of, figures_without_loans, lasts_of, tallies_of};
 ghost use Rattle.ras_machine.specs.State.{opening};
 ghost use Rattle.ras_machine.specs.Machine.{most_steps};
 ghost use Rattle.ras_machine.specs.Soundness.{Sound};
@@ -24,7 +25,8 @@ use zone_config::{Config, Moment};
 use zone_events::{Event, Outcome};
 
 /// The zone of one gatekeeper, with the pools from which its calls have their bandwidth. Contracts see
-/// its state, which is always sound, and each pool's last request with its answer.
+/// its state, which is always sound, and beside it of each pool the last request with its answer, how
+/// often it was asked for units, and how many turns it made.
 #[derive(Drop)]
 pub struct Zone<P: Pool> {
     machine: Machine<P>,
@@ -46,17 +48,18 @@ impl<P: Pool> Model for Zone<P> {
 }
 
 impl<P: Pool> Zone<P> {
-    /// A zone in which no step was made, with pools that have nothing lent and counts below 2^62 each,
-    /// as `PoolSet::new` gives them. Its clock stands at 0. It is refused as WrongPools exactly where
+    /// A zone in which no step was made, with pools that have nothing lent, and fewer than 2^62
+    /// refusals and waits each, as `PoolSet::new` gives them. Its clock stands at 0. It is refused as WrongPools exactly where
     /// there is another number of pools than of networks; the pools then come back.
     pub fn new(
         alloc: Global,
         config: Config,
         pools: PoolSet<P>,
     ) -> Result<Self, (PoolSet<P>, NewFault)>
-        requires { All (λ a. IsTrue (is_idle a)) pools }
-        ensures opening { IfOk result (λ zone. zone.state ≡ opening config (figures_of pools)) }
-        ensures lasts { IfOk result (λ zone. zone.lasts ≡ lasts_of pools) }
+        requires { All (λ m. IsTrue (is_idle m.account)) pools }
+        ensures opening { IfOk result (λ zone. zone.state
+            ≡ opening config (figures_of (accounts_of pools))) }
+        ensures tallies { IfOk result (λ zone. zone.tallies ≡ tallies_of pools) }
         ensures sound { IfOk result (λ zone. Sound zone.state) }
         ensures wrong { (result ≡ Err (pools, NewFault.WrongPools))
             ↔ (length pools ≢ length config.networks) }
@@ -149,12 +152,13 @@ impl<P: Pool> Zone<P> {
         self.machine.tables().in_use()
     }
 
-    /// Ends the zone. Its pools come back in their order, with nothing lent; their limits, counts and
-    /// last answers stay.
+    /// Ends the zone. Its pools come back in their order, with nothing lent; their limits, refusals,
+    /// waits and last answers stay.
     pub fn close(self) -> Vec<P>
         ensures figures { figures_of (map P.account result.items)
             ≡ figures_without_loans self.state.tables.pools }
-        ensures lasts { lasts_of (map P.account result.items) ≡ self.lasts }
+        ensures lasts { lasts_of (map P.account result.items)
+            ≡ map (λ t. t.last) self.tallies }
     {
         let Zone { machine } = self;
         machine.close()
