@@ -181,6 +181,63 @@ fn dropped_set_asks_once_and_drops_pools_with_nothing_lent(rt: HostRuntime) -> R
     Ok(())
 }
 
+/// How often a set says that it asked a pool, and how often it told it that time went on.
+fn counted<P: Pool>(set: &PoolSet<P>, i: usize) -> Option<(u64, u64)> {
+    if i < set.len() {
+        Some((set.requests(i), set.turns(i)))
+    } else {
+        None
+    }
+}
+
+/// Asks the first pool of a set three times and the second once, gives units back, makes two turns, and says what
+/// the set counted of the two.
+fn ask_and_turn<P: Pool>(pools: Vec<P>) -> Option<((u64, u64), (u64, u64))> {
+    let Ok(mut set) = PoolSet::new(pools) else {
+        return None;
+    };
+    let _lent = ask(&mut set, 0, 70)?;
+    let _refused = ask(&mut set, 0, 70)?;
+    set.turn();
+    let _lent = ask(&mut set, 0, 10)?;
+    let _second = ask(&mut set, 1, 50)?;
+    let _left = give_back(&mut set, 1, 20)?;
+    set.turn();
+    Some((counted(&set, 0)?, counted(&set, 1)?))
+}
+
+/// Two pools, each of which tells for itself what it has met.
+fn marked_apart(alloc: Global, first: &Arc<Seen>, second: &Arc<Seen>) -> Result<Vec<Boxed>, Fail> {
+    let mut pools: Vec<Boxed> = Vec::new(alloc);
+    pools.push(Box::new(alloc, MarkedPool::new(1, Arc::clone(first)?))?)?;
+    pools.push(Box::new(alloc, MarkedPool::new(2, Arc::clone(second)?))?)?;
+    Ok(pools)
+}
+
+/// How often a pool was asked, and how often it had its turn.
+fn met(seen: &Seen) -> (u64, u64) {
+    (
+        seen.lends.load(Ordering::SeqCst),
+        seen.turns.load(Ordering::SeqCst),
+    )
+}
+
+#[test]
+fn set_counts_what_it_calls_of_each_pool(rt: HostRuntime) -> Result<(), Fail> {
+    let first = Arc::new(rt.alloc(), Seen::new())?;
+    let second = Arc::new(rt.alloc(), Seen::new())?;
+    let pools = marked_apart(rt.alloc(), &first, &second)?;
+    let counts = ask_and_turn(pools);
+    let first_met = met(&first);
+    let second_met = met(&second);
+    drop(first);
+    drop(second);
+    assert_eq!(rt; counts, Some(((3, 2), (1, 2))));
+    assert_eq!(rt; first_met, (3, 2));
+    assert_eq!(rt; second_met, (1, 2));
+    Ok(())
+}
+
 /// Whether these are three pools, the first with 100 units, nothing lent and one refusal.
 fn are_three(pools: &[Boxed]) -> bool {
     let [first, _, _] = pools else {

@@ -4,3 +4,4 @@ pub mod KnownBytes
 pub mod Inputs
 pub mod Printing
 pub mod Running
+pub mod Starting

@@ -1,14 +1,16 @@
 -- What a run of a script answers, and what it writes.
-use Rattle.std.specs.Prelude.{ℕ, ◌≡◌, ◌<◌, ◌==◌, ◌&&◌, Bool, IsTrue, zero, suc, List, [], length, take}
+use Rattle.std.specs.Prelude.{ℕ, ◌≡◌, ◌<◌, ◌==◌, ◌&&◌, Bool, IsTrue, zero, suc, List, [], length}
+use Rattle.std.specs.Prelude.{map, take}
 use Rattle.std.specs.Prelude.{Option, is_none, Result, Ok, Err}
 use Rattle.std.specs.Io.KnownBytes.{Keeps, Appends}
 use Rattle.pools.specs.Account.{Account}
+use Rattle.pools.specs.Members.{new_member}
 use Rattle.pools.specs.Accounts.{pool_fault}
 use Rattle.zone_config.specs.declared.config.ConfigParts.{ConfigParts}
 use Rattle.zone_events.specs.declared.event.Event.{Event}
 use Rattle.zone_events.specs.declared.outcome.Outcome.{Outcome}
 use Rattle.ras_machine.specs.State.{Running, opening}
-use Rattle.zone_tables.specs.Pools.{figures_of, lasts_of}
+use Rattle.zone_tables.specs.Pools.{figures_of, tallies_of}
 use Rattle.ras_machine.specs.Machine.{most_steps}
 use Rattle.ras_core.specs.Runs.{RunsOn}
 use Rattle.script.specs.declared.fault.RunFault.{RunFault}
@@ -21,11 +23,11 @@ abbrev pub are_pools_of : ConfigParts → List Account → Bool
 are_pools_of config pools =
     is_none (pool_fault pools) && length pools == length config.networks
 
--- the zone of a script before its first event, with these pools
+-- the zone of a script before its first event, with these pools, as a set of them that was just made
 abbrev pub start_of : ConfigParts → List Account → Running
 start_of config pools = record {
   state = opening config (figures_of pools);
-  lasts = lasts_of pools;
+  tallies = tallies_of (map new_member pools);
 }
 
 -- These events were run from this zone to the one that is there after them, and what was written is

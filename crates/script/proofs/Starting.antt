@@ -1,0 +1,19 @@
+-- The zone of a script before its first event.
+use Rattle.std.proofs.Common.{◌≡◌, ◌∙◌, List, ap, map}
+use Rattle.pools.specs.Account.{Account}
+use Rattle.pools.specs.Members.{Member, accounts_of, new_member}
+use Rattle.pools.proofs.Changing.{accounts_of-new}
+use Rattle.zone_config.specs.declared.config.ConfigParts.{ConfigParts}
+use Rattle.zone_tables.specs.Pools.{figures_of, tallies_of}
+use Rattle.ras_machine.specs.State.{Running, opening}
+use Rattle.script.specs.Runs.{start_of}
+
+-- a zone that opens over a set of these pools that was just made
+pub start_is : (config : ConfigParts) (pools : List Account) (set : List Member) (zone : Running)
+    → set ≡ map new_member pools → zone.state ≡ opening config (figures_of (accounts_of set))
+    → zone.tallies ≡ tallies_of set → zone ≡ start_of config pools
+start_is config pools set zone made state tallies j = record {
+  state = (state ∙ (ap (λ (ms : List Member). opening config (figures_of (accounts_of ms))) made
+      ∙ ap (λ (bs : List Account). opening config (figures_of bs)) (accounts_of-new pools))) j;
+  tallies = (tallies ∙ ap tallies_of made) j;
+}
