@@ -1,5 +1,6 @@
 -- What waits stays in progress through each step.
-use Rattle.std.proofs.Common.{◌≡◌, ℕ, Bool, true, false, List, refl, sym, ◌∙◌, ap, subst, Some, None}
+use Rattle.std.proofs.Common.{◌≡◌, ℕ, Bool, true, false, List, refl, sym, ◌∙◌, ap, subst}
+use Rattle.std.proofs.Common.{Some, None}
 use Rattle.std.specs.Prelude.{Option, IfSome, if◌then◌else◌}
 use Rattle.std.specs.Option.{option_map}
 use Rattle.std.specs.FinMap as fin
@@ -20,7 +21,8 @@ use Rattle.zone_config.specs.declared.config.ConfigParts.{ConfigParts}
 use Rattle.zone_config.specs.Terms.{term_of}
 use Rattle.zone_events.specs.declared.due_item.DueItem.{DueItem}
 use Rattle.zone_events.specs.declared.due_item.DueItem.TheVariants.{RegistrationOver, Interrogate}
-use Rattle.zone_events.specs.declared.due_item.DueItem.TheVariants.{Silent, Retry, KeptOver, PoolTurn}
+use Rattle.zone_events.specs.declared.due_item.DueItem.TheVariants.{Silent, Retry, KeptOver}
+use Rattle.zone_events.specs.declared.due_item.DueItem.TheVariants.{PoolTurn}
 use Rattle.zone_events.specs.declared.outcome.Outcome.{Outcome}
 use Rattle.zone_tables.specs.Pools.{RequestedUnits}
 use Rattle.zone_tables.proofs.Departing.{settings_stay}
@@ -32,8 +34,10 @@ use Rattle.ras_machine.specs.declared.job.Occasion.{Occasion}
 use Rattle.ras_machine.specs.declared.job.Occasion.TheVariants.{First, Again}
 use Rattle.ras_machine.specs.State.{State}
 use Rattle.ras_machine.specs.Soundness.{AllWaitInProgress, MayRequestUnits, WaitsInProgress}
-use Rattle.ras_machine.specs.Keeping.{Progress, Task, after_drop, answered, answered_by, in_progress}
-use Rattle.ras_machine.specs.Keeping.{kept_after, kept_with, plan_at, served_again, state_after, waits}
+use Rattle.ras_machine.specs.Keeping.{Progress, Task, after_drop, answered, answered_by}
+use Rattle.ras_machine.specs.Keeping.{in_progress}
+use Rattle.ras_machine.specs.Keeping.{kept_after, kept_with, plan_at, served_again}
+use Rattle.ras_machine.specs.Keeping.{state_after, waits}
 use Rattle.ras_machine.specs.Keeping.{with_answered_pool}
 use Rattle.ras_machine.specs.Machine.{Choices, course_ending, ended, plan_ending, with_answer}
 use Rattle.ras_machine.specs.Machine.{with_name}

@@ -25,8 +25,8 @@ MayRequestUnits (Arq q) = Unit {0}
 MayRequestUnits (Brq q) = Unit {0}
 MayRequestUnits other = ⊥
 
--- if it waits, its request is such a one, and was told by its own number that it is in progress, with
--- this delay
+-- if it waits, its request is such a one, and was told by its own number that it is in progress,
+-- with this delay
 abbrev pub WaitsInProgress : ℕ → KeptState → Type 0
 WaitsInProgress delay (Done reply until) = Unit {0}
 WaitsInProgress delay (Pending request reply retry left) =
