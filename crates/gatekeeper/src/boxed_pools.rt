@@ -2,10 +2,10 @@
 
 ghost use Rattle.std.specs.Prelude.{◌≡◌, map, IfOk, IsTrue, OnErr};
 ghost use Rattle.pools.specs.Account.{opening_account};
-ghost use Rattle.pools.specs.Specs.{account_of};
+ghost use Rattle.pools.specs.Specs.{account_of, pool_of};
 ghost use Rattle.gatekeeper.specs.Replays.{RunsScript};
 
-use pools::{FixedPool, PacedPool, Pool, PoolSpec, StepPool};
+use pools::{Pool, PoolSpec, StandardPool};
 use script::{Output, RunFault, Script, run_script};
 use std::alloc::{AllocError, Global};
 use std::io::Write;
@@ -61,6 +61,17 @@ fn run_made<P: Pool, W: Write + Drop>(
     run_script(alloc, script, pools, out)
 }
 
+/// The pools that are described, in order, each of its kind and with nothing lent.
+fn pools_of(alloc: Global, specs: &[PoolSpec]) -> Result<Vec<StandardPool>, AllocError>
+    ensures { IfOk result (λ pools. pools.items ≡ map pool_of specs.now) }
+{
+    let mut pools = Vec::new(alloc);
+    for spec in specs {
+        pools.push(StandardPool::new(*spec))?;
+    }
+    Ok(pools)
+}
+
 /// Makes the pools of a script, each in a box, and runs it; nothing is written where there is no
 /// memory for the pools.
 pub fn run_with_pools<W: Write + Drop>(
@@ -71,17 +82,9 @@ pub fn run_with_pools<W: Write + Drop>(
     ensures run { IfOk result (RunsScript script out.old out.new) }
     ensures err { OnErr result (out.new ≡ out.old) }
 {
-    let mut pools: Vec<Box<dyn Pool + Send>> = Vec::new(alloc);
-    for spec in script.pools.as_slice() {
-        match *spec {
-            PoolSpec::Fixed { limit } => pools.push(Box::new(alloc, FixedPool::new(limit))?)?,
-            PoolSpec::Step { limit, step } => {
-                pools.push(Box::new(alloc, StepPool::new(limit, u64::from(step.get())))?)?;
-            }
-            PoolSpec::Paced { limit, burst } => {
-                pools.push(Box::new(alloc, PacedPool::new(limit, u64::from(burst.get())))?)?;
-            }
-        }
+    let mut boxes: Vec<Box<dyn Pool + Send>> = Vec::new(alloc);
+    for pool in pools_of(alloc, script.pools.as_slice())? {
+        boxes.push(Box::new(alloc, pool)?)?;
     }
-    Ok(run_made(alloc, script, pools, out))
+    Ok(run_made(alloc, script, boxes, out))
 }

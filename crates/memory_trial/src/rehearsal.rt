@@ -1,7 +1,7 @@
 //! Scripts that are run while memory is refused: step by step, and as a run.
 
 use crate::meter::Metered;
-use pools::{FixedPool, PacedPool, Pool, PoolSet, PoolSpec, StepPool};
+use pools::{Pool, PoolSet, StandardPool};
 use ras_core::{Event, Outcome, StepFault, Zone};
 use registrations::Registration;
 use script::{Input, Script, ScriptFault, read_script, write_outcomes};
@@ -227,15 +227,7 @@ fn try_rehearsal(rt: &impl Print, alloc: Global, text: &[u8], way: Way) -> Resul
     let script = script_of(alloc, text)?;
     let mut pools: Vec<Box<dyn Pool + Send>> = Vec::new(alloc);
     for spec in script.pools.as_slice() {
-        match *spec {
-            PoolSpec::Fixed { limit } => pools.push(Box::new(alloc, FixedPool::new(limit))?)?,
-            PoolSpec::Step { limit, step } => {
-                pools.push(Box::new(alloc, StepPool::new(limit, u64::from(step.get())))?)?;
-            }
-            PoolSpec::Paced { limit, burst } => {
-                pools.push(Box::new(alloc, PacedPool::new(limit, u64::from(burst.get())))?)?;
-            }
-        }
+        pools.push(Box::new(alloc, StandardPool::new(*spec))?)?;
     }
     perform(rt, alloc, script, pools, way)
 }
