@@ -19,8 +19,8 @@ const MOST: usize = 1_048_576;
 /// The octets that are asked for at a time.
 const CHUNK: usize = 4096;
 
-/// A reader that remembers whether its last read failed. Contracts see that beside the octets that it
-/// has left, where these are known.
+/// A reader that remembers whether its last read failed. Contracts see that beside the octets that
+/// it has left, where these are known.
 #[derive(Drop)]
 pub struct Input<R: Read + Drop> {
     reader: R,
