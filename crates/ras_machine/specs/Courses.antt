@@ -16,47 +16,53 @@ use Rattle.ras_requests.specs.Requests.{endpoint_of, plan_of, seq_of, HasReply}
 use Rattle.zone_tables.specs.Soundness.{CountsOneMore}
 use Rattle.zone_tables.specs.Changes.{heard}
 use Rattle.ras_requests.specs.Conclusions.{IsConclusion, IsFor}
-use Rattle.zone_tables.specs.Parts.{RunningTables}
+use Rattle.zone_tables.specs.Leaving.{AreSameButLent}
+use Rattle.zone_tables.specs.Pools.{RequestedUnits}
+use Rattle.zone_tables.specs.Tables.{Tables}
+use Rattle.pools.specs.declared.interface.Figures.{Figures}
+use Rattle.pools.specs.declared.interface.Lend.{Lend}
 use Rattle.ras_machine.specs.declared.course.Course as code
 use Rattle.ras_machine.specs.declared.course.Course.TheVariants as course
 use Rattle.ras_machine.specs.declared.course.Task as code_task
 use Rattle.ras_machine.specs.declared.job.Job.{Job}
 use Rattle.ras_machine.specs.declared.job.Occasion.{Occasion}
 use Rattle.ras_machine.specs.declared.job.Occasion.TheVariants.{First, Again}
-use Rattle.ras_machine.specs.State.{State, Running}
+use Rattle.ras_machine.specs.State.{State}
 use Rattle.ras_machine.specs.Soundness.{AreBornBefore, Sound}
 use Rattle.ras_machine.specs.Turns.{IsDueIn, IsNothingDueIn}
 use Rattle.ras_machine.specs.Machine.{Choices, Course, Ignoring, Hearing, Repeating, Serving, Doing}
 use Rattle.ras_machine.specs.Machine.{Idle, at_moment, course_at, course_ending, retry_course, serving}
 use Rattle.ras_machine.specs.Steps.{HasFewOctets, IsAllowed, IsTimely, IsUnusedIn}
-use Rattle.ras_machine.specs.Steps.{choices_of, tallies_after}
+use Rattle.ras_machine.specs.Steps.{IsAskedOnce, ask_in, choices_of, pools_after_ask}
 use Rattle.ras_machine.specs.inside.Room.{IsPlaced}
 
 -- an endpoint is heard as its request is served for the first time
-abbrev pub heard_at : RunningTables → Occasion → ℕ → Option (List ℕ) → RunningTables
+abbrev pub heard_at : Tables → Occasion → ℕ → Option (List ℕ) → Tables
 heard_at z (First dropped) now endpoint = heard z now endpoint
 heard_at z (Again born left) now endpoint = z
 
 -- What a course comes to, before the clock and the number of steps are set.
-pub record Does (old : Running) (now : ℕ) (c : Course) (outcome : Outcome)
-    (new : Running) : Type 0 where
-  pub allowed : IsAllowed old.state now c (choices_of outcome)
-  pub makes : course_ending old.state now c (choices_of outcome) ≡ Some (outcome, new.state)
-  pub tallies : new.tallies ≡ tallies_after old.tallies c outcome.answer
-  pub counts : CountsOneMore old.state.tables.pools new.state.tables.pools
-  pub births : AreBornBefore old.state.steps old.state.kept
-      → AreBornBefore (old.state.steps + 1) new.state.kept
+pub record Does (old : State) (now : ℕ) (c : Course) (outcome : Outcome) (new : State)
+    : Type 0 where
+  pub allowed : IsAllowed old now c (choices_of outcome)
+  pub makes : course_ending old now c (choices_of outcome) ≡ Some (outcome, new)
+  pub pools : AreSameButLent (pools_after_ask old.tables.pools (ask_in c) outcome.answer)
+      new.tables.pools
+  pub counts : CountsOneMore old.tables.pools new.tables.pools
+  pub births : AreBornBefore old.steps old.kept → AreBornBefore (old.steps + 1) new.kept
   pub few : HasFewOctets outcome.output
 
--- One step by a course: what the course comes to, with the clock at now and one step more.
-pub record Performs (old : Running) (now : ℕ) (c : Course) (outcome : Outcome)
-    (new : Running) : Type 0 where
-  pub allowed : IsAllowed old.state now c (choices_of outcome)
-  pub makes : at_moment now (old.state.steps + 1) (course_ending old.state now c (choices_of outcome))
-      ≡ Some (outcome, new.state)
-  pub tallies : new.tallies ≡ tallies_after old.tallies c outcome.answer
+-- One step by a course: what the course comes to, with the clock at now and one step more. Beside
+-- the answer of a pool that was asked, the pools' figures change only as units come back.
+pub record Performs (old : State) (now : ℕ) (c : Course) (outcome : Outcome) (new : State)
+    : Type 0 where
+  pub allowed : IsAllowed old now c (choices_of outcome)
+  pub makes : at_moment now (old.steps + 1) (course_ending old now c (choices_of outcome))
+      ≡ Some (outcome, new)
+  pub pools : AreSameButLent (pools_after_ask old.tables.pools (ask_in c) outcome.answer)
+      new.tables.pools
   pub few : HasFewOctets outcome.output
-  pub sound : Sound new.state
+  pub sound : Sound new
 
 -- a request finds a place for its reply, or has its entry
 abbrev pub IsPlacedIn : State → Job → Type 0
@@ -135,10 +141,17 @@ resolved (Naming named) (Some id) = Some (named id)
 resolved (Asking ask lent refused) given = None
 
 -- a request that is served makes this of the gatekeeper
-abbrev pub Serves : Running → ℕ → Job → Request → Outcome → Running → Type 0
+abbrev pub Serves : State → ℕ → Job → Request → Outcome → State → Type 0
 Serves old now job request outcome new =
-    (plan : Plan) → plan_of old.state.tables now request ≡ Some plan
+    (plan : Plan) → plan_of old.tables now request ≡ Some plan
     → Does old now (serving job now request plan) outcome new
+
+-- and who lends is asked for it once, where a pool is to be asked
+abbrev pub IsAskedFor : {L : Type 0} → (L → List Figures → RequestedUnits → Lend → L → Type 0)
+    → State → ℕ → Job → Request → Outcome → L → L → Type 0
+IsAskedFor lends s now job request outcome old new =
+    (plan : Plan) → plan_of s.tables now request ≡ Some plan
+    → IsAskedOnce lends old s.tables.pools (ask_in (serving job now request plan)) outcome.answer new
 
 -- this request may be served again, and that is what is to be done
 pub record IsAgain (s : State) (now born : ℕ) (job : Job) (request : Request) : Type 0 where

@@ -4,7 +4,7 @@ use Rattle.std.specs.FinMap.{empty}
 use Rattle.kept_replies.specs.Kept.{KeptReplies}
 use Rattle.pools.specs.declared.interface.Figures.{Figures}
 use Rattle.zone_config.specs.declared.config.ConfigParts.{ConfigParts}
-use Rattle.zone_tables.specs.Tables.{Tables, Tally, empty_tables}
+use Rattle.zone_tables.specs.Tables.{Tables, empty_tables}
 
 -- The tables, the replies that are kept, the clock in milliseconds, the number of the next
 -- interrogation, the moment of the next turn of the pools, and how many steps were made.
@@ -26,8 +26,3 @@ opening config pools = record {
   next_pool_turn = config.pool_turn;
   steps = 0;
 }
-
--- a gatekeeper as it runs: beside its state, the tally of each pool
-pub record Running : Type 0 where
-  pub state : State
-  pub tallies : List Tally

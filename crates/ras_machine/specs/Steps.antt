@@ -1,10 +1,11 @@
 -- Steps of the machine.
 use Rattle.std.specs.Prelude.{ℕ, ◌≡◌, ◌≤◌, List, length, Some, Option, None, IfSome}
+use Rattle.pools.specs.declared.interface.Figures.{Figures}
 use Rattle.pools.specs.declared.interface.Lend.{Lend}
 use Rattle.pools.specs.Account.{IsAnswer}
 use Rattle.kept_replies.specs.Kept.{NonePasses, Passes, is_over}
 use Rattle.zone_events.specs.declared.due_item.DueItem.{DueItem}
-use Rattle.zone_events.specs.declared.due_item.DueItem.TheVariants.{PoolTurn, Retry}
+use Rattle.zone_events.specs.declared.due_item.DueItem.TheVariants.{Retry}
 use Rattle.zone_events.specs.declared.event.Event.{Event}
 use Rattle.ras_machine.specs.declared.job.Occasion.{Occasion}
 use Rattle.ras_machine.specs.declared.job.Occasion.TheVariants.{First, Again}
@@ -14,9 +15,7 @@ use Rattle.zone_events.specs.declared.outcome.Note.{Note}
 use Rattle.zone_events.specs.declared.outcome.Note.TheVariants as note
 use Rattle.zone_events.specs.declared.outcome.Outcome.{Outcome}
 use Rattle.ras_machine.specs.State.{State}
-use Rattle.zone_tables.specs.Pools.{figures_at}
-use Rattle.zone_tables.specs.Pools.{RequestedUnits, tallies_after_answer, tallies_after_turn}
-use Rattle.zone_tables.specs.Tables.{Tally}
+use Rattle.zone_tables.specs.Pools.{RequestedUnits, figures_at, pools_after_answer}
 use Rattle.ras_requests.specs.Plans.{Plan, Settled, Naming, Asking}
 use Rattle.ras_machine.specs.Unused.{IsUnusedFor}
 use Rattle.ras_machine.specs.Turns.{IsDueIn, IsNothingDueIn}
@@ -82,18 +81,19 @@ abbrev pub ask_in : Course → Option RequestedUnits
 ask_in (Serving task) = ask_in_plan task.plan
 ask_in other = None
 
--- a pool was asked, if one is
-abbrev pub tallies_after_ask : List Tally → Option RequestedUnits → Option Lend → List Tally
-tallies_after_ask tallies (Some ask) (Some answer) = tallies_after_answer tallies ask answer
-tallies_after_ask tallies (Some ask) None = tallies
-tallies_after_ask tallies None answer = tallies
+-- the figures of the pools once one was asked, if one is
+abbrev pub pools_after_ask : List Figures → Option RequestedUnits → Option Lend → List Figures
+pools_after_ask pools (Some ask) (Some answer) = pools_after_answer pools ask.pool answer
+pools_after_ask pools (Some ask) None = pools
+pools_after_ask pools None answer = pools
 
--- The tallies of the pools after what an event calls for. At the turn of the pools each of them makes
--- one turn. Else the pool that is asked is asked once, with this answer; the tallies of all others
--- stay, and all stay if none is asked.
-abbrev pub tallies_after : List Tally → Course → Option Lend → List Tally
-tallies_after tallies (Doing PoolTurn) answer = tallies_after_turn tallies
-tallies_after tallies other answer = tallies_after_ask tallies (ask_in other) answer
+-- Who lends is asked once, where a pool is to be asked, and gives the answer that the outcome shows;
+-- else nobody is asked, and who lends stays as it was.
+abbrev pub IsAskedOnce : {L : Type 0} → (L → List Figures → RequestedUnits → Lend → L → Type 0) → L
+    → List Figures → Option RequestedUnits → Option Lend → L → Type 0
+IsAskedOnce lends old pools (Some ask) (Some answer) new = lends old pools ask answer new
+IsAskedOnce lends old pools (Some ask) None new = ⊥
+IsAskedOnce lends old pools None answer new = new ≡ old
 
 -- an output has at most 20,000 octets
 abbrev pub HasFewOctets : Option Datagram → Type 0

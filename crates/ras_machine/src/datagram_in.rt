@@ -16,7 +16,6 @@ use crate::job::{Job, Occasion};
 use crate::machine::Machine;
 use crate::prepared::Message;
 use kept_replies::{KeptEntry, KeptKey};
-use pools::Pool;
 use ras_codec::write_reserved;
 use ras_module::{EndpointId, Octets, Reply, Request, Source};
 use ras_requests::decide;
@@ -24,7 +23,7 @@ use std::alloc::AllocError;
 use zone_config::Moment;
 use zone_events::{Datagram, IgnoredCause};
 
-impl<P: Pool> Machine<P> {
+impl Machine {
     /// What a datagram calls for, if this entry is dropped should its reply find no place else.
     pub fn datagram_course(
         &self,
@@ -33,9 +32,9 @@ impl<P: Pool> Machine<P> {
         message: Message,
         dropped: Option<u64>,
     ) -> Result<Course, AllocError>
-        requires over { IfSome dropped (Passes (is_over now) self.now.state.kept) }
-        ensures { IfOk result (CallsFor self.now.state now
-            (message_course self.now.state now key dropped message)) }
+        requires over { IfSome dropped (Passes (is_over now) self.now.kept) }
+        ensures { IfOk result (CallsFor self.now now
+            (message_course self.now now key dropped message)) }
     {
         match message {
             Message::TooLong => Ok(Course::Ignoring(IgnoredCause::TooLong)),
@@ -53,9 +52,9 @@ impl<P: Pool> Machine<P> {
         request: Request,
         dropped: Option<u64>,
     ) -> Result<Course, AllocError>
-        requires over { IfSome dropped (Passes (is_over now) self.now.state.kept) }
-        ensures { IfOk result (CallsFor self.now.state now
-            (request_course self.now.state now key dropped request)) }
+        requires over { IfSome dropped (Passes (is_over now) self.now.kept) }
+        ensures { IfOk result (CallsFor self.now now
+            (request_course self.now now key dropped request)) }
     {
         if let Request::Irr(response) = request {
             return Ok(self.response_course(&response.endpoint));
@@ -77,8 +76,8 @@ impl<P: Pool> Machine<P> {
 
     /// An InfoRequestResponse is a sign of life, if its endpoint is registered.
     fn response_course(&self, endpoint: &EndpointId) -> Course
-        ensures { (now : ℕ) → CallsFor self.now.state now
-            (response_course self.now.state (Some endpoint.now)) result }
+        ensures { (now : ℕ) → CallsFor self.now now
+            (response_course self.now (Some endpoint.now)) result }
     {
         if self.tables.get(endpoint).is_none() {
             return Course::Ignoring(IgnoredCause::UnknownEndpoint);
@@ -88,7 +87,7 @@ impl<P: Pool> Machine<P> {
 
     /// Whether an entry answers its datagram as it comes again.
     fn is_repeat(&self, now: Moment, entry: &KeptEntry) -> bool
-        ensures { result ≡ is_repeat self.now.state now entry.now }
+        ensures { result ≡ is_repeat self.now now entry.now }
     {
         if entry.is_over(now.milliseconds()) {
             return false;
@@ -101,7 +100,7 @@ impl<P: Pool> Machine<P> {
 
     /// A kept reply is to be sent again.
     fn repeating(&self, to: Source, reply: &Reply) -> Result<Course, AllocError>
-        ensures { IfOk result (λ course. (now : ℕ) → CallsFor self.now.state now
+        ensures { IfOk result (λ course. (now : ℕ) → CallsFor self.now now
             (Repeating (record { to = to; bytes = encoding_of reply.now })) course) }
     {
         Ok(Course::Repeating(self.datagram(to, reply)?))
@@ -129,10 +128,10 @@ impl<P: Pool> Machine<P> {
         request: Request,
     ) -> Result<Course, AllocError>
         requires served { HasReply request }
-        requires placed { IsPlacedIn self.now.state job }
+        requires placed { IsPlacedIn self.now job }
         ensures { IfOk result (λ course. (plan : Plan)
-            → plan_of self.now.state.tables now request ≡ Some plan
-            → CallsFor self.now.state now (serving job now request plan) course) }
+            → plan_of self.now.tables now request ≡ Some plan
+            → CallsFor self.now now (serving job now request plan) course) }
     {
         let conclusion = decide(&self.tables, now, &request)?;
         Ok(Course::Serving(Task {
@@ -145,10 +144,10 @@ impl<P: Pool> Machine<P> {
     /// The kept entry that is dropped if the reply to a datagram finds no place else: any that is
     /// over. None, if there is a place or nothing is over.
     pub fn entry_to_drop(&self, now: Moment, key: &KeptKey) -> Option<u64>
-        ensures over { IfSome result (Passes (is_over now) self.now.state.kept) }
-        ensures none { result ≡ None → fin.get self.now.state.kept key.now ≡ None
-            → fin.len self.now.state.kept ≡ self.now.state.tables.config.kept
-            → NonePasses (is_over now) self.now.state.kept }
+        ensures over { IfSome result (Passes (is_over now) self.now.kept) }
+        ensures none { result ≡ None → fin.get self.now.kept key.now ≡ None
+            → fin.len self.now.kept ≡ self.now.tables.config.kept
+            → NonePasses (is_over now) self.now.kept }
     {
         if !self.kept.is_full() || self.kept.find(key).is_some() {
             return None;

@@ -6,15 +6,15 @@ ghost use Rattle.ras_requests.specs.Plans.{Plan};
 ghost use Rattle.ras_requests.specs.Requests.{endpoint_of, seq_of};
 ghost use Rattle.zone_tables.specs.Changes.{IsPossible, IsRegistered};
 ghost use Rattle.ras_requests.specs.Conclusions.{RequestsUnits};
-ghost use Rattle.zone_tables.specs.UnitRequests.{IsUnitRequest, leg_of_purpose};
+ghost use Rattle.zone_tables.specs.UnitRequests.{IsUnitRequest, leg_of_purpose, units_requested};
 ghost use Rattle.ras_requests.specs.Conclusions.{served};
 ghost use Rattle.zone_tables.specs.Parts.{usage_of};
 ghost use Rattle.zone_tables.specs.Soundness.{SoundTables};
 ghost use Rattle.ras_machine.specs.Keeping.{plan_at};
 ghost use Rattle.ras_machine.specs.Machine.{Serving};
 ghost use Rattle.ras_machine.specs.Soundness.{Sound};
-ghost use Rattle.ras_machine.specs.Steps.{IsTimely, IsUnusedIn};
-ghost use Rattle.ras_machine.specs.Courses.{Does, IsPlacedIn, IsTask, MayBeGiven, Serves};
+ghost use Rattle.ras_machine.specs.Steps.{IsAskedOnce, IsTimely, IsUnusedIn};
+ghost use Rattle.ras_machine.specs.Courses.{Does, IsAskedFor, IsPlacedIn, IsTask, MayBeGiven, Serves};
 ghost use Rattle.ras_machine.specs.Courses.{heard_at, resolved};
 
 use crate::course::Task;
@@ -22,34 +22,38 @@ use crate::job::{Job, Occasion};
 use crate::kept_entry::{keep, reserve, state_after};
 use crate::machine::Machine;
 use kept_replies::KeptState;
-use pools::Pool;
 use ras_codec::write_reserved;
 use ras_module::{EndpointId, Octets, Request};
 use ras_requests::{Conclusion, Decision};
 use std::alloc::AllocError;
 use zone_config::Moment;
 use zone_events::{Datagram, Outcome};
-use zone_tables::{UnitRequest, ZoneTables};
+use zone_tables::{Lender, UnitRequest, ZoneTables};
 
 /// The octets that are enough for a reply to a request for which a pool is asked.
 const SHORT_REPLY: usize = 64;
 
-impl<P: Pool> Machine<P> {
+impl Machine {
     /// Serves a request: what was concluded about it is carried out, and its reply is kept. A new
     /// endpoint gets the identifier that is given.
-    pub(crate) fn serve(
+    pub(crate) fn serve<L: Lender>(
         &mut self,
         now: Moment,
         task: Task,
         given: Option<EndpointId>,
+        lender: &mut L,
     ) -> Result<Outcome, AllocError>
-        requires sound { Sound self.old.state }
-        requires task { IsTask self.old.state now task }
-        requires timely { IsTimely self.old.state now task.job.occasion }
-        requires given { MayBeGiven self.old.state task.conclusion given }
+        requires lends_for { L.lends_for lender.old self.old.tables.pools }
+        requires sound { Sound self.old }
+        requires task { IsTask self.old now task }
+        requires timely { IsTimely self.old now task.job.occasion }
+        requires given { MayBeGiven self.old task.conclusion given }
         ensures does { IfOk result (λ outcome. Serves self.old now task.job task.request
             outcome self.new) }
+        ensures asks { IfOk result (λ outcome. IsAskedFor L.lends self.old now task.job task.request
+            outcome lender.old lender.new) }
         ensures err { OnErr result (self.new ≡ self.old) }
+        ensures not_asked { OnErr result (lender.new ≡ lender.old) }
     {
         let Task {
             job,
@@ -63,7 +67,9 @@ impl<P: Pool> Machine<P> {
                 let id = given.unwrap();
                 self.carry_out(now, job, endpoint, newcomer.under(id), Some(id))
             }
-            Conclusion::Asking(unit_request) => self.request_units(now, job, request, unit_request),
+            Conclusion::Asking(unit_request) => {
+                self.request_units(now, job, request, unit_request, lender)
+            }
         }
     }
 
@@ -77,13 +83,13 @@ impl<P: Pool> Machine<P> {
         decision: Decision,
         given: Option<EndpointId>,
     ) -> Result<Outcome, AllocError>
-        requires possible { IsPossible self.old.state.tables decision.change }
-        requires unused { IfSome given (IsUnusedIn self.old.state) }
-        requires placed { IsPlacedIn self.old.state job }
-        requires timely { IsTimely self.old.state now job.occasion }
-        requires sound { Sound self.old.state }
+        requires possible { IsPossible self.old.tables decision.change }
+        requires unused { IfSome given (IsUnusedIn self.old) }
+        requires placed { IsPlacedIn self.old job }
+        requires timely { IsTimely self.old now job.occasion }
+        requires sound { Sound self.old }
         ensures does { IfOk result (λ outcome. (plan : Plan) (request : Request)
-            → resolved plan given ≡ Some (served self.old.state.tables now decision)
+            → resolved plan given ≡ Some (served self.old.tables now decision)
             → Does self.old now (Serving (record {
               job = job;
               request = request;
@@ -116,27 +122,32 @@ impl<P: Pool> Machine<P> {
 
     /// Requests units of a pool, and does what follows from its answer about a request. The memory is
     /// there before the pool is asked.
-    fn request_units(
+    fn request_units<L: Lender>(
         &mut self,
         now: Moment,
         job: Job,
         request: Request,
         unit_request: UnitRequest,
+        lender: &mut L,
     ) -> Result<Outcome, AllocError>
-        requires may { IsUnitRequest (usage_of self.old.state.tables) unit_request }
-        requires leg { IfSome (leg_of_purpose unit_request.purpose) (IsRegistered self.old.state.tables.live) }
+        requires lends_for { L.lends_for lender.old self.old.tables.pools }
+        requires may { IsUnitRequest (usage_of self.old.tables) unit_request }
+        requires leg { IfSome (leg_of_purpose unit_request.purpose) (IsRegistered self.old.tables.live) }
         requires seq { seq_of request ≡ unit_request.seq }
-        requires placed { IsPlacedIn self.old.state job }
-        requires timely { IsTimely self.old.state now job.occasion }
-        requires sound { Sound self.old.state }
+        requires placed { IsPlacedIn self.old job }
+        requires timely { IsTimely self.old now job.occasion }
+        requires sound { Sound self.old }
         ensures does { IfOk result (λ outcome. (plan : Plan)
-            → RequestsUnits self.old.state.tables plan unit_request
+            → RequestsUnits self.old.tables plan unit_request
             → Does self.old now (Serving (record {
               job = job;
               request = request;
               plan = plan_at job.occasion now (Some unit_request.endpoint) plan;
             })) outcome self.new) }
+        ensures asks { IfOk result (λ outcome. IsAskedOnce L.lends lender.old self.old.tables.pools
+            (Some (units_requested unit_request)) outcome.answer lender.new) }
         ensures err { OnErr result (self.new ≡ self.old) }
+        ensures not_asked { OnErr result (lender.new ≡ lender.old) }
     {
         let config = self.tables.config();
         let delay = config.delay();
@@ -145,7 +156,7 @@ impl<P: Pool> Machine<P> {
         let occasion = job.occasion;
         let mut bytes = Vec::with_capacity(self.alloc, SHORT_REPLY)?;
         reserve(&mut self.kept, now.milliseconds(), &job)?;
-        let answer = self.tables.request_units(&unit_request)?;
+        let answer = self.tables.request_units(&unit_request, lender)?;
         let heard = Some(unit_request.endpoint);
         hear(&mut self.tables, occasion, now, heard);
         let waits = occasion.waits(answer);
@@ -180,15 +191,15 @@ fn endpoint_of(request: &Request) -> Option<EndpointId>
 }
 
 /// Notes that the endpoint was heard that a request names as it comes, if it is registered.
-fn hear<P: Pool>(
-    tables: &mut ZoneTables<P>,
+fn hear(
+    tables: &mut ZoneTables,
     occasion: Occasion,
     now: Moment,
     endpoint: Option<EndpointId>,
 )
-    requires { SoundTables tables.old.tables }
+    requires { SoundTables tables.old }
     ensures heard { tables.new ≡ heard_at tables.old occasion now endpoint }
-    ensures sound { SoundTables tables.new.tables }
+    ensures sound { SoundTables tables.new }
 {
     if let Occasion::First { .. } = occasion {
         tables.hear(now, endpoint);

@@ -13,17 +13,16 @@ use crate::job::{Job, Occasion};
 use crate::machine::Machine;
 use expiry::{Times, due};
 use kept_replies::KeptState;
-use pools::Pool;
 use ras_module::{EndpointId, Reply, Request, RequestSeqNum};
 use std::alloc::AllocError;
 use zone_config::Moment;
 use zone_events::{DueItem, Note, Outcome};
 
-impl<P: Pool> Machine<P> {
+impl Machine {
     /// Something that is due: any of what is, and None if and only if nothing is.
     pub fn due(&self, now: Moment) -> Option<DueItem>
-        ensures { MatchOption result (IsNothingDueIn self.now.state now)
-            (IsDueIn self.now.state now) }
+        ensures { MatchOption result (IsNothingDueIn self.now now)
+            (IsDueIn self.now now) }
     {
         let times = self.times();
         let moment = now.milliseconds();
@@ -35,7 +34,7 @@ impl<P: Pool> Machine<P> {
 
     /// How long an endpoint in a call may be silent.
     fn times(&self) -> Times
-        ensures same { result ≡ times_of self.now.state.tables.config }
+        ensures same { result ≡ times_of self.now.tables.config }
         ensures asks { result.asks ≤ 16 }
     {
         let parts = self.tables.config().parts();
@@ -48,8 +47,8 @@ impl<P: Pool> Machine<P> {
 
     /// What a turn calls for in which this item is done.
     pub fn turn_course(&self, now: Moment, item: Option<DueItem>) -> Result<Course, AllocError>
-        ensures { IfOk result (CallsFor self.now.state now
-            (turn_course self.now.state now item)) }
+        ensures { IfOk result (CallsFor self.now now
+            (turn_course self.now now item)) }
     {
         match item {
             None => Ok(Course::Idle),
@@ -60,8 +59,8 @@ impl<P: Pool> Machine<P> {
 
     /// A request that waits is served again.
     fn retry_course(&self, now: Moment, born: u64) -> Result<Course, AllocError>
-        ensures { IfOk result (CallsFor self.now.state now (retry_course self.now.state now born
-            (fin.get (births self.now.state.kept) born))) }
+        ensures { IfOk result (CallsFor self.now now (retry_course self.now now born
+            (fin.get (births self.now.kept) born))) }
     {
         match self.waiting(born)? {
             Some((job, request)) => self.serving(now, job, request),
@@ -73,7 +72,7 @@ impl<P: Pool> Machine<P> {
     /// nothing to do.
     fn waiting(&self, born: u64) -> Result<Option<(Job, Request)>, AllocError>
         ensures { IfOk result (λ found. (now : ℕ)
-            → IsWaitingRequest self.now.state now born found) }
+            → IsWaitingRequest self.now now born found) }
     {
         let Some((key, entry)) = self.kept.by_born(born) else {
             return Ok(None);
@@ -93,8 +92,8 @@ impl<P: Pool> Machine<P> {
 
     /// Does an item that is due, and is no request that waits.
     pub(crate) fn do_item(&mut self, now: Moment, item: DueItem) -> Result<Outcome, AllocError>
-        requires sound { Sound self.old.state }
-        requires due { IsDueIn self.old.state now item }
+        requires sound { Sound self.old }
+        requires due { IsDueIn self.old now item }
         ensures does { IfOk result (λ outcome. Does self.old now (Doing item) outcome self.new) }
         ensures err { OnErr result (self.new ≡ self.old) }
     {
@@ -110,7 +109,7 @@ impl<P: Pool> Machine<P> {
 
     /// A registration is over.
     fn lapse(&mut self, now: Moment, id: EndpointId) -> Outcome
-        requires { IsDueIn self.old.state now (DueItem.RegistrationOver id) }
+        requires { IsDueIn self.old now (DueItem.RegistrationOver id) }
         ensures { Does self.old now (Doing (DueItem.RegistrationOver id)) result self.new }
     {
         self.tables.lapse(&id);
@@ -119,7 +118,7 @@ impl<P: Pool> Machine<P> {
 
     /// The endpoint was interrogated `asks` times and never answered.
     fn silence(&mut self, now: Moment, id: EndpointId) -> Outcome
-        requires { IsDueIn self.old.state now (DueItem.Silent id) }
+        requires { IsDueIn self.old now (DueItem.Silent id) }
         ensures { Does self.old now (Doing (DueItem.Silent id)) result self.new }
     {
         self.tables.silence(&id);
@@ -128,27 +127,26 @@ impl<P: Pool> Machine<P> {
 
     /// A kept reply is over.
     fn expire(&mut self, now: Moment, born: u64) -> Outcome
-        requires { IsDueIn self.old.state now (DueItem.KeptOver born) }
+        requires { IsDueIn self.old now (DueItem.KeptOver born) }
         ensures { Does self.old now (Doing (DueItem.KeptOver born)) result self.new }
     {
         self.kept.drop_born(born);
         Outcome::noted(Note::Done(DueItem::KeptOver(born)), None)
     }
 
-    /// Each pool makes a turn, and the next one is later.
+    /// The pools make their turn, and the next one is later.
     fn turn_pools(&mut self, now: Moment) -> Outcome
-        requires { IsDueIn self.old.state now DueItem.PoolTurn }
+        requires { IsDueIn self.old now DueItem.PoolTurn }
         ensures { Does self.old now (Doing DueItem.PoolTurn) result self.new }
     {
-        self.tables.turn_pools();
         self.next_pool_turn = now.milliseconds() + self.tables.config().pool_turn();
         Outcome::noted(Note::Done(DueItem::PoolTurn), None)
     }
 
     /// Asks an endpoint for a sign of life (H.225.0, InfoRequest).
     fn interrogate(&mut self, now: Moment, id: EndpointId) -> Result<Outcome, AllocError>
-        requires sound { Sound self.old.state }
-        requires due { IsDueIn self.old.state now (DueItem.Interrogate id) }
+        requires sound { Sound self.old }
+        requires due { IsDueIn self.old now (DueItem.Interrogate id) }
         ensures does { IfOk result (λ outcome.
             Does self.old now (Doing (DueItem.Interrogate id)) outcome self.new) }
         ensures err { OnErr result (self.new ≡ self.old) }

@@ -11,19 +11,18 @@ ghost use Rattle.ras_requests.specs.Conclusions.{Concludes, Decides, IsFor};
 use crate::brq::{units_left, wanted};
 use crate::conclusion::{Conclusion, Decision};
 use admission::{Call, Leg};
-use pools::Pool;
 use ras_module::{Address, AdmissionRejectReason, AdmissionRequest, Reply};
 use registrations::Registration;
 use zone_config::Moment;
 use zone_tables::{CallChange, Change, Purpose, UnitRequest, ZoneTables};
 
 /// The address that an endpoint is told to call.
-fn destination<P: Pool>(
-    tables: &ZoneTables<P>,
+fn destination(
+    tables: &ZoneTables,
     q: &AdmissionRequest,
     caller: &Registration,
 ) -> Option<Address>
-    ensures { result ≡ destination tables.now.tables q.now (Some caller.now) }
+    ensures { result ≡ destination tables.now q.now (Some caller.now) }
 {
     if q.answer {
         return Some(caller.call_signal);
@@ -32,17 +31,17 @@ fn destination<P: Pool>(
 }
 
 /// The second endpoint joins a call that is there.
-fn join<P: Pool>(
-    tables: &ZoneTables<P>,
+fn join(
+    tables: &ZoneTables,
     now: Moment,
     q: &AdmissionRequest,
     call: &Call,
     told: Address,
 ) -> Decision
-    requires endpoint { IsSome (fin.get tables.now.tables.live q.now.endpoint) }
-    requires call { fin.get tables.now.tables.calls q.now.call ≡ Some call.now }
+    requires endpoint { IsSome (fin.get tables.now.live q.now.endpoint) }
+    requires call { fin.get tables.now.calls q.now.call ≡ Some call.now }
     requires leg { leg_of call.now.legs q.now.endpoint ≡ None }
-    ensures decides { Decides tables.now.tables now (joining tables.now.tables q.now call.now told) result }
+    ensures decides { Decides tables.now now (joining tables.now q.now call.now told) result }
 {
     if call.legs.are_two() {
         return denial(q, AdmissionRejectReason::ResourceUnavailable);
@@ -58,18 +57,18 @@ fn join<P: Pool>(
 }
 
 /// An endpoint makes a call.
-fn make<P: Pool>(
-    tables: &ZoneTables<P>,
+fn make(
+    tables: &ZoneTables,
     now: Moment,
     q: &AdmissionRequest,
     pool: usize,
     told: Address,
 ) -> Conclusion
-    requires endpoint { IsSome (fin.get tables.now.tables.live q.now.endpoint) }
-    requires call { fin.get tables.now.tables.calls q.now.call ≡ None }
-    requires pool { pool < length tables.now.tables.pools }
-    ensures concludes { Concludes tables.now.tables now
-        (making tables.now.tables q.now pool told) result }
+    requires endpoint { IsSome (fin.get tables.now.live q.now.endpoint) }
+    requires call { fin.get tables.now.calls q.now.call ≡ None }
+    requires pool { pool < length tables.now.pools }
+    ensures concludes { Concludes tables.now now
+        (making tables.now q.now pool told) result }
     ensures about { IsFor q.now.seq (Some q.now.endpoint) result }
 {
     if tables.calls_len() == tables.config().calls() {
@@ -95,19 +94,19 @@ fn make<P: Pool>(
 }
 
 /// An endpoint enters a call that is there.
-fn enter_call<P: Pool>(
-    tables: &ZoneTables<P>,
+fn enter_call(
+    tables: &ZoneTables,
     now: Moment,
     q: &AdmissionRequest,
     caller: &Registration,
     call: &Call,
 ) -> Decision
-    requires endpoint { fin.get tables.now.tables.live q.now.endpoint ≡ Some caller.now }
-    requires call { fin.get tables.now.tables.calls q.now.call ≡ Some call.now }
-    ensures decides { Decides tables.now.tables now
-        (admission_of tables.now.tables q.now (Some caller.now)
+    requires endpoint { fin.get tables.now.live q.now.endpoint ≡ Some caller.now }
+    requires call { fin.get tables.now.calls q.now.call ≡ Some call.now }
+    ensures decides { Decides tables.now now
+        (admission_of tables.now q.now (Some caller.now)
         (standing_in call.now (leg_of call.now.legs q.now.endpoint))
-        (destination tables.now.tables q.now (Some caller.now))) result }
+        (destination tables.now q.now (Some caller.now))) result }
 {
     if let Some(leg) = call.legs.get(&q.endpoint) {
         return Decision::reply(Reply::Acf {
@@ -123,17 +122,17 @@ fn enter_call<P: Pool>(
 }
 
 /// An endpoint makes a call that isn't there yet.
-fn make_call<P: Pool>(
-    tables: &ZoneTables<P>,
+fn make_call(
+    tables: &ZoneTables,
     now: Moment,
     q: &AdmissionRequest,
     caller: &Registration,
 ) -> Conclusion
-    requires endpoint { fin.get tables.now.tables.live q.now.endpoint ≡ Some caller.now }
-    requires call { fin.get tables.now.tables.calls q.now.call ≡ None }
-    ensures concludes { Concludes tables.now.tables now
-        (admission_of tables.now.tables q.now (Some caller.now) NoCall
-        (destination tables.now.tables q.now (Some caller.now))) result }
+    requires endpoint { fin.get tables.now.live q.now.endpoint ≡ Some caller.now }
+    requires call { fin.get tables.now.calls q.now.call ≡ None }
+    ensures concludes { Concludes tables.now now
+        (admission_of tables.now q.now (Some caller.now) NoCall
+        (destination tables.now q.now (Some caller.now))) result }
     ensures about { IsFor q.now.seq (Some q.now.endpoint) result }
 {
     match destination(tables, q, caller) {
@@ -143,20 +142,20 @@ fn make_call<P: Pool>(
 }
 
 /// The pool that serves the calls of an endpoint with this address.
-fn pool_of<P: Pool>(tables: &ZoneTables<P>, address: Address) -> usize
-    ensures pool { result ≡ pool_of tables.now.tables.config.networks address.ip }
-    ensures few { result < length tables.now.tables.pools }
+fn pool_of(tables: &ZoneTables, address: Address) -> usize
+    ensures pool { result ≡ pool_of tables.now.config.networks address.ip }
+    ensures few { result < length tables.now.pools }
 {
     tables.config().parts().networks.pool_of(address.ip)
 }
 
 /// What is decided about an AdmissionRequest.
-pub(crate) fn admit<P: Pool>(
-    tables: &ZoneTables<P>,
+pub(crate) fn admit(
+    tables: &ZoneTables,
     now: Moment,
     q: &AdmissionRequest,
 ) -> Conclusion
-    ensures concludes { Concludes tables.now.tables now (admission tables.now.tables q.now) result }
+    ensures concludes { Concludes tables.now now (admission tables.now q.now) result }
     ensures about { IsFor q.now.seq (Some q.now.endpoint) result }
 {
     let Some(caller) = tables.get(&q.endpoint) else {

@@ -8,36 +8,35 @@ ghost use Rattle.ras_requests.specs.Conclusions.{Concludes, IsFor};
 
 use crate::conclusion::{Conclusion, Decision};
 use admission::Call;
-use pools::Pool;
 use ras_module::{BandRejectReason, BandwidthRequest, Reply};
 use zone_config::Moment;
 use zone_tables::{CallChange, Change, Purpose, UnitRequest, ZoneTables};
 
 /// The units that the zone has left.
-pub(crate) fn units_left<P: Pool>(tables: &ZoneTables<P>) -> u64
-    ensures left { result ≡ units_left tables.now.tables }
-    ensures sound { SoundTables tables.now.tables }
+pub(crate) fn units_left(tables: &ZoneTables) -> u64
+    ensures left { result ≡ units_left tables.now }
+    ensures sound { SoundTables tables.now }
 {
     tables.config().parts().limit - tables.in_use()
 }
 
 /// The units that are asked for, but no more than a call may have.
-pub(crate) fn wanted<P: Pool>(tables: &ZoneTables<P>, asked: u32) -> u32
-    ensures { result ≡ wanted tables.now.tables asked }
+pub(crate) fn wanted(tables: &ZoneTables, asked: u32) -> u32
+    ensures { result ≡ wanted tables.now asked }
 {
     asked.min(tables.config().call_limit())
 }
 
 /// A call gives units back, or its pool is asked for more.
-fn resize<P: Pool>(
-    tables: &ZoneTables<P>,
+fn resize(
+    tables: &ZoneTables,
     now: Moment,
     q: &BandwidthRequest,
     call: &Call,
 ) -> Conclusion
-    requires call { fin.get tables.now.tables.calls q.now.call ≡ Some call.now }
-    ensures concludes { Concludes tables.now.tables now
-        (resizing tables.now.tables q.now call.now) result }
+    requires call { fin.get tables.now.calls q.now.call ≡ Some call.now }
+    ensures concludes { Concludes tables.now now
+        (resizing tables.now q.now call.now) result }
     ensures about { IsFor q.now.seq (Some q.now.endpoint) result }
 {
     let wanted = wanted(tables, q.asked);
@@ -60,12 +59,12 @@ fn resize<P: Pool>(
 }
 
 /// What is decided about a BandwidthRequest.
-pub(crate) fn change_bandwidth<P: Pool>(
-    tables: &ZoneTables<P>,
+pub(crate) fn change_bandwidth(
+    tables: &ZoneTables,
     now: Moment,
     q: &BandwidthRequest,
 ) -> Conclusion
-    ensures concludes { Concludes tables.now.tables now (bandwidth tables.now.tables q.now) result }
+    ensures concludes { Concludes tables.now now (bandwidth tables.now q.now) result }
     ensures about { IsFor q.now.seq (Some q.now.endpoint) result }
 {
     if tables.get(&q.endpoint).is_none() {

@@ -5,18 +5,17 @@ ghost use Rattle.ras_requests.specs.Drq.{disengagement};
 ghost use Rattle.ras_requests.specs.Conclusions.{Decides};
 
 use crate::conclusion::Decision;
-use pools::Pool;
 use ras_module::{DisengageRejectReason, DisengageRequest, Reply};
 use zone_config::Moment;
 use zone_tables::{CallChange, Change, ZoneTables};
 
 /// What is decided about a DisengageRequest.
-pub(crate) fn disengage<P: Pool>(
-    tables: &ZoneTables<P>,
+pub(crate) fn disengage(
+    tables: &ZoneTables,
     now: Moment,
     q: &DisengageRequest,
 ) -> Decision
-    ensures decides { Decides tables.now.tables now (disengagement tables.now.tables q.now) result }
+    ensures decides { Decides tables.now now (disengagement tables.now q.now) result }
 {
     if tables.get(&q.endpoint).is_none() {
         return rejection(q, DisengageRejectReason::NotRegistered);

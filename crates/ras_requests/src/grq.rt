@@ -3,13 +3,12 @@
 ghost use Rattle.std.specs.Prelude.{◌≡◌};
 ghost use Rattle.ras_requests.specs.Grq.{discovery, is_foreign};
 
-use pools::Pool;
 use ras_module::{GatekeeperRejectReason, GatekeeperRequest, Name, Reply};
 use zone_tables::ZoneTables;
 
 /// Whether another gatekeeper than this one is named.
-pub(crate) fn is_foreign<P: Pool>(tables: &ZoneTables<P>, name: &Option<Name>) -> bool
-    ensures { result ≡ is_foreign tables.now.tables name.now }
+pub(crate) fn is_foreign(tables: &ZoneTables, name: &Option<Name>) -> bool
+    ensures { result ≡ is_foreign tables.now name.now }
 {
     match name {
         None => false,
@@ -18,8 +17,8 @@ pub(crate) fn is_foreign<P: Pool>(tables: &ZoneTables<P>, name: &Option<Name>) -
 }
 
 /// The reply to a GatekeeperRequest.
-pub(crate) fn discover<P: Pool>(tables: &ZoneTables<P>, q: &GatekeeperRequest) -> Reply
-    ensures { result ≡ discovery tables.now.tables q.now }
+pub(crate) fn discover(tables: &ZoneTables, q: &GatekeeperRequest) -> Reply
+    ensures { result ≡ discovery tables.now q.now }
 {
     if is_foreign(tables, &q.gatekeeper) {
         return Reply::Grj {

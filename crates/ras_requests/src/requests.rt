@@ -11,7 +11,6 @@ use crate::drq::disengage;
 use crate::grq::discover;
 use crate::rrq::register;
 use crate::urq::unregister;
-use pools::Pool;
 use ras_module::Request;
 use std::alloc::AllocError;
 use zone_config::Moment;
@@ -19,13 +18,13 @@ use zone_tables::ZoneTables;
 
 /// What is concluded about a request, without changing anything. An InfoRequestResponse is no
 /// request that has a reply.
-pub fn decide<P: Pool>(
-    tables: &ZoneTables<P>,
+pub fn decide(
+    tables: &ZoneTables,
     now: Moment,
     request: &Request,
 ) -> Result<Conclusion, AllocError>
     requires { HasReply request.now }
-    ensures concludes { IfOk result (IsConclusion tables.now.tables now request.now) }
+    ensures concludes { IfOk result (IsConclusion tables.now now request.now) }
     ensures about { IfOk result (IsFor (seq_of request.now) (endpoint_of request.now)) }
 {
     match request {

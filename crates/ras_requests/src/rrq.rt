@@ -10,7 +10,6 @@ ghost use Rattle.ras_requests.specs.Conclusions.{Concludes, Decides, IsFor};
 
 use crate::conclusion::{Conclusion, Decision, Newcomer};
 use crate::grq::is_foreign;
-use pools::Pool;
 use ras_module::{
     Address, EndpointId, RegistrationRejectReason, RegistrationRequest, Reply, ReplyAliases,
     TimeToLive,
@@ -21,8 +20,8 @@ use zone_config::Moment;
 use zone_tables::{Change, EndpointChange, Entry, ZoneTables};
 
 /// The time to live that is granted.
-fn granted<P: Pool>(tables: &ZoneTables<P>, asked: Option<TimeToLive>) -> TimeToLive
-    ensures { result ≡ granted tables.now.tables asked }
+fn granted(tables: &ZoneTables, asked: Option<TimeToLive>) -> TimeToLive
+    ensures { result ≡ granted tables.now asked }
 {
     let most = tables.config().time_to_live();
     match asked {
@@ -32,21 +31,21 @@ fn granted<P: Pool>(tables: &ZoneTables<P>, asked: Option<TimeToLive>) -> TimeTo
 }
 
 /// When a registration of this moment ends, in milliseconds.
-fn deadline<P: Pool>(tables: &ZoneTables<P>, now: Moment, q: &RegistrationRequest) -> u64
-    ensures { result ≡ deadline tables.now.tables now q.now }
+fn deadline(tables: &ZoneTables, now: Moment, q: &RegistrationRequest) -> u64
+    ensures { result ≡ deadline tables.now now q.now }
 {
     let granted = granted(tables, q.time_to_live);
     now.milliseconds() + 1000 * u64::from(granted.get())
 }
 
-fn confirmation<P: Pool>(
-    tables: &ZoneTables<P>,
+fn confirmation(
+    tables: &ZoneTables,
     q: &RegistrationRequest,
     call_signal: Address,
     aliases: ReplyAliases,
     endpoint: EndpointId,
 ) -> Reply
-    ensures { result ≡ confirmation tables.now.tables q.now call_signal aliases endpoint }
+    ensures { result ≡ confirmation tables.now q.now call_signal aliases endpoint }
 {
     Reply::Rcf {
         seq: q.seq,
@@ -59,13 +58,13 @@ fn confirmation<P: Pool>(
 }
 
 /// A registration is kept alive if it is known and the endpoint hasn't moved.
-fn keep_alive<P: Pool>(
-    tables: &ZoneTables<P>,
+fn keep_alive(
+    tables: &ZoneTables,
     now: Moment,
     q: &RegistrationRequest,
 ) -> Result<Decision, AllocError>
-    ensures { IfOk result (Decides tables.now.tables now
-        (keep_alive tables.now.tables now q.now (named tables.now.tables q.now.endpoint))) }
+    ensures { IfOk result (Decides tables.now now
+        (keep_alive tables.now now q.now (named tables.now q.now.endpoint))) }
 {
     let Some(id) = q.endpoint else {
         return Ok(rejection(q, RegistrationRejectReason::FullRegistrationRequired));
@@ -83,13 +82,13 @@ fn keep_alive<P: Pool>(
 }
 
 /// A full registration.
-fn register_fully<P: Pool>(
-    tables: &ZoneTables<P>,
+fn register_fully(
+    tables: &ZoneTables,
     now: Moment,
     q: &RegistrationRequest,
 ) -> Result<Conclusion, AllocError>
-    ensures concludes { IfOk result (Concludes tables.now.tables now
-        (full_registration tables.now.tables now q.now q.now.call_signal q.now.ras
+    ensures concludes { IfOk result (Concludes tables.now now
+        (full_registration tables.now now q.now q.now.call_signal q.now.ras
         (without_doubles q.now.aliases))) }
     ensures about { IfOk result (IsFor q.now.seq q.now.endpoint) }
 {
@@ -115,16 +114,16 @@ fn register_fully<P: Pool>(
 }
 
 /// Registers anew who has the address, or a new endpoint.
-fn enter<P: Pool>(
-    tables: &ZoneTables<P>,
+fn enter(
+    tables: &ZoneTables,
     now: Moment,
     q: &RegistrationRequest,
     entry: Entry,
 ) -> Result<Conclusion, AllocError>
-    requires { registered_elsewhere tables.now.tables.live entry.call_signal entry.aliases ≡ [] }
-    ensures concludes { IfOk result (Concludes tables.now.tables now
-        (entering tables.now.tables now q.now entry
-        (at_address tables.now.tables.live entry.call_signal))) }
+    requires { registered_elsewhere tables.now.live entry.call_signal entry.aliases ≡ [] }
+    ensures concludes { IfOk result (Concludes tables.now now
+        (entering tables.now now q.now entry
+        (at_address tables.now.live entry.call_signal))) }
     ensures about { IfOk result (IsFor q.now.seq q.now.endpoint) }
 {
     let told = entry.aliases.copy()?;
@@ -150,13 +149,13 @@ fn enter<P: Pool>(
 }
 
 /// What is concluded about a RegistrationRequest.
-pub(crate) fn register<P: Pool>(
-    tables: &ZoneTables<P>,
+pub(crate) fn register(
+    tables: &ZoneTables,
     now: Moment,
     q: &RegistrationRequest,
 ) -> Result<Conclusion, AllocError>
-    ensures concludes { IfOk result (Concludes tables.now.tables now
-        (registration tables.now.tables now q.now)) }
+    ensures concludes { IfOk result (Concludes tables.now now
+        (registration tables.now now q.now)) }
     ensures about { IfOk result (IsFor q.now.seq q.now.endpoint) }
 {
     if is_foreign(tables, &q.gatekeeper) {

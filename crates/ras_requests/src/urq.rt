@@ -6,16 +6,15 @@ ghost use Rattle.ras_requests.specs.Urq.{leaving, unregistration};
 ghost use Rattle.ras_requests.specs.Conclusions.{Decides};
 
 use crate::conclusion::Decision;
-use pools::Pool;
 use ras_module::{EndpointId, Reply, UnregRejectReason, UnregistrationRequest};
 use zone_config::Moment;
 use zone_tables::{Change, EndpointChange, ZoneTables};
 
 /// The endpoint that an UnregistrationRequest names: by its identifier if it has one, else by its
 /// address.
-fn leaving<P: Pool>(tables: &ZoneTables<P>, q: &UnregistrationRequest) -> Option<EndpointId>
+fn leaving(tables: &ZoneTables, q: &UnregistrationRequest) -> Option<EndpointId>
     ensures { result ≡ option_map (λ r. r.identifier)
-        (leaving tables.now.tables q.now.endpoint q.now.call_signal) }
+        (leaving tables.now q.now.endpoint q.now.call_signal) }
 {
     let found = match q.endpoint {
         Some(id) => tables.get(&id),
@@ -25,12 +24,12 @@ fn leaving<P: Pool>(tables: &ZoneTables<P>, q: &UnregistrationRequest) -> Option
 }
 
 /// What is decided about an UnregistrationRequest.
-pub(crate) fn unregister<P: Pool>(
-    tables: &ZoneTables<P>,
+pub(crate) fn unregister(
+    tables: &ZoneTables,
     now: Moment,
     q: &UnregistrationRequest,
 ) -> Decision
-    ensures decides { Decides tables.now.tables now (unregistration tables.now.tables q.now) result }
+    ensures decides { Decides tables.now now (unregistration tables.now q.now) result }
 {
     let Some(id) = leaving(tables, q) else {
         return rejection(q, UnregRejectReason::NotCurrentlyRegistered);

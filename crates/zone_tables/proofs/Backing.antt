@@ -1,7 +1,7 @@
 -- Calls stay backed by the pools, within the limits, as they open, change and end.
 use Rattle.std.proofs.Common.{◌≡◌, ◌<◌, ◌≤◌, ◌+◌, ◌^◌, All, ℕ, Bool, true, false, List, length}
-use Rattle.std.proofs.Common.{get_or, refl, sym, ◌∙◌, ap, subst, arith, Some, None}
-use Rattle.std.specs.Prelude.{Option, IfOk, IsSome, IsTrue, Ok, Result, slice_set}
+use Rattle.std.proofs.Common.{refl, sym, ◌∙◌, ap, subst, arith, Some, None}
+use Rattle.std.specs.Prelude.{Option, IfOk, IsSome, Ok, Result, slice_set}
 use Rattle.std.specs.FinMap as fin
 use Rattle.std.proofs.lemmas.List.{length-set}
 use Rattle.keyed.proofs.Sums.{total-empty}
@@ -25,13 +25,13 @@ use Rattle.admission.proofs.Soundness.{EachCall-empty}
 use Rattle.pools.specs.declared.interface.Figures.{Figures}
 use Rattle.pools.specs.declared.interface.Lend.{Lend}
 use Rattle.pools.specs.declared.interface.Lend.TheVariants.{Lent, Refused, Wait}
-use Rattle.pools.specs.Account.{Account, IsAnswer, MayAsk, is_idle, opening_account}
+use Rattle.pools.specs.Account.{IsAnswer, opening_account}
 use Rattle.pools.specs.Account.{figures_after_answer}
-use Rattle.pools.specs.Members.{Member, accounts_of, member_at, new_member}
 use Rattle.zone_tables.specs.declared.unit_request.UnitRequest.{UnitRequest}
 use Rattle.zone_tables.specs.declared.unit_request.Purpose.{Purpose}
 use Rattle.zone_tables.specs.declared.unit_request.Purpose.TheVariants.{Opening, Raising}
-use Rattle.zone_tables.specs.Pools.{figures_at, figures_of, figures_after_return}
+use Rattle.zone_tables.specs.Pools.{AreWithinLimits, IsIdle, MayBeAsked, figures_at}
+use Rattle.zone_tables.specs.Pools.{figures_after_return}
 use Rattle.zone_tables.specs.Pools.{pools_after_answer}
 use Rattle.zone_tables.specs.Pools.{pools_after_return, pools_after_end}
 use Rattle.zone_tables.specs.Parts.{Lending, Usage, IsBacked, IsSoundUsage, with_usage}
@@ -40,7 +40,6 @@ use Rattle.zone_tables.specs.UnitRequests.{IsUnitRequest, granted_calls, calls_a
 use Rattle.zone_tables.specs.Changes.{IsOpenable, IsJoinable, IsLowerable}
 use Rattle.zone_tables.specs.Soundness.{HasCounts}
 use Rattle.zone_tables.proofs.Answered.{if_ok, is_there}
-use Rattle.zone_tables.proofs.PoolFigures.{figures_there, length-figures, within_limits}
 use Rattle.zone_tables.proofs.Lending.{lent-opened, lent-opened_empty, lent-joined, lent-refused}
 use Rattle.zone_tables.proofs.Lending.{lent-waiting, lent-part, lent-raised, lent-lowered}
 use Rattle.zone_tables.proofs.Lending.{lent-left}
@@ -195,14 +194,11 @@ module _ (u : Usage) (b : IsBacked u) (q : UnitRequest) (may : IsUnitRequest u q
   asked_small (Opening leg) can = omega (arith, can.1, b.small)
   asked_small (Raising had) can = omega (arith, can.limit, b.small)
 
-  pub may_request : (members : List Member) → u.pools ≡ figures_of (accounts_of members)
-      → All (HasCounts (2 ^ 63)) u.pools → MayAsk (member_at members q.pool).account q.units
-  may_request members same counts =
-      let here : HasCounts (2 ^ 63) (member_at members q.pool).account.figures =
-      subst (HasCounts (2 ^ 63))
-      (ap (λ (fs : List Figures). figures_at fs q.pool) same ∙ figures_there members q.pool)
-      (counts q.pool (opening_account 0).figures may.pool) in
+  pub may_request : All (HasCounts (2 ^ 63)) u.pools → MayBeAsked u.pools q.pool q.units
+  may_request counts =
+      let here = counts q.pool (opening_account 0).figures may.pool in
       record {
+        exists = may.pool;
         at_least_one = may.some;
         at_most_bandwidth = asked_small q.purpose may.purpose;
         refusals_below = here.refusals;
@@ -271,11 +267,11 @@ IsBacked-is u calls pools most b same_calls same_pools same_most =
       call_limit = u.call_limit;
     }) b
 
--- what a table of calls and a set of pools come to
-abbrev pub usage_in : CallTable → List Member → ℕ → ℕ → Usage
-usage_in table members limit call_limit = record {
+-- what a table of calls and the figures of pools come to
+abbrev pub usage_in : CallTable → List Figures → ℕ → ℕ → Usage
+usage_in table pools limit call_limit = record {
   calls = table.calls;
-  pools = figures_of (accounts_of members);
+  pools = pools;
   most = table.most;
   limit = limit;
   call_limit = call_limit;
@@ -315,46 +311,37 @@ pub freed_as : (r : Result Left CallFault) (left : Left) → r ≡ Ok left
 freed_as r left ok freed was named is =
     sym (if_ok (λ left. left.ended ≡ freed) r left ok named) ∙ is
 
--- no call, and pools that have lent nothing
-idle_lent : (a : Account) → IsTrue (is_idle a) → a.figures.lent ≡ 0
-idle_lent a idle = grind (arith, idle)
-
 -- no pool has lent more than its limit
-pub within_idle : (members : List Member) → All (λ m. IsTrue (is_idle m.account)) members
-    → All (λ f. f.lent ≤ f.limit) (figures_of (accounts_of members))
-within_idle members idle =
-    within_limits members
-    (λ k d below. omega (arith, idle_lent (get_or members k d).account (idle k d below)))
+pub within_idle : (pools : List Figures) → All IsIdle pools → AreWithinLimits pools
+within_idle pools idle k d below = omega (arith, (idle k d below).lent)
 
-pub IsBacked-start : (members : List Member) (most limit call_limit : ℕ)
-    → All (λ m. IsTrue (is_idle m.account)) members → call_limit < 2 ^ 32
+-- no call, and pools that have lent nothing
+pub IsBacked-start : (pools : List Figures) (most limit call_limit : ℕ)
+    → All IsIdle pools → call_limit < 2 ^ 32
     → IsBacked (record {
       calls = fin.empty;
-      pools = figures_of (accounts_of members);
+      pools = pools;
       most = most;
       limit = limit;
       call_limit = call_limit;
     })
-IsBacked-start members most limit call_limit idle small = record {
+IsBacked-start pools most limit call_limit idle small = record {
   small = small;
   lent = λ p below. omega (
     arith,
-    ap (λ f. f.lent) (figures_there members p),
-    idle_lent (member_at members p).account
-        (idle p (new_member (opening_account 0)) (omega (arith, below, length-figures members))),
+    (idle p (opening_account 0).figures below).lent,
     total-empty call_key_cmp_total call_key_cmp-IsAntisymmetric (units_from p),
   );
-  pools = EachCall-empty (λ call. call.pool < length (figures_of (accounts_of members)));
+  pools = EachCall-empty (λ call. call.pool < length pools);
   call_limit = EachCall-empty (λ call. call.units ≤ call_limit);
   limit = omega (arith, total-empty call_key_cmp_total call_key_cmp-IsAntisymmetric units_of);
 }
 
 -- what holds of the calls and the pools as they are held
-pub IsSoundUsage-held : (table : CallTable) (members : List Member) (limit call_limit : ℕ)
-    → IsBacked (usage_in table members limit call_limit) → IsConsistent table
-    → All (λ f. f.lent ≤ f.limit) (figures_of (accounts_of members))
-    → IsSoundUsage (usage_in table members limit call_limit)
-IsSoundUsage-held table members limit call_limit backed sound within = record {
+pub IsSoundUsage-held : (table : CallTable) (pools : List Figures) (limit call_limit : ℕ)
+    → IsBacked (usage_in table pools limit call_limit) → IsConsistent table
+    → AreWithinLimits pools → IsSoundUsage (usage_in table pools limit call_limit)
+IsSoundUsage-held table pools limit call_limit backed sound within = record {
   backed = backed;
   each = sound.each;
   few = sound.few;

@@ -1,4 +1,4 @@
--- Pools of which nothing changes but what they have lent.
+-- Pools to which units may come back, and of which nothing else changes.
 use Rattle.std.proofs.Common.{◌<◌, ◌+◌, ℕ, List, length, refl, sym, ◌∙◌, subst, Some, None, arith}
 use Rattle.std.specs.Prelude.{Option}
 use Rattle.std.proofs.lemmas.List.{get_or_default, length-set}
@@ -15,14 +15,14 @@ use Rattle.zone_tables.specs.Pools.{figures_at, figures_after_return, pools_afte
 use Rattle.zone_tables.specs.Changes.{after_change}
 use Rattle.zone_tables.specs.Leaving.{AreSameButLent, IsSameButLent}
 use Rattle.zone_tables.specs.Soundness.{HasCounts, CountsOneMore}
-use Rattle.zone_tables.proofs.PoolFigures.{figures_here, figures_elsewhere}
+use Rattle.zone_tables.proofs.OnePool.{figures_here, figures_elsewhere}
 
--- the pools but for what they have lent
+-- units come back
 pub same_after_end : (pools : List Figures) (freed : Option (ℕ × ℕ))
     → AreSameButLent pools (pools_after_end pools freed)
 same_after_end pools None = record {
   each = refl;
-  same = λ p below. record { limit = refl; refusals = refl; waits = refl };
+  same = λ p below. record { lent = omega arith; limit = refl; refusals = refl; waits = refl };
 }
 same_after_end pools (Some freed) =
     let back = figures_after_return (figures_at pools freed.0) freed.1 in
@@ -34,10 +34,10 @@ same_after_end pools (Some freed) =
           (sym (figures_here pools freed.0 back p here (omega (arith, here, below))))
           (subst (λ (q : ℕ). IsSameButLent (figures_at pools p)
           (figures_after_return (figures_at pools q) freed.1)) here
-          (record { limit = refl; refusals = refl; waits = refl })))
+          (record { lent = omega arith; limit = refl; refusals = refl; waits = refl })))
           (λ differ. subst (λ (f : Figures). IsSameButLent (figures_at pools p) f)
           (sym (figures_elsewhere pools freed.0 back p differ))
-          (record { limit = refl; refusals = refl; waits = refl }));
+          (record { lent = omega arith; limit = refl; refusals = refl; waits = refl }));
     }
 
 pub same_through : (a b c : List Figures) → AreSameButLent a b
@@ -48,9 +48,9 @@ same_through a b c f g = record {
       let x = f.same p below in
       let y = g.same p (omega (arith, below, f.each)) in
       record {
+        lent = omega (arith, x.lent, y.lent);
         limit = y.limit ∙ x.limit;
-        refusals = y.refusals
-            ∙ x.refusals;
+        refusals = y.refusals ∙ x.refusals;
         waits = y.waits ∙ x.waits;
       };
 }

@@ -22,7 +22,7 @@ use Rattle.pools.specs.Account.{figures_after_answer}
 use Rattle.zone_tables.specs.Pools.{figures_at, pools_after_answer, pools_after_return}
 use Rattle.zone_tables.specs.Pools.{pools_after_end, figures_after_return}
 use Rattle.zone_tables.specs.Soundness.{IsLentTo}
-use Rattle.zone_tables.proofs.PoolFigures.{figures_here, figures_elsewhere}
+use Rattle.zone_tables.proofs.OnePool.{figures_here, figures_elsewhere}
 
 -- what a pool's units are added to
 same_pool : (p units : ℕ) → (if nat_eq p p then units else 0) ≡ units

@@ -1,7 +1,8 @@
 pub mod Answered
 pub mod Agreeing
 pub mod Fitting
-pub mod PoolFigures
+pub mod Members
+pub mod OnePool
 pub mod Lending
 pub mod Backing
 pub mod Translating

@@ -23,7 +23,7 @@ use Rattle.zone_tables.specs.declared.change.Change.TheVariants.{Nothing, Endpoi
 use Rattle.zone_tables.specs.declared.entry.Entry.{Entry}
 use Rattle.pools.specs.declared.interface.Figures.{Figures}
 use Rattle.zone_tables.specs.Tables.{Tables, with_live, heard_now}
-use Rattle.zone_tables.specs.Parts.{RunningTables, Roll, Usage, usage_of}
+use Rattle.zone_tables.specs.Parts.{Roll, Usage, usage_of}
 use Rattle.zone_tables.specs.Pools.{pools_after_return, pools_after_end}
 
 abbrev pub after_endpoint_change : ℕ → EndpointChange → Live → Live
@@ -131,11 +131,7 @@ IsPossible z (Endpoint change) = IsEndpointChange (roll_of z) change × IsFree z
 IsPossible z (Calls change) =
     IsCallChange (usage_of z) change × IfSome (leg_added change) (IsRegistered z.live)
 
--- the tables after a change, and after an endpoint was heard
-abbrev pub changed : RunningTables → ℕ → Change → RunningTables
-changed z now change = record z { tables = after_change now change z.tables }
-
-abbrev pub heard : RunningTables → ℕ → Option (List ℕ) → RunningTables
+-- the tables after an endpoint was heard
+abbrev pub heard : Tables → ℕ → Option (List ℕ) → Tables
 heard z now None = z
-heard z now (Some id) =
-    record z { tables = with_live z.tables (heard_now now id z.tables.live) }
+heard z now (Some id) = with_live z (heard_now now id z.live)

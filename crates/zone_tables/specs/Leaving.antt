@@ -1,5 +1,5 @@
 -- How an endpoint leaves all its calls, whatever their order.
-use Rattle.std.specs.Prelude.{ℕ, ◌≡◌, ◌<◌, List, length, Option, option_and_then}
+use Rattle.std.specs.Prelude.{ℕ, ◌≡◌, ◌<◌, ◌≤◌, List, length, Option, option_and_then}
 use Rattle.std.specs.FinMap.{get}
 use Rattle.ras_module.specs.declared.call_key.CallKey.{CallKey}
 use Rattle.admission.specs.declared.call.Call.{Call}
@@ -9,8 +9,9 @@ use Rattle.pools.specs.declared.interface.Figures.{Figures}
 use Rattle.zone_tables.specs.Pools.{figures_at}
 use Rattle.zone_tables.specs.Parts.{Usage}
 
--- what a pool has lent may have changed, and nothing else
+-- units may have come back to a pool, and nothing else changed
 pub record IsSameButLent (old new : Figures) : Type 0 where
+  pub lent : new.lent ≤ old.lent
   pub limit : new.limit ≡ old.limit
   pub refusals : new.refusals ≡ old.refusals
   pub waits : new.waits ≡ old.waits

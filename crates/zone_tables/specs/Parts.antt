@@ -1,10 +1,11 @@
 -- The parts of a zone: its endpoints, and its calls with the pools that lend them their units.
-use Rattle.std.specs.Prelude.{ℕ, ◌≡◌, ◌≤◌, ◌<◌, ◌^◌, List, length, All}
+use Rattle.std.specs.Prelude.{ℕ, ◌≡◌, ◌≤◌, ◌<◌, ◌^◌, List, length}
 use Rattle.std.specs.FinMap.{len}
 use Rattle.registrations.specs.Registry.{Live, IsConsistent}
 use Rattle.admission.specs.Calls.{OpenCalls, EachCall, IsCall, in_use}
 use Rattle.pools.specs.declared.interface.Figures.{Figures}
-use Rattle.zone_tables.specs.Tables.{Tables, Tally}
+use Rattle.zone_tables.specs.Tables.{Tables}
+use Rattle.zone_tables.specs.Pools.{AreWithinLimits}
 use Rattle.zone_config.specs.declared.config.ConfigParts.{ConfigParts}
 use Rattle.zone_config.specs.Ranges.{IsConfig}
 use Rattle.zone_tables.specs.Soundness.{HaveAliasesApart, HaveEndpoints, IsLentTo}
@@ -32,11 +33,9 @@ usage_of z = record {
   call_limit = z.config.call_limit;
 }
 
--- with the tally of each pool, and how many more calls can be opened so that no memory is taken for
--- them
+-- with how many more calls can be opened so that no memory is taken for them
 pub record Lending : Type 0 where
   pub usage : Usage
-  pub tallies : List Tally
   pub room : ℕ
 
 -- these calls are open instead, and these are the figures of the pools
@@ -64,7 +63,7 @@ pub record IsSoundUsage (u : Usage) : Type 0 where
   pub each : EachCall IsCall u.calls
   pub few : len u.calls ≤ u.most
   pub most : u.most ≤ 20000
-  pub within : All (λ f. f.lent ≤ f.limit) u.pools
+  pub within : AreWithinLimits u.pools
 
 -- the endpoints and the calls of a zone with these settings
 pub record AreParts (config : ConfigParts) (roll : Roll) (u : Usage) : Type 0 where
@@ -81,8 +80,3 @@ pub record AreSoundParts (config : ConfigParts) (roll : Roll) (u : Usage) : Type
   pub endpoints : IsSoundRoll roll
   pub calls : IsSoundUsage u
   pub parts : AreParts config roll u
-
--- the tables as the gatekeeper runs: beside them, the tally of each pool
-pub record RunningTables : Type 0 where
-  pub tables : Tables
-  pub tallies : List Tally

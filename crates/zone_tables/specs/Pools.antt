@@ -1,24 +1,23 @@
--- The figures of a zone's pools, and their tallies.
-use Rattle.std.specs.Prelude.{ℕ, ◌-◌, List, map, slice_index_or, slice_set, Option, None, Some}
+-- The figures of a zone's pools.
+use Rattle.std.specs.Prelude.{ℕ, ◌≡◌, ◌≤◌, ◌<◌, ◌-◌, ◌^◌, List, All, length, map}
+use Rattle.std.specs.Prelude.{slice_index_or, slice_set, Option, None, Some}
 use Rattle.pools.specs.declared.interface.Figures.{Figures}
 use Rattle.pools.specs.declared.interface.Lend.{Lend}
 use Rattle.pools.specs.Account.{Account, opening_account, figures_after_answer}
-use Rattle.pools.specs.Members.{Member, one_more}
-use Rattle.zone_tables.specs.Tables.{Last, Tally}
 
--- the figures of each account, and its last request with the answer
+-- the figures of each account
 abbrev pub figures_of : List Account → List Figures
 figures_of accounts = map (λ a. a.figures) accounts
 
-abbrev pub lasts_of : List Account → List Last
-lasts_of accounts = map (λ a. a.last) accounts
+-- no pool has lent more than its limit
+abbrev pub AreWithinLimits : List Figures → Type 0
+AreWithinLimits pools = All (λ f. f.lent ≤ f.limit) pools
 
--- the last request of each pool, with what its set counted of it
-abbrev pub tally_of : Member → Tally
-tally_of m = record { last = m.account.last; requests = m.requests; turns = m.turns }
-
-abbrev pub tallies_of : List Member → List Tally
-tallies_of members = map tally_of members
+-- nothing is lent, and the counts leave room for 2^62 more requests
+pub record IsIdle (f : Figures) : Type 0 where
+  pub lent : f.lent ≡ 0
+  pub refusals : f.refusals < 2 ^ 62
+  pub waits : f.waits < 2 ^ 62
 
 -- the figures at a place; past the end, those of a pool of no units
 abbrev pub figures_at : List Figures → ℕ → Figures
@@ -42,41 +41,16 @@ abbrev pub pools_after_end : List Figures → Option (ℕ × ℕ) → List Figur
 pools_after_end pools None = pools
 pools_after_end pools (Some freed) = pools_after_return pools freed.0 freed.1
 
-abbrev pub without_loans : Figures → Figures
-without_loans f = record f { lent = 0 }
-
--- all that was lent came back
-abbrev pub figures_without_loans : List Figures → List Figures
-figures_without_loans pools = map without_loans pools
-
 -- the units that are requested of a pool
 pub record RequestedUnits : Type 0 where
   pub pool : ℕ
   pub units : ℕ
 
--- the tally at a place; past the end, that of a pool that was asked and told nothing
-abbrev pub tally_at : List Tally → ℕ → Tally
-tally_at tallies pool =
-    slice_index_or tallies pool (record { last = None; requests = 0; turns = 0 })
-
--- a pool was asked once for these units, and gave this answer
-abbrev pub tally_after_answer : Tally → ℕ → Lend → Tally
-tally_after_answer t units answer = record t {
-  last = Some (units, answer);
-  requests = one_more t.requests;
-}
-
--- a pool made one turn
-abbrev pub tally_after_turn : Tally → Tally
-tally_after_turn t = record t { turns = one_more t.turns }
-
--- The pool that was asked has that request, with the answer, as its last one, and was asked once
--- more; the tallies of all others stay.
-abbrev pub tallies_after_answer : List Tally → RequestedUnits → Lend → List Tally
-tallies_after_answer tallies requested answer =
-    slice_set tallies requested.pool
-    (tally_after_answer (tally_at tallies requested.pool) requested.units answer)
-
--- each pool made one turn
-abbrev pub tallies_after_turn : List Tally → List Tally
-tallies_after_turn tallies = map tally_after_turn tallies
+-- Units may be requested of a pool: one at least, and at most what a BandWidth of H.225.0 names, while
+-- there is room to count one more refusal and one more wait.
+pub record MayBeAsked (pools : List Figures) (pool units : ℕ) : Type 0 where
+  pub exists : pool < length pools
+  pub at_least_one : 1 ≤ units
+  pub at_most_bandwidth : units < 2 ^ 32
+  pub refusals_below : (figures_at pools pool).refusals < 2 ^ 63
+  pub waits_below : (figures_at pools pool).waits < 2 ^ 63

@@ -8,7 +8,7 @@ use Rattle.admission.specs.Calls.{OpenCalls, EachCall, EachLeg, IsCall, in_use, 
 use Rattle.pools.specs.declared.interface.Figures.{Figures}
 use Rattle.zone_config.specs.Ranges.{IsConfig}
 use Rattle.zone_tables.specs.Tables.{Tables}
-use Rattle.zone_tables.specs.Pools.{figures_at}
+use Rattle.zone_tables.specs.Pools.{AreWithinLimits, figures_at}
 
 -- no two registrations share an alias
 abbrev pub HaveAliasesApart : Live → Type 0
@@ -46,6 +46,6 @@ pub record SoundTables (z : Tables) : Type 0 where
   pub call_limit : EachCall (λ call. call.units ≤ z.config.call_limit) z.calls
   pub call_pools : EachCall (λ call. call.pool < length z.pools) z.calls
   pub lent : IsLentTo z.pools z.calls
-  pub pool_limits : All (λ f. f.lent ≤ f.limit) z.pools
+  pub pool_limits : AreWithinLimits z.pools
   pub limit : in_use z.calls ≤ z.config.limit
   pub pools : length z.pools ≡ length z.config.networks

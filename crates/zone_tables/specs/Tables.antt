@@ -1,11 +1,10 @@
 -- What the tables of a zone have.
-use Rattle.std.specs.Prelude.{ℕ, List, Option}
+use Rattle.std.specs.Prelude.{ℕ, List}
 use Rattle.std.specs.FinMap.{empty}
 use Rattle.keyed.specs.Maps.{update}
 use Rattle.registrations.specs.Registry.{Live, after_hear}
 use Rattle.admission.specs.Calls.{OpenCalls}
 use Rattle.pools.specs.declared.interface.Figures.{Figures}
-use Rattle.pools.specs.declared.interface.Lend.{Lend}
 use Rattle.zone_config.specs.declared.config.ConfigParts.{ConfigParts}
 
 -- The tables of a zone: its settings, which endpoints are registered, the calls, and the figures of
@@ -36,14 +35,3 @@ with_calls z calls = record z { calls = calls }
 -- the endpoint was heard now, if it is registered
 abbrev pub heard_now : ℕ → List ℕ → Live → Live
 heard_now now id live = update live id (after_hear now)
-
--- what a pool was asked for last, with its answer
-abbrev pub Last : Type 0
-Last = Option (ℕ × Lend)
-
--- What is known of a pool beside its figures: its last request, how often it was asked for units, and
--- how many turns it made.
-pub record Tally : Type 0 where
-  pub last : Last
-  pub requests : ℕ
-  pub turns : ℕ

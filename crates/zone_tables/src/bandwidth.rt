@@ -1,14 +1,13 @@
-//! The calls of a zone, with the pools that lend them their bandwidth.
+//! The calls of a zone, with the figures of the pools that lend them their bandwidth.
 
-ghost use Rattle.std.specs.Prelude.{◌≡◌, ◌<◌, ◌≤◌, ◌^◌, ℕ, All, Some, IfOk, IsSome, IsTrue, OnErr, OnOk, map};
+ghost use Rattle.std.specs.Prelude.{◌≡◌, ◌<◌, ◌≤◌, ◌^◌, ℕ, All, Some, IfOk, IsSome, IsTrue, OnErr, OnOk};
 ghost use Rattle.std.specs.Option.{option_copied};
 ghost use Rattle.std.specs.FinMap as fin;
 ghost use Rattle.keyed.specs.Maps.{update};
 ghost use Rattle.admission.specs.Calls.{IsConsistent, after_leave, freed_by_leave, in_use, leg_at};
 ghost use Rattle.admission.specs.Calls.{legs_of, new_call, with_leg, with_units};
-ghost use Rattle.pools.specs.Account.{IsAnswer, is_idle};
-ghost use Rattle.pools.specs.Members.{accounts_of};
-ghost use Rattle.zone_tables.specs.Pools.{figures_at, figures_of, figures_without_loans, lasts_of};
+ghost use Rattle.pools.specs.Account.{IsAnswer};
+ghost use Rattle.zone_tables.specs.Pools.{IsIdle, figures_at};
 ghost use Rattle.zone_tables.specs.Pools.{pools_after_answer, pools_after_end, pools_after_return};
 ghost use Rattle.zone_tables.specs.Changes.{IsCallChange, IsJoinable, IsLowerable, IsOpenable};
 ghost use Rattle.zone_tables.specs.UnitRequests.{IsEnterable, IsUnitRequest};
@@ -18,32 +17,31 @@ ghost use Rattle.zone_config.specs.Ranges.{IsConfig};
 ghost use Rattle.zone_tables.specs.Parts.{IsSoundUsage, with_usage};
 ghost use Rattle.zone_tables.specs.Leaving.{HaveLeft};
 ghost use Rattle.zone_tables.specs.Soundness.{HasCounts};
-ghost use Rattle.zone_tables.specs.Pools.{tallies_after_answer, tallies_after_turn, tallies_of};
 
 use crate::change::CallChange;
+use crate::lender::Lender;
+use crate::pool_figures::PoolFigures;
 use crate::unit_request::{Purpose, UnitRequest};
 use admission::{Call, CallList, Calls, Leg};
-use pools::{Lend, Pool, PoolSet};
+use pools::Lend;
 use ras_module::{CallKey, EndpointId};
 use std::alloc::{AllocError, Global};
 use std::marker::Model;
 use zone_config::Config;
 
-/// The calls, with the pools from which they have their units. Contracts see that what each pool has
-/// lent is what its calls use.
+/// The calls, with the figures of the pools from which they have their units. Contracts see that what
+/// each pool has lent is what its calls use.
 #[derive(Drop)]
-pub struct Bandwidth<P: Pool> {
+pub struct Bandwidth {
     calls: Calls,
-    pools: PoolSet<P>,
+    pools: PoolFigures,
     limit: u64,
     call_limit: u32,
 }
 
-impl<P: Pool> Model for Bandwidth<P> {
+impl Model for Bandwidth {
     ghost use Rattle.std.specs.Coded.{codes};
     ghost use Rattle.std.specs.FinMap as fin;
-    ghost use Rattle.pools.specs.Members.{accounts_of};
-    ghost use Rattle.zone_tables.specs.Pools.{figures_of, tallies_of};
     ghost use Rattle.zone_tables.specs.Parts.{IsSoundUsage, Lending};
 
     ghost Value = { Lending };
@@ -53,36 +51,34 @@ impl<P: Pool> Model for Bandwidth<P> {
     ghost view = { λ b. record {
       usage = record {
         calls = b.calls.calls;
-        pools = figures_of (accounts_of b.pools);
+        pools = b.pools;
         most = b.calls.most;
         limit = b.limit;
         call_limit = b.call_limit;
       };
-      tallies = tallies_of b.pools;
       room = b.calls.room;
     } };
 
     ghost invariant = { λ b. IsSoundUsage (record {
       calls = b.calls.calls;
-      pools = figures_of (accounts_of b.pools);
+      pools = b.pools;
       most = b.calls.most;
       limit = b.limit;
       call_limit = b.call_limit;
     }) };
 }
 
-impl<P: Pool> Bandwidth<P> {
+impl Bandwidth {
     /// No call, and pools with nothing lent.
-    pub fn new(alloc: Global, config: &Config, pools: PoolSet<P>) -> Self
-        requires { All (λ m. IsTrue (is_idle m.account)) pools }
+    pub fn new(alloc: Global, config: &Config, pools: PoolFigures) -> Self
+        requires { All IsIdle pools }
         ensures usage { result.usage ≡ record {
           calls = fin.empty;
-          pools = figures_of (accounts_of pools);
+          pools = pools;
           most = config.now.calls;
           limit = config.now.limit;
           call_limit = config.now.call_limit;
         } }
-        ensures tallies { result.tallies ≡ tallies_of pools }
         ensures sound { IsSoundUsage result.usage }
         ensures settings { IsConfig config.now }
     {
@@ -92,6 +88,18 @@ impl<P: Pool> Bandwidth<P> {
             limit: config.parts().limit,
             call_limit: config.call_limit(),
         }
+    }
+
+    /// The same calls and figures, in tables of their own.
+    pub fn copy(&self) -> Result<Self, AllocError>
+        ensures { IfOk result (λ copy. copy.usage ≡ self.now.usage) }
+    {
+        Ok(Bandwidth {
+            calls: self.calls.copy()?,
+            pools: self.pools.copy(),
+            limit: self.limit,
+            call_limit: self.call_limit,
+        })
     }
 
     /// How many calls are open.
@@ -120,6 +128,13 @@ impl<P: Pool> Bandwidth<P> {
         &self.calls
     }
 
+    /// The figures of the pools.
+    pub fn pools(&self) -> &PoolFigures
+        ensures { result.now ≡ self.now.usage.pools }
+    {
+        &self.pools
+    }
+
     /// In how many calls an endpoint has a leg.
     pub fn legs_of(&self, endpoint: &EndpointId) -> usize
         ensures { result ≡ legs_of self.now.usage.calls endpoint.now }
@@ -145,7 +160,6 @@ impl<P: Pool> Bandwidth<P> {
     /// Makes room for so many more calls.
     pub fn reserve(&mut self, more: usize) -> Result<(), AllocError>
         ensures usage { self.new.usage ≡ self.old.usage }
-        ensures tallies { self.new.tallies ≡ self.old.tallies }
         ensures room { OnOk result (more ≤ self.new.room) }
     {
         self.calls.reserve(more)
@@ -157,7 +171,6 @@ impl<P: Pool> Bandwidth<P> {
         ensures ok { OnOk result (self.new.usage ≡ with_usage self.old.usage
             (calls_after change self.old.usage.calls)
             (pools_after change self.old.usage.calls self.old.usage.pools)) }
-        ensures tallies { self.new.tallies ≡ self.old.tallies }
         ensures sound { OnOk result (IsSoundUsage self.new.usage) }
         ensures err { OnErr result (self.new.usage ≡ self.old.usage) }
     {
@@ -176,7 +189,6 @@ impl<P: Pool> Bandwidth<P> {
         requires { IsOpenable self.old.usage key pool }
         ensures ok { OnOk result (self.new.usage ≡ with_usage self.old.usage
             (fin.insert self.old.usage.calls key (new_call pool 0 leg)) self.old.usage.pools) }
-        ensures tallies { self.new.tallies ≡ self.old.tallies }
         ensures err { OnErr result (self.new.usage ≡ self.old.usage) }
     {
         self.calls.reserve(1)?;
@@ -186,19 +198,17 @@ impl<P: Pool> Bandwidth<P> {
 
     fn join(&mut self, key: CallKey, leg: Leg)
         requires { IsJoinable self.old.usage.calls key leg }
-        ensures usage { self.new.usage ≡ with_usage self.old.usage
+        ensures { self.new.usage ≡ with_usage self.old.usage
             (update self.old.usage.calls key (with_leg leg)) self.old.usage.pools }
-        ensures tallies { self.new.tallies ≡ self.old.tallies }
     {
         self.calls.join(key, leg).unwrap();
     }
 
     fn lower(&mut self, key: &CallKey, units: u32, pool: usize, back: u32)
         requires { IsLowerable self.old.usage.calls key.now units pool back }
-        ensures usage { self.new.usage ≡ with_usage self.old.usage
+        ensures { self.new.usage ≡ with_usage self.old.usage
             (update self.old.usage.calls key.now (with_units units))
             (pools_after_return self.old.usage.pools pool back) }
-        ensures tallies { self.new.tallies ≡ self.old.tallies }
     {
         self.pools.take_back(pool, u64::from(back));
         self.calls.set_units(key, units).unwrap();
@@ -206,11 +216,10 @@ impl<P: Pool> Bandwidth<P> {
 
     fn leave(&mut self, key: &CallKey, endpoint: &EndpointId)
         requires { IsSome (leg_at self.old.usage.calls key.now endpoint.now) }
-        ensures usage { self.new.usage ≡ with_usage self.old.usage
+        ensures { self.new.usage ≡ with_usage self.old.usage
             (after_leave self.old.usage.calls key.now endpoint.now)
             (pools_after_end self.old.usage.pools
             (freed_by_leave self.old.usage.calls key.now endpoint.now)) }
-        ensures tallies { self.new.tallies ≡ self.old.tallies }
     {
         let left = self.calls.leave(key, endpoint).unwrap();
         if let Some((pool, units)) = left.ended {
@@ -221,7 +230,6 @@ impl<P: Pool> Bandwidth<P> {
     /// An endpoint leaves all its calls.
     pub fn leave_all(&mut self, endpoint: &EndpointId)
         ensures left { HaveLeft endpoint.now self.old.usage self.new.usage }
-        ensures tallies { self.new.tallies ≡ self.old.tallies }
         ensures sound { IsSoundUsage self.new.usage }
     {
         while let Some(call) = self.calls.call_of(endpoint) {
@@ -229,18 +237,10 @@ impl<P: Pool> Bandwidth<P> {
         }
     }
 
-    /// Each pool makes a turn.
-    pub fn turn(&mut self)
-        ensures usage { self.new.usage ≡ self.old.usage }
-        ensures tallies { self.new.tallies ≡ tallies_after_turn self.old.tallies }
-        ensures sound { IsSoundUsage self.new.usage }
-    {
-        self.pools.turn();
-    }
-
     /// Requests units of a pool, once, for a call, which opens with them, or gets them, if they are
     /// lent. This takes no memory.
-    pub fn request_units(&mut self, request: &UnitRequest) -> Lend
+    pub fn request_units<L: Lender>(&mut self, request: &UnitRequest, lender: &mut L) -> Lend
+        requires figures { L.lends_for lender.old self.old.usage.pools }
         requires room { 0 < self.old.room }
         requires may { IsUnitRequest self.old.usage request.now }
         requires counts { All (HasCounts (2 ^ 63)) self.old.usage.pools }
@@ -249,25 +249,15 @@ impl<P: Pool> Bandwidth<P> {
         ensures usage { self.new.usage ≡ with_usage self.old.usage
             (calls_after_answer request.now result self.old.usage.calls)
             (pools_after_answer self.old.usage.pools request.now.pool result) }
-        ensures tallies { self.new.tallies
-            ≡ tallies_after_answer self.old.tallies (units_requested request.now) result }
+        ensures lends { L.lends lender.old self.old.usage.pools (units_requested request.now) result
+            lender.new }
         ensures sound { IsSoundUsage self.new.usage }
     {
-        let answer = self.pools.lend(request.pool, u64::from(request.units));
+        let units = u64::from(request.units);
+        let answer = lender.ask(&self.pools, request.pool, units);
+        self.pools.note_answer(request.pool, units, answer);
         enter(&mut self.calls, request, answer);
         answer
-    }
-
-    /// The pools, in their order, with nothing lent.
-    pub fn close(self) -> Vec<P>
-        ensures figures { figures_of (map P.account result.items)
-            ≡ figures_without_loans self.usage.pools }
-        ensures lasts { lasts_of (map P.account result.items)
-            ≡ map (λ t. t.last) self.tallies }
-        ensures repaid { All (λ f. f.lent ≡ 0) (figures_of (map P.account result.items)) }
-    {
-        let Bandwidth { pools, .. } = self;
-        pools.close()
     }
 }
 

@@ -55,6 +55,16 @@ impl Endpoints {
         }
     }
 
+    /// The same endpoints, in a table of their own.
+    pub fn copy(&self) -> Result<Self, AllocError>
+        ensures { IfOk result (λ copy. copy ≡ self.now) }
+    {
+        Ok(Endpoints {
+            registrations: self.registrations.copy()?,
+            aliases: self.aliases.copy()?,
+        })
+    }
+
     /// How many endpoints are registered.
     pub fn len(&self) -> usize
         ensures { result ≡ map.len self.now.live }

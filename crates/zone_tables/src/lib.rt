@@ -7,10 +7,14 @@ mod bandwidth;
 mod change;
 mod endpoints;
 mod entry;
+mod lender;
+mod pool_figures;
 mod tables;
 mod unit_request;
 
 pub use change::{CallChange, Change, EndpointChange};
 pub use entry::Entry;
+pub use lender::Lender;
+pub use pool_figures::PoolFigures;
 pub use tables::ZoneTables;
 pub use unit_request::{Purpose, UnitRequest};

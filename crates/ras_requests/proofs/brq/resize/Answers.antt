@@ -3,8 +3,8 @@ use Rattle.ras_requests.proofs.Resizing.{RequestsUnits-resizing}
 use Rattle.ras_requests.proofs.brq.resize.Goals as goal
 
 pub returns-clause-concludes : goal.returns-clause-concludes
-returns-clause-concludes g c =
-    let z = c.args.tables.now.tables in
+returns-clause-concludes c =
+    let z = c.args.tables.now in
     let sound = c.units_left-left.ensures.sound in
     let more : c.args.call.now.units < c.wanted-wanted.result =
     omega (arith, c.if-wanted-call.false) in

@@ -4,8 +4,8 @@ use Rattle.ras_requests.proofs.Conclusions.{Decides-renewal}
 use Rattle.ras_requests.proofs.rrq.keep_alive.Goals as goal
 
 pub returns : goal.returns
-returns g c =
-    let z = c.args.tables.now.tables in
+returns c =
+    let z = c.args.tables.now in
     let q = c.args.q.now in
     let r = c.in-Some-get.r.now in
     Decides-renewal z c.args.now q c.in-Some.id r c.confirmation.result c.deadline.result

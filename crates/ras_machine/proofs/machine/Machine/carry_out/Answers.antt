@@ -23,7 +23,7 @@ use Rattle.ras_machine.proofs.Dropping.{over_of}
 use Rattle.ras_machine.proofs.machine.Machine.carry_out.Goals as goal
 
 pub reserve-requires-clause-over : goal.reserve-requires-clause-over
-reserve-requires-clause-over g c =
+reserve-requires-clause-over c =
     subst (λ (n : ℕ). IfSome (dropped_for c.args.job.occasion)
     (Passes (is_over n) c.self.inside.kept.kept)) (sym c.milliseconds.ensures.same)
     (subst (λ (m : Running). IfSome (dropped_for c.args.job.occasion)
@@ -31,7 +31,7 @@ reserve-requires-clause-over g c =
     (over_of c.args.self.now.state c.args.now c.args.job.occasion c.requires.timely))
 
 pub invariant_of-self-2 : goal.invariant_of-self-2
-invariant_of-self-2 g c = record {
+invariant_of-self-2 c = record {
   tables = c.hear.ensures.sound;
   kept = c.keep.ensures.sound;
   most = search rules;

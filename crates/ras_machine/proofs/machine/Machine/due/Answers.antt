@@ -9,7 +9,7 @@ use Rattle.ras_machine.specs.State.{Running}
 use Rattle.ras_machine.proofs.machine.Machine.due.Goals as goal
 
 pub returns : goal.returns
-returns g c =
+returns c =
     let is = c.self.view_is in
     let live = c.registrations-registrations.ensures
     ∙ ap (λ (m : Running). m.state.tables.live) is in

@@ -9,7 +9,7 @@ use Rattle.ras_machine.proofs.Noting.{does_item}
 use Rattle.ras_machine.proofs.machine.Machine.expire.Goals as goal
 
 pub returns : goal.returns
-returns g c =
+returns c =
     let i = c.self.inside in
     let old =
     running_of i.tables i.kept.kept i.clock i.interrogation_number i.next_pool_turn i.steps in

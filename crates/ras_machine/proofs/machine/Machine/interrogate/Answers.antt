@@ -14,7 +14,7 @@ use Rattle.ras_machine.proofs.Noting.{does_item, tries_few_in}
 use Rattle.ras_machine.proofs.machine.Machine.interrogate.Goals as goal
 
 pub interrogated-requires : goal.interrogated-requires
-interrogated-requires g c =
+interrogated-requires c =
     let z = c.self.inside.tables.tables in
     let due = subst (λ (m : Running). IsDueIn m.state c.args.now (Interrogate c.args.id))
     (sym c.self.view_is) c.requires.due in
@@ -22,7 +22,7 @@ interrogated-requires g c =
     c.get.ensures.asks
 
 pub returns-clause-does : goal.returns-clause-does
-returns-clause-does g c =
+returns-clause-does c =
     let i = c.self.inside in
     let old =
     running_of i.tables i.kept.kept i.clock i.interrogation_number i.next_pool_turn i.steps in

@@ -10,7 +10,7 @@ use Rattle.zone_tables.proofs.Departing.{settings_stay}
 use Rattle.ras_machine.proofs.machine.Machine.lapse.Goals as goal
 
 pub invariant_of-self : goal.invariant_of-self
-invariant_of-self g c = record {
+invariant_of-self c = record {
   tables = c.lapse.ensures.sound;
   kept = c.self.invariant.kept;
   most = c.self.invariant.most ∙ sym (ap (λ (z : Tables). z.config.kept) c.lapse.ensures.tables
@@ -23,7 +23,7 @@ invariant_of-self g c = record {
 }
 
 pub returns : goal.returns
-returns g c =
+returns c =
     let i = c.self.inside in
     let old =
     running_of i.tables i.kept.kept i.clock i.interrogation_number i.next_pool_turn i.steps in

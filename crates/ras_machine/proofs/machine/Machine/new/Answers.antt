@@ -10,7 +10,7 @@ use Rattle.ras_machine.proofs.Waiting.{waiting_nothing}
 use Rattle.ras_machine.proofs.machine.Machine.new.Goals as goal
 
 pub returns-clause-sound : goal.returns-clause-sound
-returns-clause-sound g c =
+returns-clause-sound c =
     let kept = c.new-kept.result.kept in
     record {
       tables = c.new.ensures.sound;

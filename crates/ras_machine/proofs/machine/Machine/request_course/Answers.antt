@@ -12,14 +12,14 @@ use Rattle.ras_machine.proofs.Retrying.{is_served}
 use Rattle.ras_machine.proofs.machine.Machine.request_course.Goals as goal
 
 pub returns-in-Irr : goal.returns-in-Irr
-returns-in-Irr g c =
+returns-in-Irr c =
     let s = c.args.self.now.state in
     let now = c.args.now in
     subst (λ r. CallsFor s now (request_course s now c.args.key c.args.dropped r)
     c.response_course.result) (sym c.in-Irr.is) (c.response_course.ensures now)
 
 pub returns-in-Some : goal.returns-in-Some
-returns-in-Some g c =
+returns-in-Some c =
     let s = c.args.self.now.state in
     let now = c.args.now in
     let key = c.args.key in
@@ -36,7 +36,7 @@ returns-in-Some g c =
     (calls plan.0 plan.1)))
 
 pub returns-then-not-is_full : goal.returns-then-not-is_full
-returns-then-not-is_full g c =
+returns-then-not-is_full c =
     let s = c.args.self.now.state in
     let now = c.args.now in
     let key = c.args.key in
@@ -56,7 +56,7 @@ returns-then-not-is_full g c =
     c.first-then-not-is_full.ensures (calls plan.0 plan.1)))
 
 pub serving-requires-2 : goal.serving-requires-2
-serving-requires-2 g c =
+serving-requires-2 c =
     let s = c.args.self.now.state in
     let key = c.args.key in
     let absent = sym (ap (λ (m : Running). fin.get m.state.kept key) c.self.view_is)
@@ -73,7 +73,7 @@ serving-requires-2 g c =
     }
 
 pub returns : goal.returns
-returns g c =
+returns c =
     let s = c.args.self.now.state in
     let now = c.args.now in
     let key = c.args.key in

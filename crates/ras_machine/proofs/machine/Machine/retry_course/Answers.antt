@@ -5,17 +5,17 @@ use Rattle.ras_machine.proofs.Retrying.{plan_there}
 use Rattle.ras_machine.proofs.machine.Machine.retry_course.Goals as goal
 
 pub serving-requires-clause-served : goal.serving-requires-clause-served
-serving-requires-clause-served g c =
+serving-requires-clause-served c =
     (subst (IsWaitingRequest c.args.self.now.state c.args.now c.args.born) c.in-Some.is
     (c.in_ok-job.ensures c.args.now)).served
 
 pub serving-requires-clause-placed : goal.serving-requires-clause-placed
-serving-requires-clause-placed g c =
+serving-requires-clause-placed c =
     (subst (IsWaitingRequest c.args.self.now.state c.args.now c.args.born) c.in-Some.is
     (c.in_ok-job.ensures c.args.now)).placed
 
 pub returns-in-Some : goal.returns-in-Some
-returns-in-Some g c =
+returns-in-Some c =
     let s = c.args.self.now.state in
     let again = subst (IsWaitingRequest s c.args.now c.args.born) c.in-Some.is
     (c.in_ok-job.ensures c.args.now) in
@@ -25,7 +25,7 @@ returns-in-Some g c =
     (sym (again.course there.0 there.1)) (calls there.0 there.1))
 
 pub returns-in-None : goal.returns-in-None
-returns-in-None g c = record {
+returns-in-None c = record {
   is = sym (subst (IsWaitingRequest c.args.self.now.state c.args.now c.args.born) c.in-None.is
       (c.in_ok-job.ensures c.args.now));
   stands = tt;

@@ -6,7 +6,7 @@ use Rattle.zone_tables.proofs.Backing.{IsSoundUsage-held, IsBacked-is, IsBacked-
 use Rattle.zone_tables.proofs.bandwidth.Bandwidth.join.Goals as goal
 
 pub invariant_of-self : goal.invariant_of-self
-invariant_of-self g c =
+invariant_of-self c =
     let i = c.self.inside in
     let u = usage_in i.calls i.pools i.limit i.call_limit in
     let can = subst (λ (l : Lending). IsJoinable l.usage.calls c.args.key c.args.leg)

@@ -9,31 +9,30 @@ use Rattle.zone_tables.proofs.Departing.{all_left, fewer_legs, rest_after, same_
 use Rattle.zone_tables.proofs.bandwidth.Bandwidth.leave_all.Goals as goal
 
 pub loop-call-init : goal.loop-call-init
-loop-call-init g c = record {
+loop-call-init c = record {
   calls = λ key. refl;
   pools = same_after_end c.args.self.now.usage.pools None;
   most = refl;
   limit = refl;
   call_limit = refl;
-  tallies = refl;
 }
 
 pub loop-call-smaller : goal.loop-call-smaller
-loop-call-smaller g c =
+loop-call-smaller c =
     let e = c.args.endpoint.now in
     let calls = c.loop-call.self.usage.calls in
     let has = subst (λ (l : Lending). IsSome (leg_at l.usage.calls c.in-Some.call e)) c.self.view_is
     c.in-Some.ensures in
-    subst (λ (u : Usage). legs_of u.calls e < legs_of calls e) (sym c.leave.ensures.usage)
+    subst (λ (u : Usage). legs_of u.calls e < legs_of calls e) (sym c.leave.ensures)
     (fewer_legs e calls c.in-Some.call has)
 
 pub loop-call-preserved : goal.loop-call-preserved
-loop-call-preserved g c =
+loop-call-preserved c =
     let e = c.args.endpoint.now in
     let old = c.args.self.now.usage in
     let now = c.loop-call.self.usage in
     let so_far = c.loop-call.invariant in
-    let usage = c.leave.ensures.usage in
+    let usage = c.leave.ensures in
     record {
       calls = λ key. ap (λ (u : Usage). rest_of e (fin.get u.calls key)) usage
           ∙ (rest_after e now.calls c.in-Some.call key ∙ so_far.calls key);
@@ -43,11 +42,10 @@ loop-call-preserved g c =
       most = ap (λ (u : Usage). u.most) usage ∙ so_far.most;
       limit = ap (λ (u : Usage). u.limit) usage ∙ so_far.limit;
       call_limit = ap (λ (u : Usage). u.call_limit) usage ∙ so_far.call_limit;
-      tallies = c.leave.ensures.tallies ∙ so_far.tallies;
     }
 
 pub returns-clause-left : goal.returns-clause-left
-returns-clause-left g c =
+returns-clause-left c =
     let none = subst (λ (l : Lending). IsInNoCall l.usage.calls c.args.endpoint.now) c.self.view_is
     c.in_default.ensures in
     let each = subst (λ (l : Lending). EachCall IsCall l.usage.calls) c.self.view_is
@@ -62,5 +60,5 @@ returns-clause-left g c =
     }
 
 pub returns-clause-sound : goal.returns-clause-sound
-returns-clause-sound g c =
+returns-clause-sound c =
     subst (λ (l : Lending). IsSoundUsage l.usage) c.self.view_is c.self.invariant

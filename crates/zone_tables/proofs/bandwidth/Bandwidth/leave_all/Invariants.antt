@@ -7,15 +7,14 @@ use Rattle.zone_tables.proofs.bandwidth.Bandwidth.leave_all.Given as goal
 
 -- some calls were left so far, and what is left of all is the same
 abbrev pub invariant-loop-call : goal.invariant-loop-call
-invariant-loop-call g l = record {
+invariant-loop-call l = record {
   calls : (key : CallKey) → rest_of l.endpoint (fin.get l.self.usage.calls key)
       ≡ rest_of l.endpoint (fin.get l.fn.self.usage.calls key);
   pools : AreSameButLent l.fn.self.usage.pools l.self.usage.pools;
   most : l.self.usage.most ≡ l.fn.self.usage.most;
   limit : l.self.usage.limit ≡ l.fn.self.usage.limit;
   call_limit : l.self.usage.call_limit ≡ l.fn.self.usage.call_limit;
-  tallies : l.self.tallies ≡ l.fn.self.tallies;
 }
 
 abbrev pub decreases-loop-call : goal.decreases-loop-call
-decreases-loop-call g l = legs_of l.self.usage.calls l.endpoint
+decreases-loop-call l = legs_of l.self.usage.calls l.endpoint

@@ -2,18 +2,15 @@ use Rattle.std.proofs.Common.{◌≡◌, sym, ap, ◌∙◌, subst, arith}
 use Rattle.keyed.specs.Maps.{update}
 use Rattle.admission.specs.Calls.{with_units}
 use Rattle.zone_tables.specs.Changes.{IsLowerable}
-use Rattle.pools.specs.Members.{accounts_of}
 use Rattle.zone_tables.specs.Parts.{Lending, with_usage}
-use Rattle.zone_tables.specs.Pools.{figures_of, tallies_of, pools_after_return}
+use Rattle.zone_tables.specs.Pools.{pools_after_return}
 use Rattle.zone_tables.proofs.Answered.{on_ok}
-use Rattle.zone_tables.proofs.PoolFigures.{within_limits}
-use Rattle.zone_tables.proofs.PoolFigures.{figures-return, figures_there, tallies-return}
 use Rattle.zone_tables.proofs.Backing.{IsSoundUsage-held}
 use Rattle.zone_tables.proofs.Backing.{IsBacked-is, IsBacked-lower, back_is_lent, usage_in}
 use Rattle.zone_tables.proofs.bandwidth.Bandwidth.lower.Goals as goal
 
 pub take_back-requires-clause-lent : goal.take_back-requires-clause-lent
-take_back-requires-clause-lent g c =
+take_back-requires-clause-lent c =
     let i = c.self.inside in
     let u = usage_in i.calls i.pools i.limit i.call_limit in
     let can = subst (λ (l : Lending). IsLowerable l.usage.calls c.args.key.now c.args.units
@@ -22,12 +19,11 @@ take_back-requires-clause-lent g c =
     omega (
       arith,
       back_is_lent u c.self.invariant.backed c.args.key.now c.args.units c.args.pool c.args.back can,
-      ap (λ f. f.lent) (figures_there i.pools c.args.pool),
       c.from.ensures,
     )
 
 pub invariant_of-self : goal.invariant_of-self
-invariant_of-self g c =
+invariant_of-self c =
     let i = c.self.inside in
     let u = usage_in i.calls i.pools i.limit i.call_limit in
     let can = subst (λ (l : Lending). IsLowerable l.usage.calls c.args.key.now c.args.units
@@ -37,23 +33,21 @@ invariant_of-self g c =
     on_ok c.set_units.result c.unwrap.result c.unwrap.ensures c.set_units.ensures.ok in
     IsSoundUsage-held c.set_units.new.self c.take_back.new.self i.limit i.call_limit
     (IsBacked-is (with_usage u _ (pools_after_return u.pools c.args.pool c.args.back))
-    c.set_units.new.self.calls (figures_of (accounts_of c.take_back.new.self)) c.set_units.new.self.most
+    c.set_units.new.self.calls (c.take_back.new.self) c.set_units.new.self.most
     (IsBacked-lower u c.self.invariant.backed c.args.key.now c.args.units c.args.pool c.args.back can)
     lowered.rows
-    (ap (λ ms. figures_of (accounts_of ms)) c.take_back.ensures.after ∙ (figures-return i.pools c.args.pool c.from.result
-    ∙ ap (pools_after_return u.pools c.args.pool) c.from.ensures))
+    (c.take_back.ensures.after ∙ ap (pools_after_return u.pools c.args.pool) c.from.ensures)
     lowered.most)
-    (lowered.sound) (within_limits _ c.take_back.ensures.sound.within_limits)
+    (lowered.sound) c.take_back.ensures.within
 
-pub returns-clause-usage : goal.returns-clause-usage
-returns-clause-usage g c =
+pub returns : goal.returns
+returns c =
     let i = c.self.inside in
     let u = usage_in i.calls i.pools i.limit i.call_limit in
     let lowered =
     on_ok c.set_units.result c.unwrap.result c.unwrap.ensures c.set_units.ensures.ok in
-    let pools = ap (λ ms. figures_of (accounts_of ms)) c.take_back.ensures.after
-    ∙ (figures-return i.pools c.args.pool c.from.result
-    ∙ ap (pools_after_return u.pools c.args.pool) c.from.ensures) in
+    let pools = c.take_back.ensures.after
+    ∙ ap (pools_after_return u.pools c.args.pool) c.from.ensures in
     subst (λ (l : Lending). usage_in c.set_units.new.self c.take_back.new.self i.limit i.call_limit
     ≡ with_usage l.usage (update l.usage.calls c.args.key.now (with_units c.args.units))
     (pools_after_return l.usage.pools c.args.pool c.args.back)) c.self.view_is
@@ -64,9 +58,3 @@ returns-clause-usage g c =
       limit = i.limit;
       call_limit = i.call_limit;
     })
-
-pub returns-clause-tallies : goal.returns-clause-tallies
-returns-clause-tallies g c =
-    ap tallies_of c.take_back.ensures.after
-    ∙ (tallies-return c.self.inside.pools c.args.pool c.from.result
-    ∙ ap (λ (l : Lending). l.tallies) c.self.view_is)

@@ -1,16 +1,14 @@
 use Rattle.std.proofs.Common.{refl}
 use Rattle.std.specs.FinMap as fin
-use Rattle.pools.specs.Members.{accounts_of}
 use Rattle.zone_tables.specs.Parts.{Usage}
-use Rattle.zone_tables.specs.Pools.{figures_of}
 use Rattle.zone_tables.proofs.Backing.{IsBacked-is, IsBacked-start, IsSoundUsage-held, within_idle}
 use Rattle.zone_tables.proofs.bandwidth.Bandwidth.new.Goals as goal
 
 pub invariant_of-result : goal.invariant_of-result
-invariant_of-result g c =
+invariant_of-result c =
     let u : Usage = record {
       calls = fin.empty;
-      pools = figures_of (accounts_of c.args.pools);
+      pools = c.args.pools;
       most = c.new.result.most;
       limit = c.parts.result.now.limit;
       call_limit = c.call_limit.result;
@@ -22,4 +20,4 @@ invariant_of-result g c =
     c.new.ensures.sound (within_idle c.args.pools c.requires)
 
 pub returns-clause-sound : goal.returns-clause-sound
-returns-clause-sound g c = invariant_of-result g c
+returns-clause-sound c = invariant_of-result c

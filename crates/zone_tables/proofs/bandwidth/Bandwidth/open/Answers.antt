@@ -8,7 +8,7 @@ use Rattle.zone_tables.proofs.Backing.{IsSoundUsage-held, IsBacked-is, IsBacked-
 use Rattle.zone_tables.proofs.bandwidth.Bandwidth.open.Goals as goal
 
 pub invariant_of-self-2 : goal.invariant_of-self-2
-invariant_of-self-2 g c =
+invariant_of-self-2 c =
     let i = c.self.inside in
     let u = usage_in i.calls i.pools i.limit i.call_limit in
     let can = subst (λ (l : Lending). IsOpenable l.usage c.args.key c.args.pool)

@@ -1,5 +1,6 @@
 use Rattle.std.proofs.Common.{sym, subst, refl}
-use Rattle.zone_tables.specs.Parts.{IsSoundRoll, IsSoundUsage, RunningTables, Usage}
+use Rattle.zone_tables.specs.Parts.{IsSoundRoll, IsSoundUsage, Usage}
+use Rattle.zone_tables.specs.Tables.{Tables}
 use Rattle.zone_tables.specs.Changes.{IsCallChange, IsPossible}
 use Rattle.zone_tables.specs.Soundness.{SoundTables}
 use Rattle.zone_tables.specs.declared.change.Change.TheVariants.{Endpoint, Calls}
@@ -9,13 +10,13 @@ use Rattle.zone_tables.proofs.SoundParts.{SoundTables-parts, either_way}
 use Rattle.zone_tables.proofs.tables.ZoneTables.apply.Goals as goal
 
 pub invariant_of-self : goal.invariant_of-self
-invariant_of-self g c =
+invariant_of-self c =
     let i = c.self.inside in
     let parts = c.self.invariant.parts in
     let u = i.bandwidth.usage in
     let change = c.in-Endpoint.change in
-    let possible = subst (λ x. IsPossible c.args.self.now.tables x) c.in-Endpoint.is c.requires in
-    let here = subst (λ (m : RunningTables). IsPossible m.tables (Endpoint change))
+    let possible = subst (λ x. IsPossible c.args.self.now x) c.in-Endpoint.is c.requires in
+    let here = subst (λ (m : Tables). IsPossible m (Endpoint change))
     (sym c.self.view_is) possible in
     record {
       settings = c.self.invariant.settings;
@@ -28,13 +29,13 @@ invariant_of-self g c =
     }
 
 pub invariant_of-self-in-Calls : goal.invariant_of-self-in-Calls
-invariant_of-self-in-Calls g c =
+invariant_of-self-in-Calls c =
     let i = c.self.inside in
     let parts = c.self.invariant.parts in
     let u = i.bandwidth.usage in
     let change = c.in-Calls.change in
-    let possible = subst (λ x. IsPossible c.args.self.now.tables x) c.in-Calls.is c.requires in
-    let here = subst (λ (m : RunningTables). IsPossible m.tables (Calls change))
+    let possible = subst (λ x. IsPossible c.args.self.now x) c.in-Calls.is c.requires in
+    let here = subst (λ (m : Tables). IsPossible m (Calls change))
     (sym c.self.view_is) possible in
     let can = subst (λ (u : Usage). IsCallChange u change)
     (sym (usage_is i.config i.endpoints u parts)) here.0 in
@@ -50,12 +51,12 @@ invariant_of-self-in-Calls g c =
     }
 
 pub returns-in-Nothing-clause-sound : goal.returns-in-Nothing-clause-sound
-returns-in-Nothing-clause-sound g c =
-    subst (λ (m : RunningTables). SoundTables m.tables) c.self.view_is
+returns-in-Nothing-clause-sound c =
+    subst SoundTables c.self.view_is
     (SoundTables-parts _ _ _ c.self.invariant)
 
 pub returns-in-Endpoint-clause-sound : goal.returns-in-Endpoint-clause-sound
-returns-in-Endpoint-clause-sound g c = SoundTables-parts _ _ _ (invariant_of-self g c)
+returns-in-Endpoint-clause-sound c = SoundTables-parts _ _ _ (invariant_of-self c)
 
 pub returns-in-Calls-clause-sound : goal.returns-in-Calls-clause-sound
-returns-in-Calls-clause-sound g c = SoundTables-parts _ _ _ (invariant_of-self-in-Calls g c)
+returns-in-Calls-clause-sound c = SoundTables-parts _ _ _ (invariant_of-self-in-Calls c)

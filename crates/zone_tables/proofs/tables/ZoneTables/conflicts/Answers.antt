@@ -4,7 +4,7 @@ use Rattle.zone_tables.proofs.Fitting.{fits, length-filter}
 use Rattle.zone_tables.proofs.tables.ZoneTables.conflicts.Goals as goal
 
 pub unwrap-requires : goal.unwrap-requires
-unwrap-requires g c =
+unwrap-requires c =
     let aliases = c.as_slice.result.now in
     let elsewhere = is_registered_elsewhere c.self.inside.endpoints.live c.args.address in
     fits c.new.result c.in_ok-held.held c.new.ensures

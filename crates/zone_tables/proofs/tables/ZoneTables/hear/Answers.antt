@@ -1,12 +1,11 @@
 use Rattle.std.proofs.Common.{subst}
-use Rattle.zone_tables.specs.Parts.{RunningTables}
 use Rattle.zone_tables.specs.Soundness.{SoundTables}
 use Rattle.zone_tables.proofs.Legs.{AreParts-live, legs-heard}
 use Rattle.zone_tables.proofs.SoundParts.{SoundTables-parts}
 use Rattle.zone_tables.proofs.tables.ZoneTables.hear.Goals as goal
 
 pub invariant_of-self : goal.invariant_of-self
-invariant_of-self g c =
+invariant_of-self c =
     let i = c.self.inside in
     let parts = c.self.invariant.parts in
     let u = i.bandwidth.usage in
@@ -19,9 +18,9 @@ invariant_of-self g c =
     }
 
 pub returns-in-Some-clause-sound : goal.returns-in-Some-clause-sound
-returns-in-Some-clause-sound g c = SoundTables-parts _ _ _ (invariant_of-self g c)
+returns-in-Some-clause-sound c = SoundTables-parts _ _ _ (invariant_of-self c)
 
 pub returns-in_default-clause-sound : goal.returns-in_default-clause-sound
-returns-in_default-clause-sound g c =
-    subst (λ (m : RunningTables). SoundTables m.tables) c.self.view_is
+returns-in_default-clause-sound c =
+    subst SoundTables c.self.view_is
     (SoundTables-parts _ _ _ c.self.invariant)

@@ -4,7 +4,7 @@ use Rattle.zone_tables.proofs.SoundParts.{SoundTables-parts}
 use Rattle.zone_tables.proofs.tables.ZoneTables.interrogated.Goals as goal
 
 pub invariant_of-self : goal.invariant_of-self
-invariant_of-self g c =
+invariant_of-self c =
     let i = c.self.inside in
     let parts = c.self.invariant.parts in
     let u = i.bandwidth.usage in
@@ -18,4 +18,4 @@ invariant_of-self g c =
     }
 
 pub returns-clause-sound : goal.returns-clause-sound
-returns-clause-sound g c = SoundTables-parts _ _ _ (invariant_of-self g c)
+returns-clause-sound c = SoundTables-parts _ _ _ (invariant_of-self c)

@@ -1,5 +1,4 @@
 use Rattle.std.proofs.Common.{◌≡◌, ◌∙◌, subst, sym}
-use Rattle.zone_tables.specs.Parts.{RunningTables}
 use Rattle.zone_tables.specs.Tables.{Tables}
 use Rattle.zone_tables.specs.Parts.{IsBacked, Usage, usage_of}
 use Rattle.zone_tables.specs.Changes.{IsRegistered}
@@ -10,7 +9,7 @@ use Rattle.zone_tables.proofs.Legs.{usage_is}
 use Rattle.zone_tables.proofs.tables.ZoneTables.leave_all.Goals as goal
 
 pub invariant_of-self : goal.invariant_of-self
-invariant_of-self g c =
+invariant_of-self c =
     let i = c.self.inside in
     let parts = c.self.invariant.parts in
     let left = c.leave_all.ensures.left in
@@ -32,7 +31,7 @@ invariant_of-self g c =
     }
 
 pub returns-clause-tables : goal.returns-clause-tables
-returns-clause-tables g c =
+returns-clause-tables c =
     let i = c.self.inside in
     let z : Tables = record {
       config = i.config;
@@ -42,18 +41,18 @@ returns-clause-tables g c =
     } in
     let u_is : i.bandwidth.usage ≡ usage_of z =
     usage_is i.config i.endpoints i.bandwidth.usage c.self.invariant.parts in
-    subst (λ (m : RunningTables). record z {
+    subst (λ (m : Tables). record z {
       calls = c.leave_all.new.self.usage.calls;
       pools = c.leave_all.new.self.usage.pools;
     }
-    ≡ without_legs_of m.tables c.args.id.now) c.self.view_is
+    ≡ without_legs_of m c.args.id.now) c.self.view_is
     (sym (all_gone c.args.id.now z c.leave_all.new.self.usage
     (subst IsBacked u_is c.self.invariant.calls.backed) c.leave_all.ensures.sound.backed
     (subst (λ (u : Usage). HaveLeft c.args.id.now u c.leave_all.new.self.usage) u_is
     c.leave_all.ensures.left)))
 
 pub returns-clause-gone : goal.returns-clause-gone
-returns-clause-gone g c =
+returns-clause-gone c =
     legs_left c.args.id.now (λ leg. Unit {0}) (IsOther c.args.id.now) (λ leg other is. other)
     c.self.inside.bandwidth.usage.calls c.leave_all.new.self.usage.calls
     c.leave_all.ensures.left.calls

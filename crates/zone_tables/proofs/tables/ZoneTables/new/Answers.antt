@@ -1,25 +1,20 @@
-use Rattle.std.proofs.Common.{◌≡◌, All, refl, sym, subst, arith, length}
+use Rattle.std.proofs.Common.{All, refl, sym, subst}
 use Rattle.std.specs.FinMap as fin
 use Rattle.admission.proofs.Soundness.{EachCall-empty}
-use Rattle.pools.specs.Members.{accounts_of}
-use Rattle.zone_tables.specs.Pools.{figures_of}
 use Rattle.zone_tables.specs.Changes.{IsRegistered}
 use Rattle.zone_tables.specs.Parts.{AreParts, Roll, Usage}
-use Rattle.zone_tables.proofs.PoolFigures.{length-figures}
 use Rattle.zone_tables.proofs.SoundParts.{SoundTables-parts}
 use Rattle.zone_tables.proofs.tables.ZoneTables.new.Goals as goal
 
 pub invariant_of-result : goal.invariant_of-result
-invariant_of-result g c =
+invariant_of-result c =
     let u : Usage = record {
       calls = fin.empty;
-      pools = figures_of (accounts_of c.args.pools);
+      pools = c.args.pools;
       most = c.args.config.calls;
       limit = c.args.config.limit;
       call_limit = c.args.config.call_limit;
     } in
-    let as_many : length u.pools ≡ length c.args.config.networks =
-    omega (arith, length-figures c.args.pools, c.requires.each) in
     record {
       settings = c.new-bandwidth.ensures.settings;
       endpoints = c.new-endpoints.ensures.sound;
@@ -31,10 +26,10 @@ invariant_of-result g c =
             calls = refl;
             limit = refl;
             call_limit = refl;
-            pools = as_many;
+            pools = c.requires.each;
             legs = EachCall-empty (λ call. All (IsRegistered fin.empty) call.legs);
           }));
     }
 
 pub returns-clause-sound : goal.returns-clause-sound
-returns-clause-sound g c = SoundTables-parts _ _ _ (invariant_of-result g c)
+returns-clause-sound c = SoundTables-parts _ _ _ (invariant_of-result c)

@@ -1,6 +1,6 @@
 use Rattle.std.proofs.Common.{◌∙◌, sym, ap, subst}
 use Rattle.std.proofs.lemmas.List.{length-set}
-use Rattle.zone_tables.specs.Parts.{RunningTables}
+use Rattle.zone_tables.specs.Tables.{Tables}
 use Rattle.std.specs.Prelude.{IfSome}
 use Rattle.pools.specs.Account.{figures_after_answer}
 use Rattle.zone_tables.specs.Parts.{AreParts, Usage, with_usage}
@@ -19,7 +19,7 @@ invariant_of-self-2 g c =
     let old = i.bandwidth.usage in
     let answer = c.request_units.result in
     let leg =
-    subst (λ (m : RunningTables). IfSome (leg_of_purpose q.purpose) (IsRegistered m.tables.live))
+    subst (λ (m : Tables). IfSome (leg_of_purpose q.purpose) (IsRegistered m.live))
     (sym c.self.view_is) c.requires.leg in
     let pools = pools_after_answer old.pools q.pool answer in
     record {
