@@ -78,7 +78,7 @@ fn item_of(registration: &Registration, calls: &Calls, now: u64, times: &Times) 
 
 /// Whether this endpoint takes part in a call.
 #[tactic(auto, using(crate::proofs::InCall::call_found))]
-fn is_in_call(calls: &Calls, endpoint: &EndpointId) -> bool
+pub(crate) fn is_in_call(calls: &Calls, endpoint: &EndpointId) -> bool
     ensures { IsTrue result ↔ IsInCall calls.now.calls endpoint.now }
 {
     calls.call_of(endpoint).is_some()
@@ -98,7 +98,7 @@ fn item_in_call(registration: &Registration, now: u64, times: &Times) -> Option<
 }
 
 /// Whether an endpoint in a call is to be asked for a sign of life.
-fn is_to_be_asked(registration: &Registration, now: u64, times: &Times) -> bool
+pub(crate) fn is_to_be_asked(registration: &Registration, now: u64, times: &Times) -> bool
     ensures { result ≡ is_to_be_asked times.now now registration.now }
 {
     if registration.tries == 0 {
@@ -108,7 +108,7 @@ fn is_to_be_asked(registration: &Registration, now: u64, times: &Times) -> bool
 }
 
 /// Whether an endpoint in a call was asked as often as it is, and gave no sign of life.
-fn is_silent(registration: &Registration, now: u64, times: &Times) -> bool
+pub(crate) fn is_silent(registration: &Registration, now: u64, times: &Times) -> bool
     ensures { result ≡ is_silent times.now now registration.now }
 {
     registration.tries == times.asks && has_passed(registration.asked, times.ask_wait, now)

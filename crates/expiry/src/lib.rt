@@ -2,9 +2,11 @@
 //! requests that wait, kept replies that are over, and the pools' turn.
 #![tactic(auto)]
 
+mod due_item;
 mod due_search;
 mod times;
 
+pub use due_item::is_due;
 pub use due_search::due;
 pub use times::Times;
 pub use zone_events::DueItem;

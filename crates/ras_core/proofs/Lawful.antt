@@ -19,7 +19,8 @@ use Rattle.ras_machine.specs.Prepared.{message_by}
 use Rattle.zone_events.specs.declared.outcome.Note.{Note}
 use Rattle.zone_events.specs.declared.outcome.Note.TheVariants as note
 use Rattle.zone_events.specs.declared.outcome.Outcome.{Outcome}
-use Rattle.ras_machine.specs.State.{State, Running}
+use Rattle.ras_machine.specs.State.{State}
+use Rattle.ras_core.specs.Running.{Running}
 use Rattle.ras_requests.specs.Requests.{HasReply}
 use Rattle.ras_machine.specs.Keeping.{is_repeat}
 use Rattle.ras_machine.specs.Turns.{IsNothingDueIn}

@@ -1,21 +1,42 @@
--- A step of the machine is one of the gatekeeper as it runs.
-use Rattle.std.proofs.Common.{◌≡◌, ◌<◌, ◌∙◌, ◌+◌, ℕ, true, ap, subst, sym, None, arith}
-use Rattle.std.specs.Prelude.{Result, Ok, Err, IfOk, OnErr, nat_lt, if◌then◌else◌}
+-- A step of the machine, with the pools, is one of the gatekeeper as it runs.
+use Rattle.std.proofs.Common.{◌≡◌, ◌<◌, ◌∙◌, ◌+◌, ℕ, true, List, ap, subst, sym, None, arith}
+use Rattle.std.specs.Prelude.{nat_lt, if◌then◌else◌}
 use Rattle.std.proofs.lemmas.Bool.Decides.{nat_tests}
+use Rattle.pools.specs.declared.interface.Figures.{Figures}
+use Rattle.pools.specs.Members.{Member, accounts_of}
 use Rattle.zone_events.specs.declared.event.Event.{Event}
 use Rattle.zone_events.specs.declared.outcome.Outcome.{Outcome}
-use Rattle.ras_machine.specs.State.{Running}
+use Rattle.zone_tables.specs.Leaving.{AreSameButLent}
+use Rattle.zone_tables.specs.Pools.{figures_of}
+use Rattle.ras_machine.specs.State.{State}
 use Rattle.ras_machine.specs.Machine.{Course, at_moment, course, course_ending, moment_of, most_steps}
-use Rattle.ras_machine.specs.Soundness.{Sound}
-use Rattle.ras_machine.specs.Steps.{choices_of}
+use Rattle.ras_machine.specs.Steps.{IsAskedOnce, ask_in, choices_of, pools_after_ask}
 use Rattle.ras_machine.specs.Courses.{Performs}
+use Rattle.ras_core.specs.Running.{Running}
 use Rattle.ras_core.specs.Runs.{RunningStep}
+use Rattle.ras_core.specs.Tallies.{Tally, tallies_after, tallies_of}
+use Rattle.ras_core.specs.inside.PoolTurns.{is_pool_turn, tallies_turned}
+use Rattle.ras_core.proofs.Members.{answers_of, figures-asked, tallies-asked}
+use Rattle.ras_core.proofs.PoolTurns.{turned}
 
-pub running_step : (old : Running) (what : Event) (outcome : Outcome) (new : Running)
-    → old.state.steps < most_steps
-    → Performs old (moment_of old.state what) (course old.state what (choices_of outcome)) outcome new
-    → RunningStep old what outcome new
-running_step old what outcome new few p =
+-- what the pools have after they were asked is what the machine keeps, but for units that come back
+pub to_be_settled : (old new : State) (now : ℕ) (c : Course) (outcome : Outcome)
+    (before asked : List Member) → figures_of (accounts_of before) ≡ old.tables.pools
+    → Performs old now c outcome new
+    → IsAskedOnce answers_of before old.tables.pools (ask_in c) outcome.answer asked
+    → AreSameButLent (figures_of (accounts_of asked)) new.tables.pools
+to_be_settled old new now c outcome before asked same performs asks =
+    subst (λ fs. AreSameButLent fs new.tables.pools)
+    (sym (figures-asked before asked old.tables.pools (ask_in c) outcome.answer asks
+    ∙ ap (λ fs. pools_after_ask fs (ask_in c) outcome.answer) same)) performs.pools
+
+pub running_step : (old : Running) (what : Event) (outcome : Outcome) (new : State)
+    (tallies : List Tally) → old.state.steps < most_steps
+    → Performs old.state (moment_of old.state what) (course old.state what (choices_of outcome))
+    outcome new
+    → tallies ≡ tallies_after old.tallies (course old.state what (choices_of outcome)) outcome.answer
+    → RunningStep old what outcome (record { state = new; tallies = tallies })
+running_step old what outcome new tallies few p counted =
     let s = old.state in
     let now = moment_of s what in
     let ending = course_ending s now (course s what (choices_of outcome)) (choices_of outcome) in
@@ -25,15 +46,17 @@ running_step old what outcome new few p =
         allowed = p.allowed;
         makes = ap (λ b. if b then at_moment now (s.steps + 1) ending else None) below ∙ p.makes;
       };
-      tallies = p.tallies;
+      tallies = counted;
       few = p.few;
       sound = p.sound;
     }
 
--- the state stays sound, whether or not there was a step
-pub sound_after : {E : Type 0} (old : Running) (now : ℕ) (c : Course) (new : Running)
-    (result : Result Outcome E) → IfOk result (λ outcome. Performs old now c outcome new)
-    → OnErr result (new ≡ old) → Sound old.state → Sound new.state
-sound_after old now c new (Ok outcome) did err sound = did.sound
-sound_after old now c new (Err fault) did err sound =
-    subst (λ (m : Running). Sound m.state) (sym err) sound
+-- the tallies of the pools after they were asked and turned
+pub tallies_counted : (before asked after : List Member) (pools : List Figures) (c : Course) (outcome : Outcome)
+    → IsAskedOnce answers_of before pools (ask_in c) outcome.answer asked
+    → tallies_of after ≡ tallies_turned (tallies_of asked) (is_pool_turn c)
+    → tallies_of after ≡ tallies_after (tallies_of before) c outcome.answer
+tallies_counted before asked after pools c outcome asks turns =
+    turns ∙ (ap (λ ts. tallies_turned ts (is_pool_turn c))
+    (tallies-asked before asked pools (ask_in c) outcome.answer asks)
+    ∙ turned (tallies_of before) c outcome.answer)

@@ -5,7 +5,8 @@ use Rattle.std.proofs.lemmas.List.{take_more}
 use Rattle.std.specs.List.{zip}
 use Rattle.zone_events.specs.declared.event.Event.{Event}
 use Rattle.zone_events.specs.declared.outcome.Outcome.{Outcome}
-use Rattle.ras_machine.specs.State.{State, Running}
+use Rattle.ras_machine.specs.State.{State}
+use Rattle.ras_core.specs.Running.{Running}
 use Rattle.ras_core.specs.Runs.{Run, RunsOn, RunningStep, RunningRun}
 use Rattle.ras_machine.specs.Steps.{Step}
 

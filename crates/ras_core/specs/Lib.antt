@@ -1,2 +1,5 @@
 pub mod Faults
+pub mod Tallies
+pub mod Running
 pub mod Runs
+pub mod inside

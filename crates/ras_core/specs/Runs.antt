@@ -5,10 +5,12 @@ use Rattle.admission.specs.Calls.{in_use}
 use Rattle.zone_events.specs.declared.event.Event.{Event}
 use Rattle.zone_events.specs.declared.outcome.Outcome.{Outcome}
 use Rattle.zone_tables.specs.Soundness.{IsLentTo}
-use Rattle.ras_machine.specs.State.{State, Running}
+use Rattle.ras_machine.specs.State.{State}
+use Rattle.ras_core.specs.Running.{Running}
+use Rattle.ras_core.specs.Tallies.{tallies_after}
 use Rattle.ras_machine.specs.Soundness.{Sound}
 use Rattle.ras_machine.specs.Machine.{course}
-use Rattle.ras_machine.specs.Steps.{HasFewOctets, Step, choices_of, tallies_after}
+use Rattle.ras_machine.specs.Steps.{HasFewOctets, Step, choices_of}
 
 -- step after step, over entries of an event with its outcome
 abbrev pub Run : State → List (Event × Outcome) → State → Type 0

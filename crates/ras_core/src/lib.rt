@@ -6,6 +6,7 @@
 mod choices;
 mod fault;
 mod laws;
+mod settling;
 mod zone;
 
 pub use fault::{NewFault, StepFault};

@@ -7,14 +7,16 @@ ghost use Rattle.registrations.specs.Registry.{IsListOf};
 ghost use Rattle.admission.specs.Calls.{in_use};
 ghost use Rattle.pools.specs.Account.{is_idle};
 ghost use Rattle.pools.specs.Members.{accounts_of};
-ghost use Rattle.zone_tables.specs.Pools.{figures_of, figures_without_loans, lasts_of, tallies_of};
+ghost use Rattle.zone_tables.specs.Pools.{figures_of};
 ghost use Rattle.ras_machine.specs.State.{opening};
 ghost use Rattle.ras_machine.specs.Machine.{most_steps};
 ghost use Rattle.ras_machine.specs.Soundness.{Sound};
 ghost use Rattle.ras_core.specs.Runs.{RunningStep, RunsOn};
+ghost use Rattle.ras_core.specs.Tallies.{figures_without_loans, lasts_of, tallies_of};
 
-use crate::choices::chosen_course;
+use crate::choices::{chosen_course, is_pool_turn};
 use crate::fault::{NewFault, StepFault};
+use crate::settling::settle;
 use admission::CallList;
 use pools::{Pool, PoolSet};
 use ras_machine::{Machine, Prepared, prepare};
@@ -23,28 +25,31 @@ use std::alloc::{AllocError, Global};
 use std::marker::Model;
 use zone_config::{Config, Moment};
 use zone_events::{Event, Outcome};
+use zone_tables::PoolFigures;
 
 /// The zone of one gatekeeper, with the pools from which its calls have their bandwidth. Contracts see
 /// its state, which is always sound, and beside it of each pool the last request with its answer, how
 /// often it was asked for units, and how many turns it made.
 #[derive(Drop)]
 pub struct Zone<P: Pool> {
-    machine: Machine<P>,
+    machine: Machine,
+    pools: PoolSet<P>,
 }
 
 impl<P: Pool> Model for Zone<P> {
     ghost use Rattle.std.specs.Coded.{codes};
     ghost use Rattle.std.specs.FinMap as map;
-    ghost use Rattle.ras_machine.specs.State.{Running};
-    ghost use Rattle.ras_machine.specs.Soundness.{Sound};
+    ghost use Rattle.ras_core.specs.Running.{Running};
+    ghost use Rattle.ras_core.specs.Tallies.{tallies_of};
+    ghost use Rattle.ras_core.specs.inside.Parts.{AreZoneParts};
 
     ghost Value = { Running };
 
     ghost coded = { Prim.hlevel (codes, map.code) };
 
-    ghost view = { λ z. z.machine };
+    ghost view = { λ z. record { state = z.machine; tallies = tallies_of z.pools } };
 
-    ghost invariant = { λ z. Sound z.machine.state };
+    ghost invariant = { λ z. AreZoneParts z.machine z.pools };
 }
 
 impl<P: Pool> Zone<P> {
@@ -69,9 +74,8 @@ impl<P: Pool> Zone<P> {
         if pools.len() != config.parts().networks.as_slice().len() {
             return Err((pools, NewFault::WrongPools));
         }
-        Ok(Zone {
-            machine: Machine::new(alloc, config, pools),
-        })
+        let machine = Machine::new(alloc, config, PoolFigures::of(&pools));
+        Ok(Zone { machine, pools })
     }
 
     /// One step of the machine: what it answers to the event. It is refused as Closed exactly where 2^62
@@ -112,7 +116,10 @@ impl<P: Pool> Zone<P> {
         let now = self.clock().later(prepared.moment());
         let course = chosen_course(&self.machine, now, prepared.into_arrival())?;
         let given = self.machine.identifier_for(&course)?;
-        self.machine.perform(now, course, given)
+        let turn = is_pool_turn(&course);
+        let outcome = self.machine.perform(now, course, given, &mut self.pools)?;
+        settle(&mut self.pools, self.machine.pools(), turn);
+        Ok(outcome)
     }
 
     /// A step of an event that stays with the caller.
@@ -160,8 +167,8 @@ impl<P: Pool> Zone<P> {
         ensures lasts { lasts_of (map P.account result.items)
             ≡ map (λ t. t.last) self.tallies }
     {
-        let Zone { machine } = self;
-        machine.close()
+        let Zone { pools, .. } = self;
+        pools.close()
     }
 
     /// The clock: the latest moment of an event so far.

@@ -17,11 +17,11 @@ use Rattle.ras_machine.specs.declared.job.Job.{Job}
 use Rattle.ras_machine.specs.declared.job.Occasion.{Occasion}
 use Rattle.ras_machine.specs.declared.job.Occasion.TheVariants.{First, Again}
 use Rattle.zone_events.specs.declared.outcome.Outcome.{Outcome}
-use Rattle.ras_machine.specs.State.{State, Running}
-use Rattle.zone_tables.specs.Tables.{Tally}
-use Rattle.zone_tables.specs.Parts.{RunningTables}
+use Rattle.ras_machine.specs.State.{State}
+use Rattle.zone_tables.specs.Leaving.{AreSameButLent}
+use Rattle.zone_tables.specs.Tables.{Tables}
 use Rattle.ras_requests.specs.Plans.{Served, Plan, Asking}
-use Rattle.zone_tables.specs.Pools.{figures_at, pools_after_answer, tallies_after_answer}
+use Rattle.zone_tables.specs.Pools.{RequestedUnits, figures_at, pools_after_answer}
 use Rattle.ras_requests.specs.Requests.{seq_of}
 use Rattle.ras_machine.specs.Keeping.{Progress, Task, answered, answered_by, dropped_for, in_progress}
 use Rattle.ras_machine.specs.Keeping.{kept_with, plan_at, state_after, waits, with_answered_pool}
@@ -34,12 +34,12 @@ use Rattle.zone_tables.specs.UnitRequests.{reply_of}
 use Rattle.ras_machine.specs.Courses.{heard_at, Does}
 use Rattle.ras_machine.specs.Soundness.{AreBornBefore}
 use Rattle.zone_tables.specs.Soundness.{HasCounts}
-use Rattle.ras_machine.specs.Steps.{IsTimely, MayChoose, ask_in_plan, choices_of}
-use Rattle.ras_machine.specs.Steps.{tallies_after_ask}
-use Rattle.zone_tables.proofs.PoolFigures.{All-answer}
+use Rattle.ras_machine.specs.Steps.{IsTimely, MayChoose, ask_in_plan, choices_of, pools_after_ask}
+use Rattle.zone_tables.proofs.ButLent.{same_after_end}
+use Rattle.zone_tables.proofs.OnePool.{All-answer}
 use Rattle.ras_machine.proofs.Dropping.{born_kept_with}
 
-module _ (s : State) (tallies : List Tally) (now : ℕ) (key : KeptKey) (request : Request)
+module _ (s : State) (now : ℕ) (key : KeptKey) (request : Request)
     (id : List ℕ) (q : UnitRequest) where
   abbrev pub asking : Plan
   asking = Asking (units_requested q) (granted_by s.tables q) (refused_by s.tables q)
@@ -60,13 +60,10 @@ module _ (s : State) (tallies : List Tally) (now : ℕ) (key : KeptKey) (request
     given = None;
   }
 
-  abbrev pub asked_zone : Occasion → Lend → RunningTables
-  asked_zone occasion answer = heard_at (record {
-    tables = record s.tables {
-      calls = calls_after_answer q answer s.tables.calls;
-      pools = pools_after_answer s.tables.pools q.pool answer;
-    };
-    tallies = tallies_after_answer tallies (units_requested q) answer;
+  abbrev pub asked_tables : Occasion → Lend → Tables
+  asked_tables occasion answer = heard_at (record s.tables {
+    calls = calls_after_answer q answer s.tables.calls;
+    pools = pools_after_answer s.tables.pools q.pool answer;
   }) occasion now (Some id)
 
   abbrev pub asked_kept : Occasion → Bool → Reply → KeptReplies
@@ -74,18 +71,15 @@ module _ (s : State) (tallies : List Tally) (now : ℕ) (key : KeptKey) (request
       kept_with s.kept key occasion s.steps
       (state_after request reply w (term_of s.tables.config now))
 
-  abbrev pub asked_running : Occasion → Lend → Bool → Reply → Running
-  asked_running occasion answer w reply = record {
-    state = record s {
-      tables = (asked_zone occasion answer).tables;
-      kept = asked_kept occasion w reply;
-    };
-    tallies = (asked_zone occasion answer).tallies;
+  abbrev pub asked_state : Occasion → Lend → Bool → Reply → State
+  asked_state occasion answer w reply = record s {
+    tables = asked_tables occasion answer;
+    kept = asked_kept occasion w reply;
   }
 
   abbrev asked_answer : Occasion → Lend → Bool → Reply → Ending
   asked_answer occasion answer w reply =
-      Some (asked_outcome occasion answer reply, (asked_running occasion answer w reply).state)
+      Some (asked_outcome occasion answer reply, asked_state occasion answer w reply)
 
   -- what a pool's answer makes of the request, where it is known whether it is to wait
   abbrev progress : (ℕ → Served) → Served → Lend → Bool → Progress
@@ -152,18 +146,13 @@ module _ (s : State) (tallies : List Tally) (now : ℕ) (key : KeptKey) (request
   may_choose (First dropped) answer reply fits = fits
   may_choose (Again born left) answer reply fits = fits
 
-  ask_is : (occasion : Occasion)
+  pub ask_is : (occasion : Occasion)
       → ask_in_plan (plan_at occasion now (Some id) asking) ≡ Some (units_requested q)
   ask_is (First dropped) = refl
   ask_is (Again born left) = refl
 
-  tallies_are : (occasion : Occasion) (answer : Lend)
-      → (asked_zone occasion answer).tallies ≡ tallies_after_answer tallies (units_requested q) answer
-  tallies_are (First dropped) answer = refl
-  tallies_are (Again born left) answer = refl
-
   pools_are : (occasion : Occasion) (answer : Lend)
-      → (asked_zone occasion answer).tables.pools ≡ pools_after_answer s.tables.pools q.pool answer
+      → (asked_tables occasion answer).pools ≡ pools_after_answer s.tables.pools q.pool answer
   pools_are (First dropped) answer = refl
   pools_are (Again born left) answer = refl
 
@@ -173,24 +162,28 @@ module _ (s : State) (tallies : List Tally) (now : ℕ) (key : KeptKey) (request
       → IsAnswer (figures_at s.tables.pools q.pool) q.units answer
       → IsTimely s now occasion → AreBornBefore s.steps s.kept
       → length (encoding_of (reply_of q answer w s.tables.config.delay)) ≤ 20000
-      → Does (record { state = s; tallies = tallies }) now (Serving (record {
+      → Does s now (Serving (record {
         job = record { key = key; occasion = occasion };
         request = request;
         plan = plan_at occasion now (Some id) plan;
       })) (asked_outcome occasion answer (reply_of q answer w s.tables.config.delay))
-      (asked_running occasion answer w (reply_of q answer w s.tables.config.delay))
+      (asked_state occasion answer w (reply_of q answer w s.tables.config.delay))
   does_asked occasion answer w plan asks w_is seq fits timely before few =
       let reply = reply_of q answer w s.tables.config.delay in
-      subst (λ (p : Plan). Does (record { state = s; tallies = tallies }) now (Serving (record {
+      subst (λ (p : Plan). Does s now (Serving (record {
         job = record { key = key; occasion = occasion };
         request = request;
         plan = plan_at occasion now (Some id) p;
-      })) (asked_outcome occasion answer reply) (asked_running occasion answer w reply))
+      })) (asked_outcome occasion answer reply) (asked_state occasion answer w reply))
       (sym asks.is) (record {
         allowed = (timely, may_choose occasion answer reply fits);
         makes = asked_by occasion answer w w_is seq;
-        tallies = tallies_are occasion answer
-            ∙ sym (ap (λ ask. tallies_after_ask tallies ask (Some answer)) (ask_is occasion));
+        pools = subst (λ (ask : Option RequestedUnits). AreSameButLent
+            (pools_after_ask s.tables.pools ask (Some answer)) (asked_tables occasion answer).pools)
+            (sym (ask_is occasion))
+            (subst (λ (pools : List Figures). AreSameButLent
+            (pools_after_answer s.tables.pools q.pool answer) pools) (sym (pools_are occasion answer))
+            (same_after_end (pools_after_answer s.tables.pools q.pool answer) None));
         counts = λ most h. subst (λ (pools : List Figures). All (HasCounts (most + 1)) pools)
             (sym (pools_are occasion answer))
             (All-answer most s.tables.pools q.pool answer h (asks.may).pool);
@@ -199,24 +192,31 @@ module _ (s : State) (tallies : List Tally) (now : ℕ) (key : KeptKey) (request
         few = few;
       })
 
+-- a plan by which units are requested asks for them
+pub asks_by : (z : Tables) (plan : Plan) (q : UnitRequest) → RequestsUnits z plan q
+    → (occasion : Occasion) (now : ℕ) (endpoint : Option (List ℕ))
+    → ask_in_plan (plan_at occasion now endpoint plan) ≡ Some (units_requested q)
+asks_by z plan q asks (First dropped) now None =
+    ap (λ p. ask_in_plan (plan_at (First dropped) now None p)) asks.is
+asks_by z plan q asks (First dropped) now (Some id) =
+    ap (λ p. ask_in_plan (plan_at (First dropped) now (Some id) p)) asks.is
+asks_by z plan q asks (Again born left) now endpoint = ap ask_in_plan asks.is
+
 -- the same, of what the code has
-pub does_answered : (old : Running) (now : ℕ) (job : Job) (id : List ℕ)
+pub does_answered : (old : State) (now : ℕ) (job : Job) (id : List ℕ)
     (request : Request) (q : UnitRequest) (answer : Lend) (w : Bool) (reply : Reply)
-    (tables : RunningTables) (kept : KeptReplies)
+    (tables : Tables) (kept : KeptReplies)
     → w ≡ waits job.occasion answer → seq_of request ≡ q.seq
-    → IsAnswer (figures_at old.state.tables.pools q.pool) q.units answer
-    → IsTimely old.state now job.occasion → AreBornBefore old.state.steps old.state.kept
-    → reply ≡ reply_of q answer w old.state.tables.config.delay → length (encoding_of reply) ≤ 20000
-    → tables ≡ heard_at (record {
-      tables = record old.state.tables {
-        calls = calls_after_answer q answer old.state.tables.calls;
-        pools = pools_after_answer old.state.tables.pools q.pool answer;
-      };
-      tallies = tallies_after_answer old.tallies (units_requested q) answer;
+    → IsAnswer (figures_at old.tables.pools q.pool) q.units answer
+    → IsTimely old now job.occasion → AreBornBefore old.steps old.kept
+    → reply ≡ reply_of q answer w old.tables.config.delay → length (encoding_of reply) ≤ 20000
+    → tables ≡ heard_at (record old.tables {
+      calls = calls_after_answer q answer old.tables.calls;
+      pools = pools_after_answer old.tables.pools q.pool answer;
     }) job.occasion now (Some id)
-    → kept ≡ kept_with old.state.kept job.key job.occasion old.state.steps
-    (state_after request reply w (term_of old.state.tables.config now))
-    → (plan : Plan) → RequestsUnits old.state.tables plan q
+    → kept ≡ kept_with old.kept job.key job.occasion old.steps
+    (state_after request reply w (term_of old.tables.config now))
+    → (plan : Plan) → RequestsUnits old.tables plan q
     → Does old now (Serving (record {
       job = job;
       request = request;
@@ -227,16 +227,11 @@ pub does_answered : (old : Running) (now : ℕ) (job : Job) (id : List ℕ)
       note = note_at job.occasion;
       dropped = dropped_for job.occasion;
       given = None;
-    }) (record {
-      state = record old.state { tables = tables.tables; kept = kept };
-      tallies = tables.tallies;
-    })
-does_answered old now job id request q answer w reply tables kept w_is seq fits timely before
+    }) (record old { tables = tables; kept = kept })
+does_answered s now job id request q answer w reply tables kept w_is seq fits timely before
     reply_is few tables_is kept_is plan asks =
-    let s = old.state in
-    let due = asked_running s old.tallies now job.key request id q job.occasion answer w in
     let told = reply_of q answer w s.tables.config.delay in
-    let does = does_asked s old.tallies now job.key request id q job.occasion answer
+    let does = does_asked s now job.key request id q job.occasion answer
     w plan asks w_is seq fits timely before
     (subst (λ (r : Reply). length (encoding_of r) ≤ 20000) reply_is few) in
     let course = Serving (record {
@@ -246,21 +241,15 @@ does_answered old now job id request q answer w reply tables kept w_is seq fits 
     }) in
     let kept_so = kept_is ∙ ap (λ (r : Reply). kept_with s.kept job.key job.occasion s.steps
     (state_after request r w (term_of s.tables.config now))) reply_is in
-    subst (λ (r : Reply). Does old now course
-    (asked_outcome s old.tallies now job.key request id q job.occasion answer r) (record {
-      state = record s { tables = tables.tables; kept = kept };
-      tallies = tables.tallies;
-    })) (sym reply_is)
-    (subst (λ (z : RunningTables). Does old now course (asked_outcome s old.tallies now job.key request
-    id q job.occasion answer told) (record {
-      state = record s { tables = z.tables; kept = kept };
-      tallies = z.tallies;
-    })) (sym tables_is)
-    (subst (λ (k : KeptReplies). Does old now course (asked_outcome s old.tallies now job.key request
-    id q job.occasion answer told) (record {
-      state = record s {
-        tables = (asked_zone s old.tallies now job.key request id q job.occasion answer).tables;
-        kept = k;
-      };
-      tallies = (asked_zone s old.tallies now job.key request id q job.occasion answer).tallies;
+    subst (λ (r : Reply). Does s now course
+    (asked_outcome s now job.key request id q job.occasion answer r)
+    (record s { tables = tables; kept = kept })) (sym reply_is)
+    (subst (λ (z : Tables). Does s now course
+    (asked_outcome s now job.key request id q job.occasion answer told)
+    (record s { tables = z; kept = kept })) (sym tables_is)
+    (subst (λ (k : KeptReplies). Does s now course
+    (asked_outcome s now job.key request id q job.occasion answer told)
+    (record s {
+      tables = asked_tables s now job.key request id q job.occasion answer;
+      kept = k;
     })) (sym kept_so) does))

@@ -10,12 +10,11 @@ use Rattle.kept_replies.specs.declared.entry.KeptEntry.{KeptEntry}
 use Rattle.kept_replies.specs.declared.key.KeptKey.{KeptKey}
 use Rattle.kept_replies.specs.Kept.{AreBornApart, Passes, is_over, reply_in}
 use Rattle.ras_writing.specs.Replies.{encoding_of}
-use Rattle.zone_events.specs.declared.outcome.IgnoredCause.TheVariants.{Busy}
 use Rattle.ras_requests.specs.Plans.{Plan}
 use Rattle.ras_requests.specs.Requests.{HasReply, plan_of}
 use Rattle.ras_machine.specs.State.{State}
 use Rattle.ras_machine.specs.Keeping.{is_repeat}
-use Rattle.ras_machine.specs.Machine.{Ignoring, Repeating, Place, Answered, Free, Full, first}
+use Rattle.ras_machine.specs.Machine.{Repeating, Place, Answered, Free, Full, first}
 use Rattle.ras_machine.specs.Machine.{place_by, place_of, request_case, request_course, serving}
 use Rattle.ras_machine.specs.Courses.{IsPlacedIn}
 use Rattle.ras_machine.proofs.Dropping.{fits_of}

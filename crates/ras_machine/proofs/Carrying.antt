@@ -1,6 +1,6 @@
 -- What is decided about a request, once it is carried out and its reply is kept, is
 -- what it comes to.
-use Rattle.std.proofs.Common.{◌≡◌, ◌≤◌, ◌+◌, ℕ, length, List, refl, sym, ◌∙◌, ap, subst, Some, None}
+use Rattle.std.proofs.Common.{◌≡◌, ◌≤◌, ◌+◌, ℕ, length, List, refl, sym, ap, subst, Some, None}
 use Rattle.std.specs.Prelude.{Option, IfSome}
 use Rattle.keyed.proofs.Decide.{same_some}
 use Rattle.ras_module.specs.declared.reply.Reply.{Reply}
@@ -15,29 +15,31 @@ use Rattle.ras_machine.specs.declared.job.Job.{Job}
 use Rattle.ras_machine.specs.declared.job.Occasion.{Occasion}
 use Rattle.ras_machine.specs.declared.job.Occasion.TheVariants.{First, Again}
 use Rattle.zone_events.specs.declared.outcome.Outcome.{Outcome}
-use Rattle.zone_tables.specs.Tables.{Tables, Tally}
-use Rattle.ras_machine.specs.State.{State, Running}
-use Rattle.zone_tables.specs.Parts.{RunningTables}
+use Rattle.zone_tables.specs.Leaving.{AreSameButLent}
+use Rattle.zone_tables.specs.Pools.{RequestedUnits}
+use Rattle.zone_tables.specs.Tables.{Tables}
+use Rattle.ras_machine.specs.State.{State}
 use Rattle.ras_requests.specs.Plans.{Served, Plan, Settled, Naming, Asking, with_heard}
 use Rattle.ras_machine.specs.Keeping.{Task, answered, dropped_for, kept_with, plan_at}
 use Rattle.ras_machine.specs.Machine.{Serving, ended, note_at, plan_ending}
 use Rattle.pools.specs.declared.interface.Figures.{Figures}
+use Rattle.pools.specs.declared.interface.Lend.{Lend}
 use Rattle.ras_requests.specs.Conclusions.{served}
-use Rattle.zone_tables.specs.Changes.{after_change, changed}
+use Rattle.zone_tables.specs.Changes.{after_change}
 use Rattle.ras_machine.specs.Courses.{heard_at, resolved, Does}
 use Rattle.ras_machine.specs.Soundness.{AreBornBefore}
 use Rattle.zone_tables.specs.Soundness.{CountsOneMore}
 use Rattle.ras_machine.specs.Steps.{IsUnusedIn, IsTimely, MayChoose, ask_in_plan, choices_of}
-use Rattle.ras_machine.specs.Steps.{tallies_after_ask}
+use Rattle.ras_machine.specs.Steps.{IsAskedOnce, pools_after_ask}
 use Rattle.zone_tables.proofs.ButLent.{counts_same, same_after_change}
 use Rattle.ras_machine.proofs.Dropping.{born_kept_with}
 
--- the zone after a change, in which the endpoint was heard
-abbrev pub zone_after : Tables → List Tally → ℕ → Occasion → Option (List ℕ) → Change → RunningTables
-zone_after z tallies now occasion endpoint change =
-    heard_at (changed (record { tables = z; tallies = tallies }) now change) occasion now endpoint
+-- the tables after a change, in which the endpoint was heard
+abbrev pub tables_after : Tables → ℕ → Occasion → Option (List ℕ) → Change → Tables
+tables_after z now occasion endpoint change =
+    heard_at (after_change now change z) occasion now endpoint
 
-module _ (s : State) (tallies : List Tally) (now : ℕ) (key : KeptKey) (request : Request)
+module _ (s : State) (now : ℕ) (key : KeptKey) (request : Request)
     (reply : Reply) (change : Change) where
   abbrev pub task_by : Occasion → Plan → Task
   task_by occasion plan = record {
@@ -57,7 +59,7 @@ module _ (s : State) (tallies : List Tally) (now : ℕ) (key : KeptKey) (request
 
   abbrev pub state_by : Occasion → Option (List ℕ) → State
   state_by occasion endpoint = record s {
-    tables = (zone_after s.tables tallies now occasion endpoint change).tables;
+    tables = tables_after s.tables now occasion endpoint change;
     kept = kept_with s.kept key occasion s.steps (Done reply (now + s.tables.config.window));
   }
 
@@ -121,39 +123,29 @@ module _ (s : State) (tallies : List Tally) (now : ℕ) (key : KeptKey) (request
   nothing_asked (Again born left) endpoint (Naming named) given is = refl
   nothing_asked occasion endpoint (Asking ask lent refused) given is = absurd (cc is)
 
-  tallies_stay : (occasion : Occasion) (endpoint : Option (List ℕ))
-      → (zone_after s.tables tallies now occasion endpoint change).tallies ≡ tallies
-  tallies_stay (First dropped) None = refl
-  tallies_stay (First dropped) (Some id) = refl
-  tallies_stay (Again born left) endpoint = refl
-
   pools_are : (occasion : Occasion) (endpoint : Option (List ℕ))
-      → (zone_after s.tables tallies now occasion endpoint change).tables.pools
+      → (tables_after s.tables now occasion endpoint change).pools
       ≡ (after_change now change s.tables).pools
   pools_are (First dropped) None = refl
   pools_are (First dropped) (Some id) = refl
   pools_are (Again born left) endpoint = refl
-
-  abbrev pub running_by : Occasion → Option (List ℕ) → Running
-  running_by occasion endpoint = record {
-    state = state_by occasion endpoint;
-    tallies = (zone_after s.tables tallies now occasion endpoint change).tallies;
-  }
 
   pub does_by : (occasion : Occasion) (endpoint : Option (List ℕ)) (plan : Plan)
       (given : Option (List ℕ))
       → resolved plan given ≡ Some served_by → IfSome given (IsUnusedIn s)
       → IsTimely s now occasion
       → AreBornBefore s.steps s.kept → length (encoding_of reply) ≤ 20000
-      → Does (record { state = s; tallies = tallies }) now
+      → Does s now
       (Serving (task_by occasion (plan_at occasion now endpoint plan)))
-      (outcome_by occasion given) (running_by occasion endpoint)
+      (outcome_by occasion given) (state_by occasion endpoint)
   does_by occasion endpoint plan given is unused timely before few = record {
     allowed = (timely, may_choose occasion endpoint plan given is unused);
     makes = answer_by occasion endpoint plan given is;
-    tallies = tallies_stay occasion endpoint
-        ∙ sym (ap (λ ask. tallies_after_ask tallies ask None)
-        (nothing_asked occasion endpoint plan given is));
+    pools = subst (λ (ask : Option RequestedUnits). AreSameButLent
+        (pools_after_ask s.tables.pools ask None) (state_by occasion endpoint).tables.pools)
+        (sym (nothing_asked occasion endpoint plan given is))
+        (subst (λ (pools : List Figures). AreSameButLent s.tables.pools pools)
+        (sym (pools_are occasion endpoint)) (same_after_change now change s.tables));
     counts = subst (λ (pools : List Figures). CountsOneMore s.tables.pools pools)
         (sym (pools_are occasion endpoint))
         (counts_same s.tables.pools (after_change now change s.tables).pools
@@ -164,14 +156,14 @@ module _ (s : State) (tallies : List Tally) (now : ℕ) (key : KeptKey) (request
   }
 
 -- The same, of what the code has.
-pub does_carried : (old : Running) (now : ℕ) (job : Job) (endpoint : Option (List ℕ)) (d : Decision)
-    (given : Option (List ℕ)) (tables : RunningTables) (kept : KeptReplies)
-    → IfSome given (IsUnusedIn old.state) → IsTimely old.state now job.occasion
-    → AreBornBefore old.state.steps old.state.kept → length (encoding_of d.reply) ≤ 20000
-    → tables ≡ zone_after old.state.tables old.tallies now job.occasion endpoint d.change
-    → kept ≡ kept_with old.state.kept job.key job.occasion old.state.steps
-    (Done d.reply (now + old.state.tables.config.window))
-    → (plan : Plan) (request : Request) → resolved plan given ≡ Some (served old.state.tables now d)
+pub does_carried : (old : State) (now : ℕ) (job : Job) (endpoint : Option (List ℕ)) (d : Decision)
+    (given : Option (List ℕ)) (tables : Tables) (kept : KeptReplies)
+    → IfSome given (IsUnusedIn old) → IsTimely old now job.occasion
+    → AreBornBefore old.steps old.kept → length (encoding_of d.reply) ≤ 20000
+    → tables ≡ tables_after old.tables now job.occasion endpoint d.change
+    → kept ≡ kept_with old.kept job.key job.occasion old.steps
+    (Done d.reply (now + old.tables.config.window))
+    → (plan : Plan) (request : Request) → resolved plan given ≡ Some (served old.tables now d)
     → Does old now (Serving (record {
       job = job;
       request = request;
@@ -182,29 +174,40 @@ pub does_carried : (old : Running) (now : ℕ) (job : Job) (endpoint : Option (L
       note = note_at job.occasion;
       dropped = dropped_for job.occasion;
       given = given;
-    }) (record {
-      state = record old.state { tables = tables.tables; kept = kept };
-      tallies = tables.tallies;
-    })
-does_carried old now job endpoint d given tables kept unused timely before few tables_is kept_is
+    }) (record old { tables = tables; kept = kept })
+does_carried s now job endpoint d given tables kept unused timely before few tables_is kept_is
     plan request is =
-    let s = old.state in
     let course = Serving (record {
       job = job;
       request = request;
       plan = plan_at job.occasion now endpoint plan;
     }) in
-    let outcome = outcome_by s old.tallies now job.key request d.reply d.change job.occasion given in
-    subst (λ (z : RunningTables). Does old now course outcome (record {
-      state = record s { tables = z.tables; kept = kept };
-      tallies = z.tallies;
-    })) (sym tables_is)
-    (subst (λ (k : KeptReplies). Does old now course outcome (record {
-      state = record s {
-        tables = (zone_after s.tables old.tallies now job.occasion endpoint d.change).tables;
-        kept = k;
-      };
-      tallies = (zone_after s.tables old.tallies now job.occasion endpoint d.change).tallies;
+    let outcome = outcome_by s now job.key request d.reply d.change job.occasion given in
+    subst (λ (z : Tables). Does s now course outcome (record s { tables = z; kept = kept }))
+    (sym tables_is)
+    (subst (λ (k : KeptReplies). Does s now course outcome (record s {
+      tables = tables_after s.tables now job.occasion endpoint d.change;
+      kept = k;
     })) (sym kept_is)
-    (does_by s old.tallies now job.key request d.reply d.change
+    (does_by s now job.key request d.reply d.change
     job.occasion endpoint plan given is unused timely before few))
+
+-- no pool is asked for what was decided
+pub asks_nothing : (z : Tables) (now : ℕ) (d : Decision) (occasion : Occasion)
+    (endpoint : Option (List ℕ)) (plan : Plan) (given : Option (List ℕ))
+    → resolved plan given ≡ Some (served z now d)
+    → ask_in_plan (plan_at occasion now endpoint plan) ≡ None
+asks_nothing z now d (First dropped) None (Settled s) given is = refl
+asks_nothing z now d (First dropped) (Some id) (Settled s) given is = refl
+asks_nothing z now d (Again born left) endpoint (Settled s) given is = refl
+asks_nothing z now d (First dropped) None (Naming named) given is = refl
+asks_nothing z now d (First dropped) (Some id) (Naming named) given is = refl
+asks_nothing z now d (Again born left) endpoint (Naming named) given is = refl
+asks_nothing z now d occasion endpoint (Asking ask lent refused) given is = absurd (cc is)
+
+-- where nobody is asked, who lends stays as it was
+pub asked_nothing : {L : Type 0} (lends : L → List Figures → RequestedUnits → Lend → L → Type 0)
+    (old : L) (pools : List Figures) (ask : Option RequestedUnits) (answer : Option Lend)
+    → ask ≡ None → IsAskedOnce lends old pools ask answer old
+asked_nothing lends old pools ask answer none =
+    subst (λ (a : Option RequestedUnits). IsAskedOnce lends old pools a answer old) (sym none) refl

@@ -1,5 +1,5 @@
 -- What was chosen for an event is what its outcome shows.
-use Rattle.std.proofs.Common.{◌≡◌, ◌+◌, ℕ, Bool, true, false, List, refl, sym, ap, subst}
+use Rattle.std.proofs.Common.{◌∙◌, ◌≡◌, ◌+◌, ℕ, Bool, true, false, List, refl, sym, ap, subst}
 use Rattle.std.proofs.Common.{Some, None, arith}
 use Rattle.std.specs.Prelude.{Option, IfSome, MatchOption, ◌==◌, is_some, if◌then◌else◌}
 use Rattle.std.proofs.lemmas.Bool.Decides.{nat_tests}
@@ -27,7 +27,7 @@ use Rattle.ras_machine.specs.declared.prepared.Message.{Message}
 use Rattle.ras_machine.specs.declared.prepared.Message.TheVariants as message
 use Rattle.ras_machine.specs.Prepared.{message_in}
 use Rattle.ras_machine.specs.declared.course.Course as code
-use Rattle.ras_machine.specs.State.{Running, State}
+use Rattle.ras_machine.specs.State.{State}
 use Rattle.ras_machine.specs.declared.job.Occasion.TheVariants.{First}
 use Rattle.ras_machine.specs.Keeping.{Task, is_repeat, plan_at}
 use Rattle.ras_machine.specs.Turns.{IsDueIn, IsNothingDueIn}
@@ -230,15 +230,22 @@ ending_of now steps (Some answer) outcome after is = (
       (ap (λ (a : Outcome × State). a.0) (same_some _ (outcome, after) is)),
 )
 
--- and once it is done, the outcome shows it
-pub responds : (old : Running) (now : ℕ) (what : Event) (called : code.Course)
-    → IsChosen old.state now what called → (outcome : Outcome) (new : Running)
-    → Performs old now (course_of old.state now called) outcome new
-    → Performs old now (course_at old.state now what (choices_of outcome)) outcome new
-responds old now what called is outcome new performs =
+-- once it is done, the outcome shows what it was
+pub course_shown : (old : State) (now : ℕ) (what : Event) (called : code.Course)
+    → IsChosen old now what called → (outcome : Outcome) (new : State)
+    → Performs old now (course_of old now called) outcome new
+    → course_of old now called ≡ course_at old now what (choices_of outcome)
+course_shown old now what called is outcome new performs =
     let done = subst (λ c. Performs old now c outcome new) is.calls.is performs in
-    let ending = ending_of now (old.state.steps + 1) (course_ending old.state now
-    (course_at old.state now what (chosen is.dropped is.item)) (choices_of outcome)) outcome new.state
+    let ending = ending_of now (old.steps + 1) (course_ending old now
+    (course_at old now what (chosen is.dropped is.item)) (choices_of outcome)) outcome new
     done.makes in
+    is.calls.is ∙ sym (same_course old now outcome ending.0 what is.dropped is.item ending.1)
+
+pub responds : (old : State) (now : ℕ) (what : Event) (called : code.Course)
+    → IsChosen old now what called → (outcome : Outcome) (new : State)
+    → Performs old now (course_of old now called) outcome new
+    → Performs old now (course_at old now what (choices_of outcome)) outcome new
+responds old now what called is outcome new performs =
     subst (λ c. Performs old now c outcome new)
-    (sym (same_course old.state now outcome ending.0 what is.dropped is.item ending.1)) done
+    (course_shown old now what called is outcome new performs) performs

@@ -1,6 +1,6 @@
 //! The machine's state and its deed.
 
-ghost use Rattle.std.specs.Prelude.{◌≡◌, ◌<◌, ◌≤◌, ◌^◌, ◌+◌, ◌↔◌, All, IfOk, IsTrue, OnErr, length};
+ghost use Rattle.std.specs.Prelude.{◌≡◌, ◌<◌, ◌≤◌, ◌^◌, ◌+◌, ◌↔◌, All, IfOk, IfSome, IsTrue, OnErr, Some, length};
 ghost use Rattle.zone_tables.specs.Pools.{IsIdle};
 ghost use Rattle.ras_machine.specs.State.{opening};
 ghost use Rattle.ras_machine.specs.Machine.{Hearing, most_steps};
@@ -171,6 +171,7 @@ impl Machine {
             Performs self.old now (course_of self.old now course) outcome self.new) }
         ensures asks { IfOk result (λ outcome. IsAskedOnce L.lends lender.old self.old.tables.pools
             (ask_in (course_of self.old now course)) outcome.answer lender.new) }
+        ensures named { IfOk result (λ outcome. IfSome outcome.given (λ id. given ≡ Some id)) }
         ensures err { OnErr result (self.new ≡ self.old) }
         ensures not_asked { OnErr result (lender.new ≡ lender.old) }
     {
@@ -198,6 +199,7 @@ impl Machine {
             Does self.old now (course_of self.old now course) outcome self.new) }
         ensures asks { IfOk result (λ outcome. IsAskedOnce L.lends lender.old self.old.tables.pools
             (ask_in (course_of self.old now course)) outcome.answer lender.new) }
+        ensures named { IfOk result (λ outcome. IfSome outcome.given (λ id. given ≡ Some id)) }
         ensures err { OnErr result (self.new ≡ self.old) }
         ensures not_asked { OnErr result (lender.new ≡ lender.old) }
     {

@@ -52,6 +52,7 @@ impl Machine {
             outcome self.new) }
         ensures asks { IfOk result (λ outcome. IsAskedFor L.lends self.old now task.job task.request
             outcome lender.old lender.new) }
+        ensures named { IfOk result (λ outcome. IfSome outcome.given (λ id. given ≡ Some id)) }
         ensures err { OnErr result (self.new ≡ self.old) }
         ensures not_asked { OnErr result (lender.new ≡ lender.old) }
     {
@@ -95,6 +96,7 @@ impl Machine {
               request = request;
               plan = plan_at job.occasion now endpoint plan;
             })) outcome self.new) }
+        ensures given { IfOk result (λ outcome. outcome.given ≡ given) }
         ensures err { OnErr result (self.new ≡ self.old) }
     {
         let Decision { reply, change } = decision;
@@ -146,6 +148,7 @@ impl Machine {
             })) outcome self.new) }
         ensures asks { IfOk result (λ outcome. IsAskedOnce L.lends lender.old self.old.tables.pools
             (Some (units_requested unit_request)) outcome.answer lender.new) }
+        ensures none_given { IfOk result (λ outcome. outcome.given ≡ None) }
         ensures err { OnErr result (self.new ≡ self.old) }
         ensures not_asked { OnErr result (lender.new ≡ lender.old) }
     {
@@ -191,12 +194,7 @@ fn endpoint_of(request: &Request) -> Option<EndpointId>
 }
 
 /// Notes that the endpoint was heard that a request names as it comes, if it is registered.
-fn hear(
-    tables: &mut ZoneTables,
-    occasion: Occasion,
-    now: Moment,
-    endpoint: Option<EndpointId>,
-)
+fn hear(tables: &mut ZoneTables, occasion: Occasion, now: Moment, endpoint: Option<EndpointId>)
     requires { SoundTables tables.old }
     ensures heard { tables.new ≡ heard_at tables.old occasion now endpoint }
     ensures sound { SoundTables tables.new }

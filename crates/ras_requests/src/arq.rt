@@ -17,11 +17,7 @@ use zone_config::Moment;
 use zone_tables::{CallChange, Change, Purpose, UnitRequest, ZoneTables};
 
 /// The address that an endpoint is told to call.
-fn destination(
-    tables: &ZoneTables,
-    q: &AdmissionRequest,
-    caller: &Registration,
-) -> Option<Address>
+fn destination(tables: &ZoneTables, q: &AdmissionRequest, caller: &Registration) -> Option<Address>
     ensures { result ≡ destination tables.now q.now (Some caller.now) }
 {
     if q.answer {
@@ -150,11 +146,7 @@ fn pool_of(tables: &ZoneTables, address: Address) -> usize
 }
 
 /// What is decided about an AdmissionRequest.
-pub(crate) fn admit(
-    tables: &ZoneTables,
-    now: Moment,
-    q: &AdmissionRequest,
-) -> Conclusion
+pub(crate) fn admit(tables: &ZoneTables, now: Moment, q: &AdmissionRequest) -> Conclusion
     ensures concludes { Concludes tables.now now (admission tables.now q.now) result }
     ensures about { IsFor q.now.seq (Some q.now.endpoint) result }
 {

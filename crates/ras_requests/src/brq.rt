@@ -28,12 +28,7 @@ pub(crate) fn wanted(tables: &ZoneTables, asked: u32) -> u32
 }
 
 /// A call gives units back, or its pool is asked for more.
-fn resize(
-    tables: &ZoneTables,
-    now: Moment,
-    q: &BandwidthRequest,
-    call: &Call,
-) -> Conclusion
+fn resize(tables: &ZoneTables, now: Moment, q: &BandwidthRequest, call: &Call) -> Conclusion
     requires call { fin.get tables.now.calls q.now.call ≡ Some call.now }
     ensures concludes { Concludes tables.now now
         (resizing tables.now q.now call.now) result }
@@ -59,11 +54,7 @@ fn resize(
 }
 
 /// What is decided about a BandwidthRequest.
-pub(crate) fn change_bandwidth(
-    tables: &ZoneTables,
-    now: Moment,
-    q: &BandwidthRequest,
-) -> Conclusion
+pub(crate) fn change_bandwidth(tables: &ZoneTables, now: Moment, q: &BandwidthRequest) -> Conclusion
     ensures concludes { Concludes tables.now now (bandwidth tables.now q.now) result }
     ensures about { IsFor q.now.seq (Some q.now.endpoint) result }
 {

@@ -10,11 +10,7 @@ use zone_config::Moment;
 use zone_tables::{CallChange, Change, ZoneTables};
 
 /// What is decided about a DisengageRequest.
-pub(crate) fn disengage(
-    tables: &ZoneTables,
-    now: Moment,
-    q: &DisengageRequest,
-) -> Decision
+pub(crate) fn disengage(tables: &ZoneTables, now: Moment, q: &DisengageRequest) -> Decision
     ensures decides { Decides tables.now now (disengagement tables.now q.now) result }
 {
     if tables.get(&q.endpoint).is_none() {

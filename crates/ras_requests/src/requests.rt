@@ -18,11 +18,7 @@ use zone_tables::ZoneTables;
 
 /// What is concluded about a request, without changing anything. An InfoRequestResponse is no
 /// request that has a reply.
-pub fn decide(
-    tables: &ZoneTables,
-    now: Moment,
-    request: &Request,
-) -> Result<Conclusion, AllocError>
+pub fn decide(tables: &ZoneTables, now: Moment, request: &Request) -> Result<Conclusion, AllocError>
     requires { HasReply request.now }
     ensures concludes { IfOk result (IsConclusion tables.now now request.now) }
     ensures about { IfOk result (IsFor (seq_of request.now) (endpoint_of request.now)) }

@@ -24,11 +24,7 @@ fn leaving(tables: &ZoneTables, q: &UnregistrationRequest) -> Option<EndpointId>
 }
 
 /// What is decided about an UnregistrationRequest.
-pub(crate) fn unregister(
-    tables: &ZoneTables,
-    now: Moment,
-    q: &UnregistrationRequest,
-) -> Decision
+pub(crate) fn unregister(tables: &ZoneTables, now: Moment, q: &UnregistrationRequest) -> Decision
     ensures decides { Decides tables.now now (unregistration tables.now q.now) result }
 {
     let Some(id) = leaving(tables, q) else {

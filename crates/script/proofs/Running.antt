@@ -1,7 +1,7 @@
 -- What a run that stops at an event answers.
 use Rattle.std.proofs.Common.{◌≡◌, ℕ, ◌+◌, ◌<◌, List, take, length, Option, Err, add-one}
 use Rattle.zone_events.specs.declared.event.Event.{Event}
-use Rattle.ras_machine.specs.State.{Running}
+use Rattle.ras_core.specs.Running.{Running}
 use Rattle.ras_machine.specs.Machine.{most_steps}
 use Rattle.script.specs.declared.fault.RunFault.TheVariants.{Memory, Closed}
 use Rattle.script.specs.Runs.{RunsAndPrints, IsRunOf}

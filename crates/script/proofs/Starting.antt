@@ -4,8 +4,10 @@ use Rattle.pools.specs.Account.{Account}
 use Rattle.pools.specs.Members.{Member, accounts_of, new_member}
 use Rattle.pools.proofs.Changing.{accounts_of-new}
 use Rattle.zone_config.specs.declared.config.ConfigParts.{ConfigParts}
-use Rattle.zone_tables.specs.Pools.{figures_of, tallies_of}
-use Rattle.ras_machine.specs.State.{Running, opening}
+use Rattle.zone_tables.specs.Pools.{figures_of}
+use Rattle.ras_machine.specs.State.{opening}
+use Rattle.ras_core.specs.Running.{Running}
+use Rattle.ras_core.specs.Tallies.{tallies_of}
 use Rattle.script.specs.Runs.{start_of}
 
 -- a zone that opens over a set of these pools that was just made

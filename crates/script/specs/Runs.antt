@@ -9,8 +9,10 @@ use Rattle.pools.specs.Accounts.{pool_fault}
 use Rattle.zone_config.specs.declared.config.ConfigParts.{ConfigParts}
 use Rattle.zone_events.specs.declared.event.Event.{Event}
 use Rattle.zone_events.specs.declared.outcome.Outcome.{Outcome}
-use Rattle.ras_machine.specs.State.{Running, opening}
-use Rattle.zone_tables.specs.Pools.{figures_of, tallies_of}
+use Rattle.ras_machine.specs.State.{opening}
+use Rattle.ras_core.specs.Running.{Running}
+use Rattle.ras_core.specs.Tallies.{tallies_of}
+use Rattle.zone_tables.specs.Pools.{figures_of}
 use Rattle.ras_machine.specs.Machine.{most_steps}
 use Rattle.ras_core.specs.Runs.{RunsOn}
 use Rattle.script.specs.declared.fault.RunFault.{RunFault}

@@ -5,20 +5,20 @@ use Rattle.kept_replies.specs.declared.entry.KeptState.TheVariants.{Done}
 use Rattle.zone_events.specs.declared.outcome.Datagram.{Datagram}
 use Rattle.kept_replies.specs.Kept.{Passes, is_over}
 use Rattle.zone_events.specs.declared.outcome.Outcome.{Outcome}
-use Rattle.ras_machine.specs.State.{Running}
-use Rattle.zone_tables.specs.Parts.{RunningTables}
-use Rattle.ras_machine.specs.inside.Parts.{running_of}
+use Rattle.ras_machine.specs.State.{State}
+use Rattle.zone_tables.specs.Tables.{Tables}
+use Rattle.ras_machine.specs.inside.Parts.{state_of}
 use Rattle.zone_config.specs.declared.config.ConfigParts.{ConfigParts}
 use Rattle.zone_config.specs.Terms.{term_of}
 use Rattle.ras_machine.specs.Keeping.{dropped_for, kept_with, plan_at}
 use Rattle.ras_machine.specs.Machine.{Serving, note_at}
 use Rattle.ras_requests.specs.Conclusions.{served}
-use Rattle.zone_tables.specs.Changes.{changed}
+use Rattle.zone_tables.specs.Changes.{after_change}
 use Rattle.ras_machine.specs.Courses.{Does, heard_at, resolved}
 use Rattle.ras_machine.specs.Soundness.{AreBornBefore}
 use Rattle.ras_machine.specs.Steps.{IsTimely, IsUnusedIn}
 use Rattle.zone_tables.proofs.Answered.{on_ok}
-use Rattle.ras_machine.proofs.Carrying.{does_carried, zone_after}
+use Rattle.ras_machine.proofs.Carrying.{does_carried, tables_after}
 use Rattle.ras_machine.proofs.Dropping.{over_of}
 use Rattle.ras_machine.proofs.machine.Machine.carry_out.Goals as goal
 
@@ -26,9 +26,9 @@ pub reserve-requires-clause-over : goal.reserve-requires-clause-over
 reserve-requires-clause-over c =
     subst (λ (n : ℕ). IfSome (dropped_for c.args.job.occasion)
     (Passes (is_over n) c.self.inside.kept.kept)) (sym c.milliseconds.ensures.same)
-    (subst (λ (m : Running). IfSome (dropped_for c.args.job.occasion)
-    (Passes (is_over c.args.now) m.state.kept)) (sym c.self.view_is)
-    (over_of c.args.self.now.state c.args.now c.args.job.occasion c.requires.timely))
+    (subst (λ (m : State). IfSome (dropped_for c.args.job.occasion)
+    (Passes (is_over c.args.now) m.kept)) (sym c.self.view_is)
+    (over_of c.args.self.now c.args.now c.args.job.occasion c.requires.timely))
 
 pub invariant_of-self-2 : goal.invariant_of-self-2
 invariant_of-self-2 c = record {
@@ -42,7 +42,7 @@ invariant_of-self-2 c = record {
 }
 
 pub returns-clause-does : goal.returns-clause-does
-returns-clause-does g c plan request is =
+returns-clause-does c plan request is =
     let i = c.self.inside in
     let now = c.args.now in
     let job = c.args.job in
@@ -50,19 +50,19 @@ returns-clause-does g c plan request is =
     let d = c.args.decision in
     let given = c.args.given in
     let old =
-    running_of i.tables i.kept.kept i.clock i.interrogation_number i.next_pool_turn i.steps in
+    state_of i.tables i.kept.kept i.clock i.interrogation_number i.next_pool_turn i.steps in
     let tables = c.hear.new.tables in
     let kept = c.keep.new.kept.kept in
-    let applied : c.apply.new.self ≡ changed i.tables now d.change =
+    let applied : c.apply.new.self ≡ after_change now d.change i.tables =
     on_ok c.apply.result c.in_ok-apply.field-0 c.in_ok-apply.was c.apply.ensures.ok in
     let tables_is : tables
-    ≡ zone_after i.tables.tables i.tables.tallies now job.occasion endpoint d.change =
-    c.hear.ensures.heard ∙ ap (λ (z : RunningTables). heard_at z job.occasion now endpoint) applied in
-    let until_is : c.term-term.result.until ≡ now + i.tables.tables.config.window =
+    ≡ tables_after i.tables now job.occasion endpoint d.change =
+    c.hear.ensures.heard ∙ ap (λ (z : Tables). heard_at z job.occasion now endpoint) applied in
+    let until_is : c.term-term.result.until ≡ now + i.tables.config.window =
     ap (λ t. t.until) (c.term-term.ensures.same
     ∙ ap (λ (config : ConfigParts). term_of config now) c.config.ensures.same) in
     let kept_is : kept ≡ kept_with i.kept.kept job.key job.occasion i.steps
-    (Done d.reply (now + i.tables.tables.config.window)) =
+    (Done d.reply (now + i.tables.config.window)) =
     c.keep.ensures.kept
     ∙ (λ j. kept_with (c.reserve.ensures.kept j) job.key job.occasion i.steps
     (Done d.reply (until_is j))) in
@@ -70,20 +70,17 @@ returns-clause-does g c plan request is =
     c.in_ok-output.ensures.few in
     let back = sym c.self.view_is in
     let does = does_carried old now job endpoint d given tables kept
-    (subst (λ (m : Running). IfSome given (IsUnusedIn m.state)) back c.requires.unused)
-    (subst (λ (m : Running). IsTimely m.state now job.occasion) back c.requires.timely)
-    (subst (λ (m : Running). AreBornBefore m.state.steps m.state.kept) back c.requires.sound.born)
+    (subst (λ (m : State). IfSome given (IsUnusedIn m)) back c.requires.unused)
+    (subst (λ (m : State). IsTimely m now job.occasion) back c.requires.timely)
+    (subst (λ (m : State). AreBornBefore m.steps m.kept) back c.requires.sound.born)
     few tables_is kept_is plan request
-    (subst (λ (m : Running). resolved plan given ≡ Some (served m.state.tables now d)) back is) in
+    (subst (λ (m : State). resolved plan given ≡ Some (served m.tables now d)) back is) in
     let course = Serving (record {
       job = job;
       request = request;
       plan = plan_at job.occasion now endpoint plan;
     }) in
-    let new : Running = record {
-      state = record old.state { tables = tables.tables; kept = kept };
-      tallies = tables.tallies;
-    } in
+    let new : State = record old { tables = tables; kept = kept } in
     let due : Outcome = record {
       answer = None;
       output = Some (record { to = job.key.source; bytes = encoding_of d.reply });
@@ -105,5 +102,5 @@ returns-clause-does g c plan request is =
       dropped = sym c.dropped.ensures j;
       given = given;
     } in
-    subst (λ (m : Running). Does m now course outcome new) c.self.view_is
+    subst (λ (m : State). Does m now course outcome new) c.self.view_is
     (subst (λ (o : Outcome). Does old now course o new) outcome_is does)

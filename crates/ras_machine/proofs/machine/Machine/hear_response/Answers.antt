@@ -1,7 +1,7 @@
 use Rattle.std.proofs.Common.{subst, sym}
 use Rattle.zone_events.specs.declared.outcome.Outcome.{Outcome}
-use Rattle.ras_machine.specs.inside.Parts.{running_of}
-use Rattle.ras_machine.specs.State.{Running}
+use Rattle.ras_machine.specs.inside.Parts.{state_of}
+use Rattle.ras_machine.specs.State.{State}
 use Rattle.ras_machine.specs.Machine.{Hearing}
 use Rattle.ras_machine.specs.Courses.{Does}
 use Rattle.ras_machine.proofs.Noting.{does_hear}
@@ -11,12 +11,9 @@ pub returns : goal.returns
 returns c =
     let i = c.self.inside in
     let old =
-    running_of i.tables i.kept.kept i.clock i.interrogation_number i.next_pool_turn i.steps in
+    state_of i.tables i.kept.kept i.clock i.interrogation_number i.next_pool_turn i.steps in
     let id = c.args.endpoint in
-    let new : Running = record {
-      state = record old.state { tables = c.hear.new.self.tables };
-      tallies = c.hear.new.self.tallies;
-    } in
-    subst (λ (m : Running). Does m c.args.now (Hearing id) c.noted.result new) c.self.view_is
+    let new : State = record old { tables = c.hear.new.self } in
+    subst (λ (m : State). Does m c.args.now (Hearing id) c.noted.result new) c.self.view_is
     (subst (λ (o : Outcome). Does old c.args.now (Hearing id) o new) (sym c.noted.ensures)
     (does_hear old c.args.now id c.hear.new.self c.hear.ensures.heard))

@@ -2,12 +2,12 @@ use Rattle.std.proofs.Common.{◌≡◌, ◌∙◌, ap, subst, sym, Some, None}
 use Rattle.std.specs.Option.{option_copied, option_map}
 use Rattle.std.specs.FinMap as fin
 use Rattle.zone_events.specs.declared.due_item.DueItem.TheVariants.{Interrogate}
-use Rattle.ras_machine.specs.State.{Running}
+use Rattle.ras_machine.specs.State.{State}
 use Rattle.zone_tables.specs.Tables.{Tables}
 use Rattle.ras_machine.specs.Turns.{times_of}
 use Rattle.ras_machine.specs.Turns.{IsDueIn, inquiry}
 use Rattle.zone_tables.specs.Leaving.{AreSameButLent}
-use Rattle.ras_machine.specs.inside.Parts.{running_of}
+use Rattle.ras_machine.specs.inside.Parts.{state_of}
 use Rattle.zone_tables.proofs.ButLent.{same_after_end}
 use Rattle.ras_machine.proofs.Dropping.{born_same}
 use Rattle.ras_machine.proofs.Noting.{does_item, tries_few_in}
@@ -15,8 +15,8 @@ use Rattle.ras_machine.proofs.machine.Machine.interrogate.Goals as goal
 
 pub interrogated-requires : goal.interrogated-requires
 interrogated-requires c =
-    let z = c.self.inside.tables.tables in
-    let due = subst (λ (m : Running). IsDueIn m.state c.args.now (Interrogate c.args.id))
+    let z = c.self.inside.tables in
+    let due = subst (λ (m : State). IsDueIn m c.args.now (Interrogate c.args.id))
     (sym c.self.view_is) c.requires.due in
     tries_few_in (times_of z.config) c.args.now (fin.get z.live c.args.id) due.1
     c.get.ensures.asks
@@ -25,24 +25,20 @@ pub returns-clause-does : goal.returns-clause-does
 returns-clause-does c =
     let i = c.self.inside in
     let old =
-    running_of i.tables i.kept.kept i.clock i.interrogation_number i.next_pool_turn i.steps in
+    state_of i.tables i.kept.kept i.clock i.interrogation_number i.next_pool_turn i.steps in
     let number = c.following-self-inside in
-    let new : Running = record {
-      state = record old.state {
-        tables = c.interrogated.new.self.tables;
-        interrogation_number = number.result;
-      };
-      tallies = c.interrogated.new.self.tallies;
+    let new : State = record old {
+      tables = c.interrogated.new.self;
+      interrogation_number = number.result;
     } in
-    let there : fin.get i.tables.tables.live c.args.id ≡ Some c.unwrap.result.now =
+    let there : fin.get i.tables.live c.args.id ≡ Some c.unwrap.result.now =
     sym c.get.ensures.found ∙ ap option_copied c.unwrap.ensures in
     let zone_is = sym c.interrogated.ensures.tables in
     does_item old _ c.self.view_is c.args.now (Interrogate c.args.id) c.requires.due
     (Some c.in_ok-output.output) c.noted.result c.noted.ensures new
     (ap (option_map (inquiry i.interrogation_number)) there
     ∙ ap Some (sym c.in_ok-output.ensures.encoded))
-    (λ j. record old.state { tables = zone_is j; interrogation_number = sym number.ensures j })
-    c.interrogated.ensures.tallies
-    (subst (λ (z : Tables). AreSameButLent i.tables.tables.pools z.pools) zone_is
-    (same_after_end i.tables.tables.pools None))
+    (λ j. record old { tables = zone_is j; interrogation_number = sym number.ensures j })
+    (subst (λ (z : Tables). AreSameButLent i.tables.pools z.pools) zone_is
+    (same_after_end i.tables.pools None))
     (λ before. born_same i.kept.kept i.steps before) c.in_ok-output.ensures.few

@@ -1,9 +1,9 @@
 use Rattle.std.proofs.Common.{◌∙◌, refl, ap, sym, None}
 use Rattle.zone_events.specs.declared.due_item.DueItem.TheVariants.{RegistrationOver}
 use Rattle.zone_config.specs.declared.config.ConfigParts.{ConfigParts}
-use Rattle.ras_machine.specs.State.{Running}
+use Rattle.ras_machine.specs.State.{State}
 use Rattle.zone_tables.specs.Tables.{Tables}
-use Rattle.ras_machine.specs.inside.Parts.{running_of}
+use Rattle.ras_machine.specs.inside.Parts.{state_of}
 use Rattle.ras_machine.proofs.Dropping.{born_same}
 use Rattle.ras_machine.proofs.Noting.{does_item}
 use Rattle.zone_tables.proofs.Departing.{settings_stay}
@@ -15,7 +15,7 @@ invariant_of-self c = record {
   kept = c.self.invariant.kept;
   most = c.self.invariant.most ∙ sym (ap (λ (z : Tables). z.config.kept) c.lapse.ensures.tables
       ∙ ap (λ (config : ConfigParts). config.kept)
-      (settings_stay c.self.inside.tables.tables c.args.id));
+      (settings_stay c.self.inside.tables c.args.id));
   clock = c.self.invariant.clock;
   least_number = c.self.invariant.least_number;
   most_number = c.self.invariant.most_number;
@@ -26,11 +26,10 @@ pub returns : goal.returns
 returns c =
     let i = c.self.inside in
     let old =
-    running_of i.tables i.kept.kept i.clock i.interrogation_number i.next_pool_turn i.steps in
+    state_of i.tables i.kept.kept i.clock i.interrogation_number i.next_pool_turn i.steps in
     let left = c.lapse.new.self in
-    let new : Running =
-    record { state = record old.state { tables = left.tables }; tallies = left.tallies } in
+    let new : State = record old { tables = left } in
     does_item old _ c.self.view_is c.args.now (RegistrationOver c.args.id) c.requires
     None c.noted.result c.noted.ensures new
-    refl (ap (λ (z : Tables). record old.state { tables = z }) (sym c.lapse.ensures.tables))
-    c.lapse.ensures.tallies c.lapse.ensures.pools (λ before. born_same i.kept.kept i.steps before) tt
+    refl (ap (λ (z : Tables). record old { tables = z }) (sym c.lapse.ensures.tables))
+    c.lapse.ensures.pools (λ before. born_same i.kept.kept i.steps before) tt

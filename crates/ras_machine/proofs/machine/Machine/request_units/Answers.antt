@@ -4,15 +4,15 @@ use Rattle.ras_writing.specs.Replies.{encoding_of}
 use Rattle.kept_replies.specs.Kept.{Passes, is_over}
 use Rattle.zone_events.specs.declared.outcome.Outcome.{Outcome}
 use Rattle.zone_config.specs.declared.config.ConfigParts.{ConfigParts}
-use Rattle.ras_machine.specs.State.{Running}
-use Rattle.zone_tables.specs.Parts.{RunningTables}
-use Rattle.ras_machine.specs.inside.Parts.{running_of}
-use Rattle.zone_tables.specs.Pools.{pools_after_answer, tallies_after_answer}
+use Rattle.ras_machine.specs.State.{State}
+use Rattle.zone_tables.specs.Tables.{Tables}
+use Rattle.ras_machine.specs.inside.Parts.{state_of}
+use Rattle.zone_tables.specs.Pools.{pools_after_answer}
 use Rattle.ras_machine.specs.Keeping.{dropped_for, kept_with, plan_at, state_after}
 use Rattle.zone_config.specs.Terms.{term_of}
 use Rattle.ras_machine.specs.Machine.{Serving, note_at}
 use Rattle.ras_requests.specs.Conclusions.{RequestsUnits}
-use Rattle.zone_tables.specs.UnitRequests.{units_requested, calls_after_answer, reply_of}
+use Rattle.zone_tables.specs.UnitRequests.{calls_after_answer, reply_of}
 use Rattle.ras_machine.specs.Courses.{heard_at, Does}
 use Rattle.ras_machine.specs.Soundness.{AreBornBefore}
 use Rattle.ras_machine.specs.Steps.{IsTimely}
@@ -24,9 +24,14 @@ pub reserve-requires-clause-over : goal.reserve-requires-clause-over
 reserve-requires-clause-over g c =
     subst (λ (n : ℕ). IfSome (dropped_for c.args.job.occasion)
     (Passes (is_over n) c.self.inside.kept.kept)) (sym c.milliseconds.ensures.same)
-    (subst (λ (m : Running). IfSome (dropped_for c.args.job.occasion)
-    (Passes (is_over c.args.now) m.state.kept)) (sym c.self.view_is)
-    (over_of c.args.self.now.state c.args.now c.args.job.occasion c.requires.timely))
+    (subst (λ (m : State). IfSome (dropped_for c.args.job.occasion)
+    (Passes (is_over c.args.now) m.kept)) (sym c.self.view_is)
+    (over_of c.args.self.now c.args.now c.args.job.occasion c.requires.timely))
+
+pub keep-requires-clause-births : goal.keep-requires-clause-births
+keep-requires-clause-births g c =
+    subst (AreBornBefore c.self.inside.steps) (sym c.reserve.ensures.kept)
+    (subst (λ (m : State). AreBornBefore m.steps m.kept) (sym c.self.view_is) c.requires.sound.born)
 
 pub invariant_of-self-2 : goal.invariant_of-self-2
 invariant_of-self-2 g c = record {
@@ -51,48 +56,41 @@ returns-clause-does g c plan asks =
     let w = c.waits-waits.result in
     let reply = c.reply-reply.result in
     let old =
-    running_of i.tables i.kept.kept i.clock i.interrogation_number i.next_pool_turn i.steps in
+    state_of i.tables i.kept.kept i.clock i.interrogation_number i.next_pool_turn i.steps in
     let tables = c.hear.new.tables in
     let kept = c.keep.new.kept.kept in
-    let asked : RunningTables = record {
-      tables = record i.tables.tables {
-        calls = calls_after_answer q answer i.tables.tables.calls;
-        pools = pools_after_answer i.tables.tables.pools q.pool answer;
-      };
-      tallies = tallies_after_answer i.tables.tallies (units_requested q) answer;
+    let asked : Tables = record i.tables {
+      calls = calls_after_answer q answer i.tables.calls;
+      pools = pools_after_answer i.tables.pools q.pool answer;
     } in
-    let asked_is : c.request_units.new.self ≡ asked =
-    λ j. record { tables = c.in_ok-answer.ensures.tables j; tallies = c.in_ok-answer.ensures.tallies j } in
+    let asked_is : c.request_units.new.self ≡ asked = c.in_ok-answer.ensures.tables in
     let tables_is : tables ≡ heard_at asked job.occasion now (Some id) =
-    c.hear.ensures.heard ∙ ap (λ (z : RunningTables). heard_at z job.occasion now (Some id)) asked_is in
+    c.hear.ensures.heard ∙ ap (λ (z : Tables). heard_at z job.occasion now (Some id)) asked_is in
     let config_is = c.config-config.ensures.same in
     let term_is = c.term-term.ensures.same
     ∙ ap (λ (config : ConfigParts). term_of config now) config_is in
     let kept_is : kept ≡ kept_with i.kept.kept job.key job.occasion i.steps
-    (state_after request reply w (term_of i.tables.tables.config now)) =
+    (state_after request reply w (term_of i.tables.config now)) =
     c.keep.ensures.kept
     ∙ (λ j. kept_with (c.reserve.ensures.kept j) job.key job.occasion i.steps
     ((c.state_after-state.ensures ∙ ap (state_after request reply w) term_is) j)) in
-    let reply_is : reply ≡ reply_of q answer w i.tables.tables.config.delay =
+    let reply_is : reply ≡ reply_of q answer w i.tables.config.delay =
     c.reply-reply.ensures ∙ ap (λ n. reply_of q answer w n)
     (c.delay-delay.ensures ∙ ap (λ (config : ConfigParts). config.delay) config_is) in
     let back = sym c.self.view_is in
     let does = does_answered old now job id request q answer w reply tables
     kept c.waits-waits.ensures
     c.requires.seq c.in_ok-answer.ensures.answer
-    (subst (λ (m : Running). IsTimely m.state now job.occasion) back c.requires.timely)
-    (subst (λ (m : Running). AreBornBefore m.state.steps m.state.kept) back c.requires.sound.born)
+    (subst (λ (m : State). IsTimely m now job.occasion) back c.requires.timely)
+    (subst (λ (m : State). AreBornBefore m.steps m.kept) back c.requires.sound.born)
     reply_is c.write_reserved.ensures.most tables_is kept_is plan
-    (subst (λ (m : Running). RequestsUnits m.state.tables plan q) back asks) in
+    (subst (λ (m : State). RequestsUnits m.tables plan q) back asks) in
     let course = Serving (record {
       job = job;
       request = request;
       plan = plan_at job.occasion now (Some id) plan;
     }) in
-    let new : Running = record {
-      state = record old.state { tables = tables.tables; kept = kept };
-      tallies = tables.tallies;
-    } in
+    let new : State = record old { tables = tables; kept = kept } in
     let bytes_is : c.from_vec-bytes.result ≡ encoding_of reply = search rules in
     let due : Outcome = record {
       answer = Some answer;
@@ -115,5 +113,5 @@ returns-clause-does g c plan asks =
       dropped = sym c.dropped.ensures j;
       given = None;
     } in
-    subst (λ (m : Running). Does m now course outcome new) c.self.view_is
+    subst (λ (m : State). Does m now course outcome new) c.self.view_is
     (subst (λ (o : Outcome). Does old now course o new) outcome_is does)

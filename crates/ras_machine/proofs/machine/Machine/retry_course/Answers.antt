@@ -6,17 +6,17 @@ use Rattle.ras_machine.proofs.machine.Machine.retry_course.Goals as goal
 
 pub serving-requires-clause-served : goal.serving-requires-clause-served
 serving-requires-clause-served c =
-    (subst (IsWaitingRequest c.args.self.now.state c.args.now c.args.born) c.in-Some.is
+    (subst (IsWaitingRequest c.args.self.now c.args.now c.args.born) c.in-Some.is
     (c.in_ok-job.ensures c.args.now)).served
 
 pub serving-requires-clause-placed : goal.serving-requires-clause-placed
 serving-requires-clause-placed c =
-    (subst (IsWaitingRequest c.args.self.now.state c.args.now c.args.born) c.in-Some.is
+    (subst (IsWaitingRequest c.args.self.now c.args.now c.args.born) c.in-Some.is
     (c.in_ok-job.ensures c.args.now)).placed
 
 pub returns-in-Some : goal.returns-in-Some
 returns-in-Some c =
-    let s = c.args.self.now.state in
+    let s = c.args.self.now in
     let again = subst (IsWaitingRequest s c.args.now c.args.born) c.in-Some.is
     (c.in_ok-job.ensures c.args.now) in
     let there = plan_there s.tables c.args.now c.in-Some.request again.served in
@@ -26,7 +26,7 @@ returns-in-Some c =
 
 pub returns-in-None : goal.returns-in-None
 returns-in-None c = record {
-  is = sym (subst (IsWaitingRequest c.args.self.now.state c.args.now c.args.born) c.in-None.is
+  is = sym (subst (IsWaitingRequest c.args.self.now c.args.now c.args.born) c.in-None.is
       (c.in_ok-job.ensures c.args.now));
   stands = tt;
 }

@@ -1,10 +1,8 @@
-use Rattle.std.proofs.Common.{◌≡◌, ◌+◌, ◌∙◌, refl, ap, subst, sym, None}
+use Rattle.std.proofs.Common.{◌+◌, ◌∙◌, refl, ap, sym, None}
 use Rattle.zone_events.specs.declared.due_item.DueItem.TheVariants.{PoolTurn}
 use Rattle.zone_config.specs.declared.config.ConfigParts.{ConfigParts}
-use Rattle.ras_machine.specs.State.{Running}
-use Rattle.zone_tables.specs.Tables.{Tables}
-use Rattle.ras_machine.specs.inside.Parts.{running_of}
-use Rattle.zone_tables.specs.Leaving.{AreSameButLent}
+use Rattle.ras_machine.specs.State.{State}
+use Rattle.ras_machine.specs.inside.Parts.{state_of}
 use Rattle.zone_tables.proofs.ButLent.{same_after_end}
 use Rattle.ras_machine.proofs.Dropping.{born_same}
 use Rattle.ras_machine.proofs.Noting.{does_item}
@@ -14,24 +12,14 @@ pub returns : goal.returns
 returns c =
     let i = c.self.inside in
     let old =
-    running_of i.tables i.kept.kept i.clock i.interrogation_number i.next_pool_turn i.steps in
-    let turned = c.turn_pools.new.self in
-    let same : turned.tables ≡ i.tables.tables = c.turn_pools.ensures.tables in
-    let new : Running = record {
-      state = record old.state {
-        tables = turned.tables;
-        next_pool_turn = c.milliseconds.result + c.pool_turn.result;
-      };
-      tallies = turned.tallies;
-    } in
+    state_of i.tables i.kept.kept i.clock i.interrogation_number i.next_pool_turn i.steps in
+    let new : State =
+    record old { next_pool_turn = c.milliseconds.result + c.pool_turn.result } in
     let now_is = sym c.milliseconds.ensures.same in
-    let turn_is =
-    sym (c.pool_turn.ensures.same ∙ ap (λ (config : ConfigParts). config.pool_turn) c.config.ensures.same
-    ∙ ap (λ (z : Tables). z.config.pool_turn) same) in
+    let turn_is = sym (c.pool_turn.ensures.same
+    ∙ ap (λ (config : ConfigParts). config.pool_turn) c.config.ensures.same) in
     does_item old _ c.self.view_is c.args.now PoolTurn c.requires
     None c.noted.result c.noted.ensures new
-    refl (λ j. record old.state { tables = sym same j; next_pool_turn = now_is j + turn_is j })
-    c.turn_pools.ensures.tallies
-    (subst (λ (z : Tables). AreSameButLent i.tables.tables.pools z.pools) (sym same)
-    (same_after_end i.tables.tables.pools None))
+    refl (λ j. record old { next_pool_turn = now_is j + turn_is j })
+    (same_after_end i.tables.pools None)
     (λ before. born_same i.kept.kept i.steps before) tt
