@@ -1,8 +1,8 @@
 -- The figures and the tallies of pools, as the members of their set change.
-use Rattle.std.proofs.Common.{◌≡◌, ◌<◌, ◌+◌, ◌-◌, ◌^◌, IsTrue, ℕ, List, [], ◌∷◌, length, map}
-use Rattle.std.proofs.Common.{get_or, set, All, refl, sym, ◌∙◌, ap, arith, Some, None, Bool, true, false}
+use Rattle.std.proofs.Common.{◌≡◌, ◌≤◌, ◌+◌, ◌-◌, ◌^◌, IsTrue, ℕ, List, [], ◌∷◌, length, map}
+use Rattle.std.proofs.Common.{get_or, set, All, refl, sym, ◌∙◌, ap, subst, arith, Some, None, false}
 use Rattle.std.specs.Prelude.{Option}
-use Rattle.std.proofs.lemmas.List.{map-set}
+use Rattle.std.proofs.lemmas.List.{map-set, set-get_or}
 use Rattle.std.proofs.lemmas.List.Elements.{All-map}
 use Rattle.std.proofs.Math.ListN as seq
 use Rattle.std.proofs.Math.Seq.{map-set_same}
@@ -15,6 +15,7 @@ use Rattle.pools.specs.Members.{member_at, members_after_answer, members_after_r
 use Rattle.pools.specs.Members.{members_after_turn, new_member}
 use Rattle.zone_tables.specs.Pools.{IsIdle, RequestedUnits, figures_after_return, figures_of}
 use Rattle.zone_tables.specs.Pools.{pools_after_answer, pools_after_return}
+use Rattle.zone_tables.specs.Leaving.{IsSameButLent}
 use Rattle.zone_tables.proofs.Members.{figures_there}
 use Rattle.ras_machine.specs.Steps.{IsAskedOnce, pools_after_ask}
 use Rattle.ras_core.specs.Tallies.{Tally, figures_without_loans, lasts_of, tallies_after_answer}
@@ -93,6 +94,48 @@ pub tallies-return : (members : List Member) (i n : ℕ)
     → tallies_of (members_after_return members i n) ≡ tallies_of members
 tallies-return members i n =
     map-set_same tally_of members i (member_after_return (member_at members i) n) nobody refl
+
+-- what a pool has lent more than these figures say comes back
+after_return : (had f : Figures) → IsSameButLent had f
+    → figures_after_return had (had.lent - f.lent) ≡ f
+after_return had f same =
+    let lent : had.lent - (had.lent - f.lent) ≡ f.lent = omega (arith, same.lent) in
+    λ j. record {
+      limit = sym same.limit j;
+      lent = lent j;
+      refusals = sym same.refusals j;
+      waits = sym same.waits j;
+    }
+
+pub returned : (members : List Member) (i : ℕ) (had f : Figures)
+    → had ≡ (member_at members i).account.figures
+    → IsSameButLent (member_at members i).account.figures f
+    → pools_after_return (figures_of (accounts_of members)) i (had.lent - f.lent)
+    ≡ set (figures_of (accounts_of members)) i f
+returned members i had f is same =
+    let fs = figures_of (accounts_of members) in
+    ap (λ x. set fs i (figures_after_return x (had.lent - f.lent)))
+    (figures_there members i ∙ sym is)
+    ∙ ap (set fs i) (after_return had f (subst (λ x. IsSameButLent x f) (sym is) same))
+
+-- nothing does, where it has lent no more
+pub figures-kept : (members : List Member) (i : ℕ) (had f : Figures)
+    → had ≡ (member_at members i).account.figures
+    → IsSameButLent (member_at members i).account.figures f
+    → had.lent - f.lent ≤ 0
+    → figures_of (accounts_of members) ≡ set (figures_of (accounts_of members)) i f
+figures-kept members i had f is same none =
+    let fs = figures_of (accounts_of members) in
+    let s = subst (λ x. IsSameButLent x f) (sym is) same in
+    let lent : f.lent ≡ had.lent = omega (arith, none, s.lent) in
+    let f_is : f ≡ had = λ j. record {
+      limit = s.limit j;
+      lent = lent j;
+      refusals = s.refusals j;
+      waits = s.waits j;
+    } in
+    sym (ap (set fs i) (f_is ∙ (is ∙ sym (figures_there members i)))
+    ∙ set-get_or fs i (opening_account 0).figures)
 
 -- each pool makes a turn
 pub figures-turn : (members : List Member)

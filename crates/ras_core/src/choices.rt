@@ -13,11 +13,7 @@ use zone_events::DueItem;
 
 /// What an event calls for. A kept entry that is over is dropped if the reply to a datagram finds no
 /// other place, and in a turn any one item is done of those that are due.
-pub fn chosen_course(
-    machine: &Machine,
-    now: Moment,
-    arrival: Arrival,
-) -> Result<Course, AllocError>
+pub fn chosen_course(machine: &Machine, now: Moment, arrival: Arrival) -> Result<Course, AllocError>
     requires { IsRead arrival }
     ensures { IfOk result (λ course. (moment : ℕ)
         → IsChosen machine.now now (event_at moment arrival) course) }

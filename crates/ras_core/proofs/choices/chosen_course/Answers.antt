@@ -7,8 +7,8 @@ use Rattle.ras_machine.proofs.Choosing.{message_ready, turn_ready}
 use Rattle.ras_core.proofs.choices.chosen_course.Goals as goal
 
 pub returns-in-Datagram : goal.returns-in-Datagram
-returns-in-Datagram g c =
-    let s = c.args.machine.now.state in
+returns-in-Datagram c =
+    let s = c.args.machine.now in
     let now = c.args.now in
     let key = c.in-Datagram.key in
     let dropped = c.entry_to_drop-dropped.result in
@@ -23,8 +23,8 @@ returns-in-Datagram g c =
     }))
 
 pub returns-in-Turn : goal.returns-in-Turn
-returns-in-Turn g c =
-    let s = c.args.machine.now.state in
+returns-in-Turn c =
+    let s = c.args.machine.now in
     let now = c.args.now in
     if_ok_with _ _ c.turn_course.result c.turn_course.ensures (λ called calls moment.
     subst (λ a. IsChosen s now (event_at moment a) called) (sym c.in-Turn.is) (record {
