@@ -1,5 +1,5 @@
 -- Rings of datagrams: what their ends have put and taken, and which ends belong together.
-use Rattle.std.specs.Prelude.{◌≡◌, ◌≢◌, ℕ, List, [], ◌∷◌}
+use Rattle.std.specs.Prelude.{◌≡◌, ◌≢◌, ℕ, List, [], Some, slice_get}
 use Rattle.rtrb.specs.Ring as ring
 use Rattle.zone_events.specs.declared.outcome.Datagram.{Datagram}
 use Rattle.reply_queues.specs.declared.outlet.Outlet.{Outlet}
@@ -20,6 +20,10 @@ free_places outlet = ring.known_free outlet.producer
 -- the datagrams that the inlet has taken out of its ring, oldest first
 abbrev pub datagrams_taken : Inlet → List Datagram
 datagrams_taken inlet = ring.received inlet.consumer
+
+-- the datagrams that the inlet has seen in its ring and has not taken yet: they come next
+abbrev pub datagrams_seen : Inlet → List Datagram
+datagrams_seen inlet = ring.known_items inlet.consumer
 
 -- all datagrams that were ever put into the ring of the mark, oldest first
 abbrev pub all_datagrams : Ended → List Datagram
@@ -45,6 +49,11 @@ IsMarkOf mark inlet = ring.IsFinishedOf mark.finished inlet.consumer
 abbrev pub Ends : Outlet → Ended → Type 0
 Ends outlet mark = ring.Finishes outlet.producer mark.finished
 
+-- the mark of the inlet that belongs to the outlet, whichever that is: what a thread that has the
+-- outlet can promise to the one that has the inlet
+abbrev pub MarksRing : Outlet → Ended → Type 0
+MarksRing outlet mark = (inlet : Inlet) → IsRing outlet inlet → IsMarkOf mark inlet
+
 -- what is told of a ring with a mark: it is whole where all that was ever put was taken, and the
 -- number of datagrams is told; it is unknown where something is left
 abbrev pub Settles : Ended → Inlet → Settled → Type 0
@@ -53,17 +62,16 @@ Settles mark inlet (Whole taken) =
     × (taken ≡ saturating_count (datagrams_taken inlet))
 Settles mark inlet Unknown = datagrams_taken inlet ≢ all_datagrams mark
 
--- a ring that was just made: nothing was put or taken, and every place is free
+-- a ring that was just made: nothing was put, seen or taken, and every place is free
 pub record IsNewRing (capacity : ℕ) (outlet : Outlet) (inlet : Inlet) : Type 0 where
   pub ring : IsRing outlet inlet
   pub nothing_put : datagrams_put outlet ≡ []
+  pub nothing_seen : datagrams_seen inlet ≡ []
   pub nothing_taken : datagrams_taken inlet ≡ []
   pub all_free : free_places outlet ≡ capacity
 
--- as many inlets as outlets; those at the same place are the ends of one new ring
-abbrev pub AreNewRings : ℕ → List Outlet → List Inlet → Type 0
-AreNewRings capacity [] [] = Unit {0}
-AreNewRings capacity [] (inlet ∷ inlets) = ⊥
-AreNewRings capacity (outlet ∷ outlets) [] = ⊥
-AreNewRings capacity (outlet ∷ outlets) (inlet ∷ inlets) =
-    IsNewRing capacity outlet inlet × AreNewRings capacity outlets inlets
+-- the outlet and the inlet at the same place of the two lists are the ends of one new ring
+abbrev pub EachIsNewRing : ℕ → List Outlet → List Inlet → Type 0
+EachIsNewRing capacity outlets inlets =
+    (k : ℕ) (outlet : Outlet) (inlet : Inlet) → slice_get outlets k ≡ Some outlet
+    → slice_get inlets k ≡ Some inlet → IsNewRing capacity outlet inlet

@@ -26,10 +26,10 @@ pub enum Settled {
 }
 
 impl Inlet {
-    ghost use Rattle.std.specs.Prelude.{◌≡◌, ◌∷◌, [], ◌++◌, OnSome, IfSome, IfNone};
+    ghost use Rattle.std.specs.Prelude.{◌≡◌, ◌<◌, ◌∷◌, [], ◌++◌, length, IsSome, IfSome, IfNone};
     ghost use Rattle.std.specs.Option.{ForSome};
     ghost use mathlib.Core.List.{IsPrefix};
-    ghost use Rattle.reply_queues.specs.Rings.{datagrams_taken, all_datagrams};
+    ghost use Rattle.reply_queues.specs.Rings.{datagrams_taken, datagrams_seen, all_datagrams};
     ghost use Rattle.reply_queues.specs.Rings.{SameInlet, IsMarkOf, Settles};
 
     /// Takes the next datagram, where the ring has one. The outlet may put one at any time.
@@ -38,6 +38,12 @@ impl Inlet {
         ensures taken { IfSome result
             (λ next. datagrams_taken self.new ≡ datagrams_taken self.old ++ next ∷ []) }
         ensures unchanged { IfNone result (datagrams_taken self.new ≡ datagrams_taken self.old) }
+
+        // What the inlet has seen comes next, and it looks before it answers that there is none.
+        ensures seen_next { IfSome result
+            (λ next. IsPrefix (datagrams_seen self.old) (next ∷ datagrams_seen self.new)) }
+        ensures given { 0 < length (datagrams_seen self.old) → IsSome result }
+        ensures none_seen { IfNone result (datagrams_seen self.new ≡ []) }
     {
         let Inlet { consumer, taken } = self;
         let datagram = consumer.pop().ok()?;

@@ -7,7 +7,8 @@ ghost use Rattle.reply_queues.specs.declared.inlet.Settled.{Settled};
 ghost use Rattle.reply_queues.specs.declared.inlet.Settled.TheVariants.{Whole};
 ghost use Rattle.reply_queues.specs.Counts.{saturating_count};
 ghost use Rattle.reply_queues.specs.Rings.{datagrams_put, datagrams_taken};
-ghost use Rattle.reply_queues.specs.Rings.{IsRing, SameOutlet, SameInlet, Ends, IsMarkOf, Settles};
+ghost use Rattle.reply_queues.specs.Rings.{IsRing, SameOutlet, SameInlet, Ends, IsMarkOf, MarksRing};
+ghost use Rattle.reply_queues.specs.Rings.{Settles};
 
 /// The ends of a ring stay its ends, whatever is put and taken, and the mark that an outlet gives
 /// is that of the inlet's ring.
@@ -16,8 +17,8 @@ pub fn ends_stay_together()
         IsRing outlet inlet → SameOutlet outlet later → IsRing later inlet }
     ensures inlet { (outlet : Outlet) (inlet later : Inlet) →
         IsRing outlet inlet → SameInlet inlet later → IsRing outlet later }
-    ensures mark { (outlet : Outlet) (inlet : Inlet) (mark : Ended) →
-        IsRing outlet inlet → Ends outlet mark → IsMarkOf mark inlet }
+    ensures mark { (outlet later : Outlet) (mark : Ended) →
+        SameOutlet outlet later → Ends later mark → MarksRing outlet mark }
     ensures marked { (inlet later : Inlet) (mark : Ended) →
         IsMarkOf mark inlet → SameInlet inlet later → IsMarkOf mark later }
     ensures outlets { (one two three : Outlet) →

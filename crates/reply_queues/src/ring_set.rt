@@ -1,6 +1,6 @@
 //! Several rings at once.
 ghost use Rattle.std.specs.Prelude.{◌≡◌, ◌≤◌, IfOk, vec_len};
-ghost use Rattle.reply_queues.specs.Rings.{AreNewRings};
+ghost use Rattle.reply_queues.specs.Rings.{EachIsNewRing};
 
 use crate::inlet::Inlet;
 use crate::outlet::Outlet;
@@ -24,7 +24,7 @@ pub fn rings(
     requires capacity { (1 ≤ capacity) × (capacity ≤ MAX_CAPACITY) }
     ensures outlets { IfOk result (λ ends. vec_len ends.0 ≡ n) }
     ensures inlets { IfOk result (λ ends. vec_len ends.1 ≡ n) }
-    ensures rings { IfOk result (λ ends. AreNewRings capacity ends.0.items ends.1.items) }
+    ensures rings { IfOk result (λ ends. EachIsNewRing capacity ends.0.items ends.1.items) }
 {
     let mut outlets = Vec::with_capacity(alloc, n)?;
     let mut inlets = Vec::with_capacity(alloc, n)?;
