@@ -7,8 +7,8 @@ ghost use Rattle.reply_queues.specs.declared.inlet.Settled.{Settled};
 ghost use Rattle.reply_queues.specs.declared.inlet.Settled.TheVariants.{Whole};
 ghost use Rattle.reply_queues.specs.Counts.{saturating_count};
 ghost use Rattle.reply_queues.specs.Rings.{datagrams_put, datagrams_taken};
-ghost use Rattle.reply_queues.specs.Rings.{IsRing, SameOutlet, SameInlet, Ends, IsMarkOf, MarksRing};
-ghost use Rattle.reply_queues.specs.Rings.{Settles};
+ghost use Rattle.reply_queues.specs.Rings.{IsRing, SameOutlet, SameInlet};
+ghost use Rattle.reply_queues.specs.Rings.{Ends, IsMarkOf, MarksRing, Settles};
 
 /// The ends of a ring stay its ends, whatever is put and taken, and the mark that an outlet gives
 /// is that of the inlet's ring.

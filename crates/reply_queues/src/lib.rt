@@ -1,5 +1,6 @@
-//! The queues by which the workers of a server hand replies to its sender: rings of datagrams, each with one end
-//! that puts and one end that takes, which may stand in two threads. No call waits, and none but `rings` takes memory.
+//! The queues by which the workers of a server hand replies to its sender: rings of datagrams, each
+//! with one end that puts and one end that takes, which may stand in two threads. No call waits,
+//! and none but `rings` takes memory.
 #![tactic(auto)]
 
 mod inlet;

@@ -24,7 +24,8 @@ impl Outlet {
     /// inlet may free places at any time.
     pub fn offer(&mut self, datagram: Datagram) -> Result<(), Datagram>
         ensures ring { SameOutlet self.old self.new }
-        ensures put { OnOk result (datagrams_put self.new ≡ datagrams_put self.old ++ datagram ∷ []) }
+        ensures put { OnOk result
+            (datagrams_put self.new ≡ datagrams_put self.old ++ datagram ∷ []) }
         ensures one_place { OnOk result (free_places self.old ≤ free_places self.new + 1) }
 
         // Where no place is found, nothing happens.
@@ -40,8 +41,8 @@ impl Outlet {
         }
     }
 
-    /// Puts nothing more, and gives the ring's mark for that. There is none where the inlet is gone:
-    /// nobody takes then what was put.
+    /// Puts nothing more, and gives the ring's mark for that. There is none where the inlet is
+    /// gone: nobody takes then what was put.
     pub fn end(self) -> Option<Ended>
         ensures { IfSome result (λ mark. Ends self mark) }
     {
