@@ -7,8 +7,10 @@ use Rattle.queue_tests.proofs.two_threads.hand_over.Goals as goal
 pub settle-requires : goal.settle-requires
 settle-requires g c =
     let ring = c.requires in
-    let same = c.join-mark.ensures.second.0 in
+    let ends = c.join-mark in
+    let same = ends.ensures.second.0 in
     let P : Option Ended → Type 0 = λ o. IfSome o (λ mark. MarksRing c.args.outlet mark) in
     record {
-      own_mark = λ mark is. subst P is c.join-mark.ensures.first c.join-mark.result.1.0 (same.0 ∙ ring.0, same.1 ∙ ring.1, same.2 ∙ ring.2, same.3 ∙ ring.3);
+      own_mark = λ mark is. subst P is ends.ensures.first ends.result.1.0
+          (same.0 ∙ ring.0, same.1 ∙ ring.1, same.2 ∙ ring.2, same.3 ∙ ring.3);
     }
