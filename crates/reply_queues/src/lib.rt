@@ -1,0 +1,14 @@
+//! The queues by which the workers of a server hand replies to its sender: rings of datagrams, each
+//! with one end that puts and one end that takes, which may stand in two threads. No call waits,
+//! and none but `rings` takes memory.
+#![tactic(auto)]
+
+mod inlet;
+mod laws;
+mod outlet;
+mod ring_set;
+
+pub use inlet::{Inlet, Settled};
+pub use laws::{ends_stay_together, whole_ring};
+pub use outlet::{Ended, Outlet};
+pub use ring_set::{MAX_CAPACITY, MAX_RINGS, rings};
