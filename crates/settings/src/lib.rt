@@ -1,0 +1,16 @@
+//! The settings of the gatekeeper's program, read from a TOML document: what is set for the zone
+//! (`[zone]`), for the server (`[serve]`) and for the pools of bandwidth (`[[pool]]`).
+#![tactic(auto)]
+
+mod fault;
+mod pool;
+mod serve;
+mod serve_key;
+mod setting_key;
+mod settings;
+mod value;
+mod zone;
+
+pub use fault::{SettingsFault, SyntaxError};
+pub use serve_key::ServeKey;
+pub use settings::{Settings, read_settings};
