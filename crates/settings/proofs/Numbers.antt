@@ -1,5 +1,6 @@
 -- The numbers of a zone, read one key after the other.
-use Rattle.std.proofs.Common.{◌≡◌, ◌+◌, ◌<◌, ◌≤◌, ◌∙◌, ℕ, List, [], codes, length, get_or, drop, Ok, Err}
+use Rattle.std.proofs.Common.{◌≡◌, ◌+◌, ◌<◌, ◌≤◌, ◌∙◌, ℕ, List, [], codes, length}
+use Rattle.std.proofs.Common.{get_or, drop, Ok, Err}
 use Rattle.std.proofs.lemmas.List.{drop_more}
 use Rattle.std.proofs.Math.ListN.{drop_of_length-le}
 use Rattle.toml.specs.Data.{Members, get_member}
@@ -19,7 +20,8 @@ next_number : (table : Members) (keys : List Key) (i : ℕ) (d : Key) (parts : C
     → i < length keys
     → with_numbers table (drop i keys) parts
     ≡ (zone_number table (get_or keys i d)
-    >>= (λ number. with_numbers table (drop (i + 1) keys) (with_number parts (get_or keys i d) number)))
+    >>= (λ number. with_numbers table (drop (i + 1) keys)
+    (with_number parts (get_or keys i d) number)))
 unfolding with_numbers
 next_number table keys i d parts below = rw (drop_more keys i d below)
 

@@ -12,6 +12,8 @@ use Rattle.settings.specs.declared.fault.Refusal.TheVariants as refused
 use Rattle.settings.specs.declared.fault.SettingsFault.{SettingsFault}
 use Rattle.settings.specs.declared.fault.SettingsFault.TheVariants.{Syntax, Memory}
 use Rattle.settings.specs.declared.serve.ServeNumbers.{ServeNumbers}
+use Rattle.settings.specs.declared.serve_key.ServeKey.{ServeKey}
+use Rattle.settings.specs.declared.serve_key.ServeKey.TheVariants.{Receivers, Ring, Faults, Tick}
 use Rattle.settings.specs.declared.setting_key.SettingKey.TheVariants.{ZoneTable}
 use Rattle.settings.specs.declared.settings.Settings.{Settings}
 use Rattle.settings.specs.Faults.{Tells}
@@ -72,6 +74,13 @@ IsAnswer meant (Ok settings) = meant ≡ Some (Ok settings)
 IsAnswer meant (Err Memory) = Unit {0}
 IsAnswer meant (Err (Syntax error)) = meant ≡ None
 IsAnswer meant (Err fault) = IsTold meant fault
+
+-- the number of a key of the server
+abbrev pub serve_number_in : Settings → ServeKey → ℕ
+serve_number_in settings Receivers = settings.receivers
+serve_number_in settings Ring = settings.ring
+serve_number_in settings Faults = settings.faults
+serve_number_in settings Tick = settings.tick
 
 -- each number is in its range
 pub record AreSettings (settings : Settings) : Type 0 where

@@ -23,7 +23,8 @@ with_numbers table (key ∷ keys) parts = do
   number ← zone_number table key
   with_numbers table keys (with_number parts key number)
 
--- the identifier, the address and the numbers, tested in this order; the networks come with the pools
+-- the identifier, the address and the numbers, tested in this order; the networks come with the
+-- pools
 unfoldable pub zone_of : Members → Result ConfigParts Refusal
 zone_of table = do
   identifier ← required_text Identifier texts.name_of (get_member (codes "identifier") table)

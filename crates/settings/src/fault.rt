@@ -8,8 +8,8 @@ use std::alloc::{AllocError, AllocFailed};
 use std::fmt;
 use thiserror::Error;
 
-/// Why a text gives no settings. Of the first five, the first that applies is answered: the keys are
-/// tested in the order of the table, those of `[zone]`, then of `[serve]`, then of each `[[pool]]`.
+/// Why a text gives no settings. Of the first five, the first that applies is answered: the keys
+/// are tested in order, those of `[zone]`, then of `[serve]`, then of each `[[pool]]`.
 /// It is shown as its number, its name, and the key or the place in the text where there is one.
 #[derive(Clone, Copy, Debug, PartialEq, Eq, Error)]
 pub enum SettingsFault {
@@ -52,8 +52,10 @@ impl SettingsFault {
 /// Where and why a text is no TOML document.
 #[derive(Clone, Copy, Debug, PartialEq, Eq)]
 pub struct SyntaxError {
-    line: usize,
-    column: usize,
+    /// The line at which the text is refused, from 1.
+    pub line: usize,
+    /// The character in that line at which the text is refused, from 1.
+    pub column: usize,
     error: toml::de::Error,
 }
 
@@ -71,16 +73,6 @@ impl SyntaxError {
             column,
             error,
         }
-    }
-
-    /// The line at which the text is refused, from 1.
-    pub fn line(&self) -> usize {
-        self.line
-    }
-
-    /// The character in that line at which the text is refused, from 1.
-    pub fn column(&self) -> usize {
-        self.column
     }
 
     /// Why the text is refused there.

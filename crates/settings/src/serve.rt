@@ -4,8 +4,8 @@ ghost use Rattle.std.specs.Prelude.{◌≡◌, codes, true, IfOk};
 ghost use Rattle.toml.specs.Data.{get_member};
 ghost use Rattle.toml.specs.View.{table_view};
 ghost use Rattle.settings.specs.ServeKeys.{takes};
-ghost use Rattle.settings.specs.ServeTables.{default_numbers, serve_number, serve_numbers, serve_of};
-ghost use Rattle.settings.specs.ServeTables.{AreInRange};
+ghost use Rattle.settings.specs.ServeTables.{default_numbers, serve_number, serve_numbers};
+ghost use Rattle.settings.specs.ServeTables.{serve_of, AreInRange};
 
 use crate::fault::Refusal;
 use crate::serve_key::ServeKey;

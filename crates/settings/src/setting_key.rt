@@ -36,6 +36,37 @@ pub(crate) enum SettingKey {
 }
 
 impl SettingKey {
+    /// The tables and keys, in the order in which they are tested.
+    pub(crate) const ALL: [SettingKey; 27] = [
+        SettingKey::ZoneTable,
+        SettingKey::Identifier,
+        SettingKey::Address,
+        SettingKey::Zone(Key::Limit),
+        SettingKey::Zone(Key::CallLimit),
+        SettingKey::Zone(Key::TimeToLive),
+        SettingKey::Zone(Key::Endpoints),
+        SettingKey::Zone(Key::Calls),
+        SettingKey::Zone(Key::Kept),
+        SettingKey::Zone(Key::Window),
+        SettingKey::Zone(Key::Silence),
+        SettingKey::Zone(Key::Delay),
+        SettingKey::Zone(Key::Retries),
+        SettingKey::Zone(Key::Asks),
+        SettingKey::Zone(Key::AskWait),
+        SettingKey::Zone(Key::PoolTurn),
+        SettingKey::ServeTable,
+        SettingKey::Serve(ServeKey::Receivers),
+        SettingKey::Serve(ServeKey::Ring),
+        SettingKey::Serve(ServeKey::Faults),
+        SettingKey::Serve(ServeKey::Tick),
+        SettingKey::Pools,
+        SettingKey::PoolKind,
+        SettingKey::PoolLimit,
+        SettingKey::PoolStep,
+        SettingKey::PoolBurst,
+        SettingKey::PoolNetwork,
+    ];
+
     /// Its name among all settings, as in `pool.limit`.
     pub(crate) fn path(self) -> &'static str
         ensures { result.now ≡ path_of self }

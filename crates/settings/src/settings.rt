@@ -7,12 +7,13 @@ ghost use Rattle.zone_config.specs.Networks.{is_too_long};
 ghost use Rattle.zone_config.specs.Ranges.{IsConfig};
 ghost use Rattle.settings.specs.Ranges.{HasNumbersInRange};
 ghost use Rattle.settings.specs.ServeTables.{AreInRange};
-ghost use Rattle.settings.specs.Settings.{AreSettings, config_with, IsAnswer, settings_in, settings_of};
-ghost use Rattle.settings.specs.Settings.{settings_with, zone_in};
+ghost use Rattle.settings.specs.Settings.{AreSettings, config_with, IsAnswer, settings_in};
+ghost use Rattle.settings.specs.Settings.{serve_number_in, settings_of, settings_with, zone_in};
 
 use crate::fault::{Refusal, SettingsFault, SyntaxError, fault_of};
 use crate::pool::{PoolTable, networks_of, pools_of, specs_of};
 use crate::serve::{ServeNumbers, serve_of};
+use crate::serve_key::ServeKey;
 use crate::setting_key::SettingKey;
 use crate::value::member;
 use crate::zone::zone_of;
@@ -36,6 +37,20 @@ pub struct Settings {
     pub faults: u64,
     /// How long it is from one look at what is due to the next, in milliseconds: 1 to 60000.
     pub tick: u64,
+}
+
+impl Settings {
+    /// The number of a key of the server.
+    pub fn get(&self, key: ServeKey) -> u64
+        ensures { result ≡ serve_number_in self.now key }
+    {
+        match key {
+            ServeKey::Receivers => self.receivers as u64,
+            ServeKey::Ring => self.ring as u64,
+            ServeKey::Faults => self.faults,
+            ServeKey::Tick => self.tick,
+        }
+    }
 }
 
 fn zone_in(alloc: Global, document: &Table) -> Result<ConfigParts, Refusal>
@@ -111,8 +126,8 @@ fn settings_in(alloc: Global, document: &Table) -> Result<Settings, Refusal>
 
 /// The settings that a TOML document writes (`examples/gatekeeper.toml` shows each key, with its
 /// meaning, its range and its default). Keys that aren't known are passed over. A fault names the
-/// first key that fails, in the order of the table: those of `[zone]`, then of `[serve]`, then of each
-/// `[[pool]]`; the settings are refused as a whole.
+/// first key that fails, in the order of that file: those of `[zone]`, then of `[serve]`, then of
+/// each `[[pool]]`; the settings are refused as a whole.
 pub fn read_settings(alloc: Global, text: &str) -> Result<Settings, SettingsFault>
     ensures answer { IsAnswer (settings_of text.now) result }
     ensures ranges { IfOk result AreSettings }
