@@ -7,3 +7,4 @@ pub mod Zones
 pub mod ServeTables
 pub mod Pools
 pub mod Settings
+pub mod Unknown

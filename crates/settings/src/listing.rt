@@ -76,9 +76,9 @@ fn write_network<W: Write>(network: &Network, out: &mut W) -> io::Result<()> {
     writeln!(out, "network = \"{a}.{b}.{c}.{d}/{}\"", network.bits)
 }
 
-/// Writes settings as a TOML document that `read_settings` reads as the same settings: each key with
-/// its path and its value, in order, and a comment behind each number that is its key's default; then
-/// the pools.
+/// Writes settings as a TOML document that `read_settings` reads as the same settings: each key
+/// with its path and its value, in order, and a comment behind each number that is its key's
+/// default; then the pools.
 ///
 /// No clause says what is written: that is tested.
 pub fn write_settings<W: Write>(settings: &Settings, out: &mut W) -> io::Result<()> {
