@@ -1,0 +1,10 @@
+pub mod ServeKeys
+pub mod SettingKeys
+pub mod Faults
+pub mod Ranges
+pub mod Values
+pub mod Zones
+pub mod ServeTables
+pub mod Pools
+pub mod Settings
+pub mod Unknown

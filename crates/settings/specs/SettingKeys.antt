@@ -1,0 +1,25 @@
+-- The tables and keys of the settings, by which a fault is told.
+use Rattle.std.specs.Prelude.{ℕ, List, codes}
+use Rattle.zone_config.specs.Keys as zone
+use Rattle.settings.specs.ServeKeys as serve
+use Rattle.settings.specs.declared.setting_key.SettingKey.{SettingKey}
+use Rattle.settings.specs.declared.setting_key.SettingKey.TheVariants.{ZoneTable, Identifier}
+use Rattle.settings.specs.declared.setting_key.SettingKey.TheVariants.{Address, Zone, ServeTable}
+use Rattle.settings.specs.declared.setting_key.SettingKey.TheVariants.{Serve, Pools, PoolKind}
+use Rattle.settings.specs.declared.setting_key.SettingKey.TheVariants.{PoolLimit, PoolStep}
+use Rattle.settings.specs.declared.setting_key.SettingKey.TheVariants.{PoolBurst, PoolNetwork}
+
+-- its name among all settings
+abbrev pub path_of : SettingKey → List ℕ
+path_of ZoneTable = codes "zone"
+path_of Identifier = codes "zone.identifier"
+path_of Address = codes "zone.address"
+path_of (Zone key) = zone.path_of key
+path_of ServeTable = codes "serve"
+path_of (Serve key) = serve.path_of key
+path_of Pools = codes "pool"
+path_of PoolKind = codes "pool.kind"
+path_of PoolLimit = codes "pool.limit"
+path_of PoolStep = codes "pool.step"
+path_of PoolBurst = codes "pool.burst"
+path_of PoolNetwork = codes "pool.network"

@@ -1,0 +1,20 @@
+//! The settings of the gatekeeper's program, read from a TOML document: what is set for the zone
+//! (`[zone]`), for the server (`[serve]`) and for the pools of bandwidth (`[[pool]]`).
+#![tactic(auto)]
+
+mod fault;
+mod listing;
+mod pool;
+mod serve;
+mod serve_key;
+mod setting_key;
+mod settings;
+mod unknown;
+mod value;
+mod zone;
+
+pub use fault::{SettingsFault, SyntaxError};
+pub use listing::write_settings;
+pub use serve_key::ServeKey;
+pub use settings::{Settings, read_settings};
+pub use unknown::{UnknownKey, unknown_keys};

@@ -1,0 +1,168 @@
+//! The whole-number settings, with the ranges and defaults that `examples/gatekeeper.toml` names.
+
+use settings::{ServeKey, Settings, SettingsFault, read_settings};
+use std::alloc::{AllocError, Global};
+use std::test::Fail;
+use zone_config::Key;
+
+/// A number of the zone: its name, its path, the greatest number that it takes, and its default;
+/// the least is 1.
+const ZONE: [(&str, &str, u64, u64); 13] = [
+    ("limit", "zone.limit", 1_000_000_000_000, 100_000),
+    ("call_limit", "zone.call_limit", 4_294_967_295, 20_000),
+    ("time_to_live", "zone.time_to_live", 4_294_967_295, 60),
+    ("endpoints", "zone.endpoints", 20_000, 1_000),
+    ("calls", "zone.calls", 20_000, 1_000),
+    ("kept", "zone.kept", 65_536, 4_096),
+    ("window", "zone.window", 3_600_000, 10_000),
+    ("silence", "zone.silence", 3_600_000, 30_000),
+    ("delay", "zone.delay", 65_535, 500),
+    ("retries", "zone.retries", 16, 3),
+    ("asks", "zone.asks", 16, 3),
+    ("ask_wait", "zone.ask_wait", 3_600_000, 5_000),
+    ("pool_turn", "zone.pool_turn", 86_400_000, 1_000),
+];
+
+/// A number of the server, in the same way.
+const SERVE: [(&str, &str, u64, u64); 4] = [
+    ("receivers", "serve.receivers", 15, 4),
+    ("ring", "serve.ring", 4_096, 64),
+    ("faults", "serve.faults", 1_000, 16),
+    ("tick", "serve.tick", 60_000, 20),
+];
+
+/// The settings of a text with this value under this key, of `[zone]` or of `[serve]`.
+fn read_with(
+    alloc: Global,
+    is_zone: bool,
+    name: &str,
+    value: &str,
+) -> Result<Result<Settings, SettingsFault>, AllocError> {
+    let zone = "[zone]\nidentifier = \"gk\"\naddress = \"10.0.0.1:1719\"\n";
+    let serve = if is_zone { "" } else { "[serve]\n" };
+    let pool = "[[pool]]\nkind = \"fixed\"\nlimit = 2500\n";
+    let text = format!(in alloc; "{zone}{serve}{name} = {value}\n{pool}")?;
+    Ok(read_settings(alloc, &text))
+}
+
+fn fault_with(
+    alloc: Global,
+    is_zone: bool,
+    name: &str,
+    value: &str,
+) -> Result<Option<SettingsFault>, AllocError> {
+    Ok(read_with(alloc, is_zone, name, value)?.err())
+}
+
+/// The number under this name, of the zone or of the server.
+fn number_in(settings: &Settings, is_zone: bool, name: &str) -> Option<u64> {
+    if is_zone {
+        return Some(Key::named(name.as_bytes())?.get(settings.config.parts()));
+    }
+    for key in ServeKey::ALL {
+        if key.name() == name {
+            return Some(settings.get(key));
+        }
+    }
+    None
+}
+
+/// The number that is read where this one is written.
+fn number_read(
+    alloc: Global,
+    is_zone: bool,
+    name: &str,
+    number: u64,
+) -> Result<Option<u64>, AllocError> {
+    let value = format!(in alloc; "{number}")?;
+    match read_with(alloc, is_zone, name, &value)? {
+        Ok(settings) => Ok(number_in(&settings, is_zone, name)),
+        Err(_) => Ok(None),
+    }
+}
+
+/// Whether the numbers of this row are read, and those beyond its range and other kinds refused.
+fn row_holds(
+    alloc: Global,
+    is_zone: bool,
+    row: (&str, &'static str, u64, u64),
+) -> Result<bool, AllocError> {
+    let (name, path, most, _) = row;
+    for number in [1, most] {
+        if number_read(alloc, is_zone, name, number)? != Some(number) {
+            return Ok(false);
+        }
+    }
+    let beyond = format!(in alloc; "{}", most.saturating_add(1))?;
+    let outside = Some(SettingsFault::OutOfRange(path));
+    for value in ["0", "-1", beyond.as_str(), "9223372036854775807"] {
+        if fault_with(alloc, is_zone, name, value)? != outside {
+            return Ok(false);
+        }
+    }
+    let other_kind = Some(SettingsFault::WrongKind(path));
+    for value in ["\"1\"", "1.0", "true", "[1]", "{ a = 1 }", "1979-05-27"] {
+        if fault_with(alloc, is_zone, name, value)? != other_kind {
+            return Ok(false);
+        }
+    }
+    Ok(true)
+}
+
+#[test]
+fn each_number_of_the_zone_is_read_in_its_range(rt: HostRuntime) -> Result<(), Fail> {
+    for row in ZONE {
+        assert!(rt; row_holds(rt.alloc(), true, row)?, "{}", row.0);
+    }
+    Ok(())
+}
+
+#[test]
+fn each_number_of_the_server_is_read_in_its_range(rt: HostRuntime) -> Result<(), Fail> {
+    for row in SERVE {
+        assert!(rt; row_holds(rt.alloc(), false, row)?, "{}", row.0);
+    }
+    Ok(())
+}
+
+/// The name of the first number that isn't its default.
+fn first_other<'a>(
+    settings: &Settings,
+    is_zone: bool,
+    rows: &[(&'a str, &str, u64, u64)],
+) -> &'a str {
+    for (name, _, _, default) in rows {
+        if number_in(settings, is_zone, name) != Some(*default) {
+            return name;
+        }
+    }
+    "none"
+}
+
+#[test]
+fn a_number_that_is_not_set_is_its_default(rt: HostRuntime) -> Result<(), Fail> {
+    let settings = match read_with(rt.alloc(), true, "unknown", "1")? {
+        Ok(settings) => settings,
+        Err(_) => return Err("settings of the required keys alone")?,
+    };
+    let zone = first_other(&settings, true, &ZONE);
+    let serve = first_other(&settings, false, &SERVE);
+    drop(settings);
+    assert_eq!(rt; zone, "none");
+    assert_eq!(rt; serve, "none");
+    Ok(())
+}
+
+#[test]
+fn the_keys_of_the_server_have_their_rows(rt: HostRuntime) {
+    for (place, (name, path, most, default)) in SERVE.iter().enumerate() {
+        let key = ServeKey::ALL[place];
+        assert_eq!(rt; key.name(), *name);
+        assert_eq!(rt; key.path(), *path);
+        assert_eq!(rt; key.least(), 1);
+        assert_eq!(rt; key.most(), *most);
+        assert_eq!(rt; key.default(), *default);
+        assert!(rt; key.takes(1) && key.takes(*most));
+        assert!(rt; !key.takes(0) && !key.takes(key.most() + 1));
+    }
+}
