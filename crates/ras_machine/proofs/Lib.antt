@@ -9,3 +9,4 @@ pub mod Noting
 pub mod PlansFor
 pub mod Waiting
 pub mod Performing
+pub mod Readying

@@ -9,6 +9,7 @@ mod job;
 mod kept_entry;
 mod machine;
 mod prepared;
+mod readiness;
 mod served_request;
 mod turn;
 

@@ -33,7 +33,7 @@ impl Machine {
     }
 
     /// How long an endpoint in a call may be silent.
-    fn times(&self) -> Times
+    pub(crate) fn times(&self) -> Times
         ensures same { result ≡ times_of self.now.tables.config }
         ensures asks { result.asks ≤ 16 }
     {
