@@ -2,3 +2,4 @@ pub mod LegLemmas
 pub mod StoredCalls
 pub mod Leaving
 pub mod Soundness
+pub mod Deciding

@@ -247,14 +247,20 @@ some_from : {X : Type 0} (w : Option X) → is_some w ≡ true → IsSome w
 some_from None h = absurd (cc h)
 some_from (Some x) h = search rules
 
+-- the calls as rows
+pub IsMapOf-stored : {S : Type 0} (calls : IndexMap CallKey Call S) (most : ℕ) (t : CallTable)
+    → AreStored calls most → table_of calls most ≡ t
+    → IsMapOf key_of value_of (row_in calls.entries) t.calls
+IsMapOf-stored calls most t s view =
+    subst (IsMapOf key_of value_of (row_in calls.entries))
+    (ap open_calls_of (entries_again calls.entries) ∙ ap (λ u. u.calls) view)
+    (IsMapOf-rows call_key_cmp_total call_key_cmp-IsAntisymmetric key_of
+    value_of calls.entries s.apart)
+
 module _ {S : Type 0} (calls : IndexMap CallKey Call S) (most : ℕ) (t : CallTable)
     (s : AreStored calls most) (view : table_of calls most ≡ t) (endpoint : List ℕ) where
   is_map : IsMapOf key_of value_of (row_in calls.entries) t.calls
-  is_map =
-      subst (IsMapOf key_of value_of (row_in calls.entries))
-      (ap open_calls_of (entries_again calls.entries) ∙ ap (λ u. u.calls) view)
-      (IsMapOf-rows call_key_cmp_total call_key_cmp-IsAntisymmetric key_of
-      value_of calls.entries s.apart)
+  is_map = IsMapOf-stored calls most t s view
 
   no_call : ((j : ℕ) (e : CallKey × Call) → slice_get calls.entries j ≡ Some e
       → has_leg endpoint e.1 ≡ false) → IsInNoCall t.calls endpoint

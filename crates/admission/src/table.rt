@@ -1,5 +1,6 @@
 //! The table of the calls.
 
+ghost use Rattle.std.specs.Prelude.{All};
 ghost use Rattle.std.specs.Prelude.{◌≡◌, ◌≢◌, ◌<◌, ◌≤◌, ◌+◌, ◌^◌, ◌↔◌, length, None, Err, IsOk, IsSome, IsTrue, IfOk, OnOk, OnErr, IsOkUnless, MatchOption};
 ghost use Rattle.std.specs.Option.{option_copied};
 ghost use Rattle.std.specs.FinMap as map;
@@ -8,7 +9,7 @@ ghost use Rattle.ras_module.specs.CallKeys.{same_call_key};
 ghost use Rattle.indexmap.specs.IndexMap.{get};
 ghost use Rattle.admission.specs.Calls.{in_use, in_use_of, legs_in, leg_at, legs_of, new_call, with_leg, with_units, after_leave, freed_by_leave, IsInNoCall, IsConsistent, Stays, Becomes, Adds};
 ghost use Rattle.admission.specs.Legs.{leg_of, without_leg, has_other};
-ghost use Rattle.admission.specs.inside.Stored.{Rewrites, with_legs_but};
+ghost use Rattle.admission.specs.inside.Stored.{IsIn, Rewrites, with_legs_but};
 
 use crate::call::Call;
 use crate::call_list::{CallList, rising};
@@ -81,6 +82,30 @@ impl Calls {
             calls,
             most: self.most,
         })
+    }
+
+    /// Whether the other table has the same calls. This takes no memory.
+    pub fn is_same(&self, other: &Self) -> bool
+        ensures { IsTrue result ↔ (self.now.calls ≡ other.now.calls) }
+    {
+        self.has_all(&other.calls) && other.has_all(&self.calls)
+    }
+
+    /// Whether each of these calls is open under its key.
+    fn has_all(&self, calls: &IndexMap<CallKey, Call>) -> bool
+        ensures { IsTrue result ↔ All (IsIn self.now.calls) calls.now.entries }
+    {
+        calls.iter().all(|(key, call)| self.has(key, call))
+    }
+
+    /// Whether this call is open under this key.
+    fn has(&self, key: &CallKey, call: &Call) -> bool
+        ensures { IsTrue result ↔ IsIn self.now.calls (key.now, call.now) }
+    {
+        match self.get(key) {
+            Some(found) => found == call,
+            None => false,
+        }
     }
 
     /// How many calls are open.

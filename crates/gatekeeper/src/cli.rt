@@ -1,14 +1,16 @@
 //! The command line.
 
 use clap::error::ErrorKind;
-use clap::{ArgMatches, Command, Error};
+use clap::{Arg, ArgAction, ArgMatches, Command, Error};
 use std::alloc::{AllocError, Global};
 
 /// What the words of the command line ask for.
 #[derive(Clone, Copy)]
-pub enum Choice {
+pub enum Choice<'a> {
     /// A replay of the script on standard input.
     Replay,
+    /// A check of the settings in the file of this name.
+    CheckSettings(&'a str),
     /// Nothing more: help or a fault in the words was printed, and this is the exit status.
     Done(u8),
 }
@@ -93,7 +95,36 @@ memory, 4 a standard stream failed. Status 1, 3 and 4 come with one line on stan
 `line N: not understood` names the first line that is none of the above, stands in the wrong
 place, or has a number out of its range.";
 
+const CHECK_ABOUT: &str = "Checks a file of settings, and prints what is wrong with it";
+
+const CHECK_LONG_ABOUT: &str = "\
+Reads a file of settings, a TOML document of the tables [zone], [serve] and [[pool]]. Where it can
+be used as it stands, that is printed, with a warning for each key that isn't known: its line, and
+the known key that it most resembles. Such keys are passed over. examples/gatekeeper.toml has every
+key, with its meaning, its range and its default.";
+
+const CHECK_HELP: &str = "\
+The file is UTF-8, of at most 1,048,576 octets. It is refused as a whole, with one line on standard
+error, where it is no TOML document (`settings: 1 Syntax`, with the line and the column), or by the
+first key that fails, with its line where that is found:
+  settings: 2 Missing KEY      the key is required, and isn't there
+  settings: 3 WrongKind KEY    it is of another kind, as a text in place of a number
+  settings: 4 OutOfRange KEY   it is out of its range, or is no address, network or kind of pool
+  settings: 5 NoDefaultPool    there is no pool, or the last one has a network
+
+Exit status: 0 well-formed, with warnings or without, 1 the settings were refused, 2 wrong words on
+the command line, 3 out of memory, 4 the file can't be read or a standard stream failed.";
+
 fn matched<'a>(alloc: Global, words: &'a [String]) -> Result<ArgMatches<'a>, Error> {
+    let file = Arg::new(alloc, "FILE")
+        .required(true)
+        .action(ArgAction::Set)
+        .help("the file of settings");
+    let check = Command::new(alloc, "check-settings")
+        .about(CHECK_ABOUT)
+        .long_about(CHECK_LONG_ABOUT)
+        .after_help(CHECK_HELP)
+        .arg(file)?;
     let replay = Command::new(alloc, "replay")
         .about(REPLAY_ABOUT)
         .long_about(REPLAY_LONG_ABOUT)
@@ -103,19 +134,32 @@ fn matched<'a>(alloc: Global, words: &'a [String]) -> Result<ArgMatches<'a>, Err
         .about(ABOUT)
         .after_help("`gatekeeper replay --help` shows what a script looks like.")
         .subcommand_required(true)
-        .subcommand(replay)?;
+        .subcommand(replay)?
+        .subcommand(check)?;
     command.try_get_matches_from(words)
+}
+
+/// What was chosen: a check names its file, which is required.
+fn choice_of<'a>(matches: &ArgMatches<'a>) -> Choice<'a> {
+    let file = match matches.subcommand() {
+        Some(("check-settings", found)) => found.get_str("FILE"),
+        _ => None,
+    };
+    match file {
+        Some(path) => Choice::CheckSettings(path),
+        None => Choice::Replay,
+    }
 }
 
 /// Reads the words of the command line. Where they ask for help or can't be followed, `clap`'s text
 /// is printed.
-pub fn chosen<R: Print + Eprint>(
+pub fn chosen<'a, R: Print + Eprint>(
     rt: &R,
     alloc: Global,
-    words: &[String],
-) -> Result<Choice, AllocError> {
+    words: &'a [String],
+) -> Result<Choice<'a>, AllocError> {
     match matched(alloc, words) {
-        Ok(_) => Ok(Choice::Replay),
+        Ok(matches) => Ok(choice_of(&matches)),
         Err(error) => {
             if matches!(error.kind(), ErrorKind::OutOfMemory) {
                 return Err(AllocError);

@@ -10,7 +10,9 @@ use Rattle.keyed.specs.Maps.{update}
 use Rattle.keyed.specs.Places.{AreApart, row_in}
 use Rattle.keyed.proofs.Decide.{some_none, same_some}
 use Rattle.keyed.proofs.Entries as entries
+use Rattle.keyed.proofs.Listed.{IsMapOf-pairs}
 use Rattle.keyed.proofs.Maps as maps
+use Rattle.keyed.proofs.Places.{IsMapOf}
 use Rattle.kept_replies.specs.Keys.{same_key}
 use Rattle.kept_replies.specs.Kept.{KeptReplies, KeptTable, AreEntries, AreBornApart, IsEntry}
 use Rattle.kept_replies.specs.Kept.{IsFreeBirth, IsConsistent, Becomes, Adds, kept_of, without}
@@ -149,6 +151,14 @@ pub len_stored : {S : Type 0} (rows : IndexMap KeptKey KeptEntry S) (most : ℕ)
 len_stored rows most t s view =
     ap (λ u. fin.len u.kept) (sym view)
     ∙ entries.len_entries key_decides key_cmp_total key_cmp-IsAntisymmetric rows.entries s.apart
+
+-- what is kept, as rows
+pub IsMapOf-stored : {S : Type 0} (rows : IndexMap KeptKey KeptEntry S) (most : ℕ)
+    (t : KeptTable) → AreStored rows most → table_of rows most ≡ t
+    → IsMapOf entries.key_of entries.value_of (row_in rows.entries) t.kept
+IsMapOf-stored rows most t s view =
+    subst (λ (u : KeptTable). IsMapOf entries.key_of entries.value_of (row_in rows.entries) u.kept)
+    view (IsMapOf-pairs key_cmp_total key_cmp-IsAntisymmetric rows.entries s.apart)
 
 pub IsConsistent-stored : {S : Type 0} (rows : IndexMap KeptKey KeptEntry S) (most : ℕ)
     (t : KeptTable) → AreStored rows most → table_of rows most ≡ t → IsConsistent t

@@ -1,5 +1,6 @@
 //! The table of the kept replies.
 
+ghost use Rattle.std.specs.Prelude.{All};
 ghost use Rattle.std.specs.Prelude.{◌≡◌, ◌≢◌, ◌<◌, ◌≤◌, ◌+◌, ◌↔◌, ℕ, List, length, slice_get, None, Some, Err, IsSome, IsTrue, IfOk, IfSome, OnOk, MatchOption, Contains};
 ghost use Rattle.std.specs.Option.{option_copied, option_map, IsSomeAnd};
 ghost use Rattle.std.specs.Map.Iter.{deref_pair};
@@ -7,7 +8,7 @@ ghost use Rattle.std.specs.FinMap as map;
 ghost use Rattle.keyed.specs.Maps.{update};
 ghost use Rattle.kept_replies.specs.Keys.{same_key};
 ghost use Rattle.kept_replies.specs.Kept.{births, done, pending, is_over, is_retry, left_in, Passes, NonePasses, IsBusy, IsNamed, IsListOf, IsFreeBirth, IsEntry, IsConsistent, finished, postponed, without_birth, Becomes, Adds};
-ghost use Rattle.kept_replies.specs.inside.Stored.{Puts, Rewrites, Removes};
+ghost use Rattle.kept_replies.specs.inside.Stored.{IsIn, Puts, Rewrites, Removes};
 ghost use Rattle.indexmap.specs.IndexMap.{get, spare};
 
 use crate::copies::copies_of;
@@ -74,6 +75,30 @@ impl Kept {
             rows,
             most: self.most,
         })
+    }
+
+    /// Whether the other table keeps the same. This takes no memory.
+    pub fn is_same(&self, other: &Self) -> bool
+        ensures { IsTrue result ↔ (self.now.kept ≡ other.now.kept) }
+    {
+        self.has_all(&other.rows) && other.has_all(&self.rows)
+    }
+
+    /// Whether each of these entries is kept for its datagram.
+    fn has_all(&self, rows: &IndexMap<KeptKey, KeptEntry>) -> bool
+        ensures { IsTrue result ↔ All (IsIn self.now.kept) rows.now.entries }
+    {
+        rows.iter().all(|(key, entry)| self.has(key, entry))
+    }
+
+    /// Whether this entry is kept for this datagram.
+    fn has(&self, key: &KeptKey, entry: &KeptEntry) -> bool
+        ensures { IsTrue result ↔ IsIn self.now.kept (key.now, entry.now) }
+    {
+        match self.find(key) {
+            Some(found) => found == entry,
+            None => false,
+        }
     }
 
     /// How many replies are kept.

@@ -9,3 +9,4 @@ pub mod Searches
 pub mod Entries
 pub mod Listed
 pub mod Inserted
+pub mod Same

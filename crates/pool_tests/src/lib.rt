@@ -12,3 +12,5 @@ mod own_pool;
 mod sets;
 #[cfg(test)]
 mod specs;
+#[cfg(test)]
+mod standard;

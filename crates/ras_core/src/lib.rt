@@ -7,6 +7,7 @@ mod choices;
 mod fault;
 mod laws;
 mod settling;
+mod snapshot;
 mod zone;
 
 pub use fault::{NewFault, StepFault};
@@ -15,6 +16,7 @@ pub use laws::{
     bandwidth_is_within_the_limit_all_along,
 };
 pub use ras_machine::{Prepared, prepare};
+pub use snapshot::Snapshot;
 pub use zone::Zone;
 pub use zone_config::{Config, ConfigFault, ConfigParts, Moment, Network, Networks};
 pub use zone_events::{Datagram, DueItem, Event, IgnoredCause, Note, Outcome};

@@ -17,6 +17,7 @@ ghost use Rattle.ras_core.specs.Tallies.{figures_without_loans, lasts_of, tallie
 use crate::choices::{chosen_course, is_pool_turn};
 use crate::fault::{NewFault, StepFault};
 use crate::settling::settle;
+use crate::snapshot::Snapshot;
 use admission::CallList;
 use pools::{Pool, PoolSet};
 use ras_machine::{Machine, Prepared, prepare};
@@ -54,8 +55,9 @@ impl<P: Pool> Model for Zone<P> {
 
 impl<P: Pool> Zone<P> {
     /// A zone in which no step was made, with pools that have nothing lent, and fewer than 2^62
-    /// refusals and waits each, as `PoolSet::new` gives them. Its clock stands at 0. It is refused as WrongPools exactly where
-    /// there is another number of pools than of networks; the pools then come back.
+    /// refusals and waits each, as `PoolSet::new` gives them. Its clock stands at 0. It is refused as
+    /// WrongPools exactly where there is another number of pools than of networks; the pools then
+    /// come back.
     pub fn new(
         alloc: Global,
         config: Config,
@@ -157,6 +159,20 @@ impl<P: Pool> Zone<P> {
         ensures limit { result ≤ self.now.state.tables.config.limit }
     {
         self.machine.tables().in_use()
+    }
+
+    /// The state as it stands, in lists of its own.
+    pub fn snapshot(&self) -> Result<Snapshot, AllocError>
+        ensures { IfOk result (λ snapshot. snapshot ≡ self.now.state) }
+    {
+        Ok(Snapshot::of(self.machine.copy()?))
+    }
+
+    /// The machine of the zone, without its pools.
+    pub fn machine(&self) -> &Machine
+        ensures { result.now ≡ self.now.state }
+    {
+        &self.machine
     }
 
     /// Ends the zone. Its pools come back in their order, with nothing lent; their limits, refusals,

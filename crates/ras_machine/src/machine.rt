@@ -123,6 +123,18 @@ impl Machine {
         })
     }
 
+    /// Whether the other machine stands at the same state. This takes no memory.
+    pub fn is_same(&self, other: &Self) -> bool
+        ensures { IsTrue result ↔ (self.now ≡ other.now) }
+    {
+        self.tables.is_same(&other.tables)
+            && self.kept.is_same(&other.kept)
+            && self.interrogation_number == other.interrogation_number
+            && self.next_pool_turn == other.next_pool_turn
+            && self.steps == other.steps
+            && self.clock == other.clock
+    }
+
     /// The figures of the pools.
     pub fn pools(&self) -> &PoolFigures
         ensures { result.now ≡ self.now.tables.pools }

@@ -4,3 +4,4 @@ pub mod Rows
 pub mod Consistent
 pub mod Agreement
 pub mod Unused
+pub mod Deciding

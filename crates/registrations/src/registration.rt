@@ -6,7 +6,7 @@ use ras_module::{Address, EndpointId, ReplyAliases};
 use std::alloc::AllocError;
 
 /// What is known of a registered endpoint. Moments are in milliseconds.
-#[derive(Drop)]
+#[derive(PartialEq, Eq, Drop)]
 pub struct Registration {
     /// The endpointIdentifier that the gatekeeper gave it (H.225.0, RegistrationConfirm).
     pub identifier: EndpointId,

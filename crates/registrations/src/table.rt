@@ -8,6 +8,8 @@ ghost use Rattle.std.specs.FinMap as map;
 ghost use Rattle.keyed.specs.Maps.{update};
 ghost use Rattle.keyed.specs.Places.{IsPlaceOf};
 ghost use Rattle.ras_module.specs.Addresses.{same_address};
+ghost use Rattle.std.specs.Prelude.{All};
+ghost use Rattle.registrations.specs.inside.Stored.{IsIn};
 ghost use Rattle.registrations.specs.Registry.{at_address, IsUnused, IsListOf, IsConsistent, IsNumbered, IsSound, Stays, Updates, Becomes, Adds, live_of, identifier_of, with_identifier, with_deadline, after_rewrite, after_hear, after_ask, after_calm};
 
 use crate::fault::AddFault;
@@ -78,6 +80,30 @@ impl Registrations {
             most: self.most,
             lowest: self.lowest,
         })
+    }
+
+    /// Whether the other table has the same registrations. This takes no memory.
+    pub fn is_same(&self, other: &Self) -> bool
+        ensures { IsTrue result ↔ (self.now.live ≡ other.now.live) }
+    {
+        self.has_all(&other.items) && other.has_all(&self.items)
+    }
+
+    /// Whether each of these registrations is in the table.
+    fn has_all(&self, rows: &[Registration]) -> bool
+        ensures { IsTrue result ↔ All (IsIn self.now.live) rows.now }
+    {
+        rows.iter().all(|row| self.has(row))
+    }
+
+    /// Whether this registration is in the table.
+    fn has(&self, row: &Registration) -> bool
+        ensures { IsTrue result ↔ IsIn self.now.live row.now }
+    {
+        match self.get(&row.identifier) {
+            Some(found) => found == row,
+            None => false,
+        }
     }
 
     /// How many endpoints are registered.

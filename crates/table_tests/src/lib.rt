@@ -5,6 +5,8 @@
 #[cfg(test)]
 mod calls;
 #[cfg(test)]
+mod copies;
+#[cfg(test)]
 mod due_items;
 #[cfg(test)]
 mod endpoints;

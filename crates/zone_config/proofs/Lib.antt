@@ -1,2 +1,3 @@
 pub mod RangesKept
 pub mod Staying
+pub mod Deciding

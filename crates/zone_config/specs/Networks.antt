@@ -1,11 +1,18 @@
 -- Networks of IPv4 addresses, and the pools that serve them.
 use Rattle.std.specs.Prelude.{ℕ, ◌-◌, ◌/◌, ◌^◌, ◌==◌, Bool, true, false, List, length, slice_get}
 use Rattle.std.specs.Prelude.{Option, None, Some}
-use Rattle.std.specs.Prelude.{nat_lt, is_none}
+use Rattle.std.specs.Prelude.{nat_eq, nat_lt, is_none}
+use Rattle.std.specs.Cmp.Lexicographic.{pointwise}
+use Rattle.std.specs.Ordering.{on, eq_of_both}
 use Rattle.std.specs.Int.{from_be_bytes, w32}
 use Rattle.std.specs.List.{position}
 use Rattle.std.specs.Option.{unwrap_or}
 use Rattle.zone_config.specs.declared.network.Network.{Network}
+
+-- networks are compared by their address and their bits
+abbrev pub same_network : Network → Network → Bool
+same_network =
+    eq_of_both (on (λ n. n.ip) (pointwise nat_eq)) (on (λ n. n.bits) ◌==◌)
 
 -- so many bits of an address, from its front
 abbrev pub front_bits : ℕ → List ℕ → ℕ

@@ -1,5 +1,6 @@
 //! What is set for a zone.
 
+ghost use Rattle.std.specs.Prelude.{◌↔◌, IsTrue};
 ghost use Rattle.std.specs.Prelude.{◌≡◌, ◌≤◌, ◌<◌, ◌^◌, IfOk, None};
 ghost use Rattle.std.specs.List.{find};
 ghost use Rattle.std.specs.Option.{option_copied};
@@ -20,7 +21,7 @@ use thiserror::Error;
 /// The settings of a zone, before their ranges are tested. Bandwidth is in units of 100 bit/s, for both
 /// directions of a call; times are milliseconds, but for `time_to_live`. `Key` has the range and the
 /// default of each number.
-#[derive(Drop)]
+#[derive(PartialEq, Eq, Drop)]
 pub struct ConfigParts {
     /// The GatekeeperIdentifier of the zone.
     pub identifier: Name,
@@ -190,6 +191,13 @@ impl Config {
         ensures ranges { IsConfig self.now }
     {
         &self.parts
+    }
+
+    /// Whether the other settings are equal.
+    pub fn is_same(&self, other: &Self) -> bool
+        ensures { IsTrue result ↔ (self.now ≡ other.now) }
+    {
+        self.parts == other.parts
     }
 
     /// Equal settings.

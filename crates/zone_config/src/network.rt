@@ -2,6 +2,11 @@
 
 ghost use Rattle.std.specs.Prelude.{◌≡◌, IfOk};
 ghost use Rattle.std.specs.List.{list_any, position};
+ghost use Rattle.std.specs.Option.{option_eq};
+ghost use Rattle.std.specs.Cmp.Lexicographic.{pointwise};
+ghost use Rattle.std.specs.Cmp.Rules.{comparing};
+ghost use Rattle.std.proofs.Common.{rules};
+ghost use Rattle.zone_config.specs.Networks.{same_network};
 ghost use Rattle.zone_config.specs.Networks.{front_bits, has_default, holds, is_too_long, pool_of, serves};
 
 use std::alloc::AllocError;
@@ -14,6 +19,20 @@ pub struct Network {
     pub ip: [u8; 4],
     /// How many bits from its front all the addresses share: 0 to 32.
     pub bits: u8,
+}
+
+impl PartialEq for Networks {
+    ghost eq = { pointwise (option_eq same_network) };
+
+    ghost laws = { Prim.search (comparing, rules) depth 9 };
+
+    fn eq(&self, other: &Self) -> bool {
+        self.as_slice() == other.as_slice()
+    }
+}
+
+impl Eq for Networks {
+    ghost laws = { Prim.search (comparing, rules) depth 9 };
 }
 
 /// So many bits of an address, from its front.

@@ -10,3 +10,4 @@ pub mod Legs
 pub mod ButLent
 pub mod Departing
 pub mod SoundParts
+pub mod Deciding

@@ -33,6 +33,11 @@ usage_of z = record {
   call_limit = z.config.call_limit;
 }
 
+-- the same calls are open, and the pools' figures are the same
+pub record HaveSame (a b : Usage) : Type 0 where
+  pub calls : a.calls ≡ b.calls
+  pub pools : a.pools ≡ b.pools
+
 -- with how many more calls can be opened so that no memory is taken for them
 pub record Lending : Type 0 where
   pub usage : Usage

@@ -1,5 +1,7 @@
 //! The calls of a zone, with the figures of the pools that lend them their bandwidth.
 
+ghost use Rattle.std.specs.Prelude.{◌↔◌};
+ghost use Rattle.zone_tables.specs.Parts.{HaveSame};
 ghost use Rattle.std.specs.Prelude.{◌≡◌, ◌<◌, ◌≤◌, ◌^◌, ℕ, All, Some, IfOk, IsSome, IsTrue, OnErr, OnOk};
 ghost use Rattle.std.specs.Option.{option_copied};
 ghost use Rattle.std.specs.FinMap as fin;
@@ -100,6 +102,13 @@ impl Bandwidth {
             limit: self.limit,
             call_limit: self.call_limit,
         })
+    }
+
+    /// Whether there are the same calls and figures in the other.
+    pub fn have_same(&self, other: &Self) -> bool
+        ensures { IsTrue result ↔ HaveSame self.now.usage other.now.usage }
+    {
+        self.calls.is_same(&other.calls) && self.pools.is_same(&other.pools)
     }
 
     /// How many calls are open.

@@ -1,5 +1,6 @@
 //! The endpoints of a zone, with the table of their aliases.
 
+ghost use Rattle.std.specs.Prelude.{◌↔◌, IsTrue};
 ghost use Rattle.std.specs.Prelude.{◌≡◌, ◌≤◌, ◌<◌, [], IsSome, IfOk, OnOk, OnErr};
 ghost use Rattle.std.specs.Option.{option_copied, IsSomeAnd};
 ghost use Rattle.std.specs.FinMap as map;
@@ -63,6 +64,13 @@ impl Endpoints {
             registrations: self.registrations.copy()?,
             aliases: self.aliases.copy()?,
         })
+    }
+
+    /// Whether the same endpoints are registered in the other.
+    pub fn have_same(&self, other: &Self) -> bool
+        ensures { IsTrue result ↔ (self.now.live ≡ other.now.live) }
+    {
+        self.registrations.is_same(&other.registrations)
     }
 
     /// How many endpoints are registered.

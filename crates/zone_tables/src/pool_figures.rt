@@ -1,5 +1,6 @@
 //! The figures of a zone's pools.
 
+ghost use Rattle.std.specs.Prelude.{◌↔◌, IsTrue};
 ghost use Rattle.std.specs.Prelude.{◌≡◌, ◌≤◌, ◌<◌, ◌^◌, length, slice_set};
 ghost use Rattle.pools.specs.Account.{IsAnswer, figures_after_answer};
 ghost use Rattle.pools.specs.Members.{accounts_of};
@@ -40,6 +41,13 @@ impl PoolFigures {
             items.push(pools.figures(i));
         }
         PoolFigures { items }
+    }
+
+    /// Whether the other figures are equal.
+    pub fn is_same(&self, other: &Self) -> bool
+        ensures { IsTrue result ↔ (self.now ≡ other.now) }
+    {
+        self.items.as_slice() == other.items.as_slice()
     }
 
     /// How many pools there are.

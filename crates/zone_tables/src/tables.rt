@@ -1,5 +1,6 @@
 //! The tables of a zone: its endpoints and its calls, under its settings.
 
+ghost use Rattle.std.specs.Prelude.{◌↔◌};
 ghost use Rattle.std.specs.Prelude.{◌≡◌, ◌<◌, ◌≤◌, ◌^◌, All, IfOk, IfSome, IsTrue, OnErr, OnOk, Some, length, map};
 ghost use Rattle.std.specs.Option.{IsSomeAnd, option_copied};
 ghost use Rattle.std.specs.FinMap as fin;
@@ -90,6 +91,16 @@ impl ZoneTables {
             endpoints: self.endpoints.copy()?,
             bandwidth: self.bandwidth.copy()?,
         })
+    }
+
+    /// Whether the other tables have the same settings, endpoints, calls and figures. This takes no
+    /// memory.
+    pub fn is_same(&self, other: &Self) -> bool
+        ensures { IsTrue result ↔ (self.now ≡ other.now) }
+    {
+        self.config.is_same(&other.config)
+            && self.endpoints.have_same(&other.endpoints)
+            && self.bandwidth.have_same(&other.bandwidth)
     }
 
     /// The figures of the pools.

@@ -1,11 +1,12 @@
 -- How the calls are stored.
 use Rattle.std.specs.Prelude.{◌≡◌, ◌≤◌, ℕ, List, Some, length}
+use Rattle.std.specs.FinMap as map
 use Rattle.indexmap.specs.IndexMap.{IndexMap, get, spare, IsUnique, Updates}
 use Rattle.keyed.specs.Places.{AreApart, row_in}
 use Rattle.ras_module.specs.CallKeys.{same_call_key}
 use Rattle.ras_module.specs.declared.call_key.CallKey.{CallKey}
 use Rattle.admission.specs.declared.call.Call.{Call}
-use Rattle.admission.specs.Calls.{EachCall, IsCall, open_calls_of}
+use Rattle.admission.specs.Calls.{EachCall, IsCall, OpenCalls, open_calls_of}
 use Rattle.admission.specs.Legs.{without_leg}
 
 abbrev pub key_of : CallKey × Call → CallKey
@@ -13,6 +14,10 @@ key_of e = e.0
 
 abbrev pub call_of : CallKey × Call → Call
 call_of e = e.1
+
+-- this call is open under its key
+abbrev pub IsIn : OpenCalls → CallKey × Call → Type 0
+IsIn calls e = map.get calls (key_of e) ≡ Some (call_of e)
 
 -- no two entries share a key, there are no more than there may be, and each has a call
 pub record AreStored {S : Type 0} (calls : IndexMap CallKey Call S) (most : ℕ) : Type 0 where

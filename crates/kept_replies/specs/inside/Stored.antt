@@ -3,15 +3,23 @@ use Rattle.std.specs.Prelude.{◌≡◌, ◌≢◌, ◌≤◌, ◌+◌, ℕ, Boo
 use Rattle.std.specs.Prelude.{nat_eq, is_some, IfSome, if◌then◌else◌}
 use Rattle.std.specs.List.{filter_map}
 use Rattle.std.specs.Cmp.Lexicographic.{pointwise}
+use Rattle.std.specs.FinMap as map
 use Rattle.indexmap.specs.IndexMap.{IndexMap, get, spare, IsUnique, Updates}
 use Rattle.keyed.specs.Places.{AreApart, row_in}
 use Rattle.kept_replies.specs.Keys.{same_key}
-use Rattle.kept_replies.specs.Kept.{AreEntries, AreBornApart, kept_of, named_by}
+use Rattle.kept_replies.specs.Kept.{AreEntries, AreBornApart, KeptReplies, kept_of, named_by}
 use Rattle.kept_replies.specs.declared.key.KeptKey.{KeptKey}
 use Rattle.kept_replies.specs.declared.entry.KeptEntry.{KeptEntry}
 
 abbrev pub key_of : KeptKey × KeptEntry → KeptKey
 key_of row = row.0
+
+abbrev pub entry_of : KeptKey × KeptEntry → KeptEntry
+entry_of row = row.1
+
+-- this entry is kept for its datagram
+abbrev pub IsIn : KeptReplies → KeptKey × KeptEntry → Type 0
+IsIn kept row = map.get kept (key_of row) ≡ Some (entry_of row)
 
 abbrev pub is_identifier : List ℕ → Option (List ℕ) → Bool
 is_identifier id None = false

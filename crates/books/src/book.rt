@@ -1,0 +1,67 @@
+//! A book, and what is told of its entries.
+
+ghost use Rattle.std.specs.Prelude.{◌≡◌, ◌<◌, ◌++◌, ◌∷◌, [], OnOk, vec_len, vec_capacity};
+
+use ras_core::Snapshot;
+use std::alloc::{AllocError, Global};
+use zone_events::{Event, Outcome};
+
+/// One step: which seat made it, the how manieth call of that seat it was, counted from 0, and the
+/// event with its outcome.
+#[derive(Drop)]
+pub struct Entry {
+    pub seat: usize,
+    pub call: usize,
+    pub event: Event,
+    pub outcome: Outcome,
+}
+
+/// What a seat is told of a step that it made: the entry, and the place at which it stands in the
+/// book.
+#[derive(Drop)]
+pub struct Receipt {
+    pub seat: usize,
+    pub call: usize,
+    pub place: usize,
+    pub event: Event,
+    pub outcome: Outcome,
+}
+
+/// The state in which a history began, and its steps in the order in which they were made.
+#[derive(Drop)]
+pub struct Book {
+    pub base: Snapshot,
+    pub entries: Vec<Entry>,
+}
+
+impl Book {
+    /// A book without entries. This takes no memory.
+    pub fn new(alloc: Global, base: Snapshot) -> Self
+        ensures base { result.base ≡ base }
+        ensures entries { result.entries.items ≡ [] }
+    {
+        Book {
+            base,
+            entries: Vec::new(alloc),
+        }
+    }
+
+    /// Makes room for one more entry.
+    pub fn reserve_entry(&mut self) -> Result<(), AllocError>
+        ensures base { self.new.base ≡ self.old.base }
+        ensures entries { self.new.entries.items ≡ self.old.entries.items }
+        ensures room { OnOk result (vec_len self.new.entries < vec_capacity self.new.entries) }
+    {
+        self.entries.reserve(1)?;
+        Ok(())
+    }
+
+    /// Adds an entry, for which there is room, behind the others. This takes no memory.
+    pub fn add_reserved(&mut self, entry: Entry)
+        requires { vec_len self.old.entries < vec_capacity self.old.entries }
+        ensures base { self.new.base ≡ self.old.base }
+        ensures entries { self.new.entries.items ≡ self.old.entries.items ++ entry ∷ [] }
+    {
+        self.entries.push_reserved(entry);
+    }
+}

@@ -1,0 +1,4 @@
+pub mod Faults
+pub mod Workers
+pub mod Worlds
+pub mod Orders

@@ -1,0 +1,37 @@
+//! What holds of worlds in every order of their steps.
+
+ghost use Rattle.std.specs.Prelude.{◌≡◌, ◌≤◌, ℕ, List, Some, length, slice_get};
+ghost use Rattle.zone_events.specs.declared.outcome.Datagram.{Datagram};
+ghost use Rattle.history.specs.Workers.{WorkerState};
+ghost use Rattle.history.specs.Worlds.{Happens, IsInOrder, Scene};
+ghost use Rattle.history.specs.Orders.{AreServedInOrder, Interleaving, outputs_of_worker};
+
+use crate::world::{Acted, WorldStep};
+
+/// Whatever the workers do, in whichever order: the book leads from where the world began to the
+/// zone's state, the zone is sound, and each worker's replies are served in order. Where the world
+/// began stays.
+pub fn every_interleaving_is_in_order()
+    ensures { (x y : Scene) (steps : List (WorldStep × Acted)) → IsInOrder x
+        → Interleaving x steps y → IsInOrder y × (y.base ≡ x.base) }
+{}
+
+/// Of each worker's outputs that were not dropped the first were taken, the next wait in its ring,
+/// and the last one is in its hand.
+pub fn replies_are_served_in_order()
+    ensures { (x : Scene) (w : ℕ) (k : WorkerState) → IsInOrder x
+        → slice_get x.workers w ≡ Some k → AreServedInOrder x w k }
+{}
+
+/// What is taken is that one of the worker's outputs before which as many were taken as there were.
+pub fn the_next_reply_is_taken()
+    ensures { (x y : Scene) (w : ℕ) (k : WorkerState) (output : Datagram) → IsInOrder x
+        → slice_get x.workers w ≡ Some k → Happens x (WorldStep.Take w) (Acted.Took output) y
+        → slice_get (outputs_of_worker x w k) k.taken ≡ Some output }
+{}
+
+/// A reply is dropped only where the ring has as many as it has places.
+pub fn a_reply_is_dropped_only_by_a_full_ring()
+    ensures { (x y : Scene) (w : ℕ) (k : WorkerState) → slice_get x.workers w ≡ Some k
+        → Happens x (WorldStep.Post w) Acted.Dropped y → x.capacity ≤ length k.ring }
+{}

@@ -1,0 +1,16 @@
+//! A zone with its book and its workers, of which one after the other does something: what holds of
+//! the replies, of the zone and of the book in every order in which they do it. Nothing here waits.
+#![tactic(auto)]
+
+mod fault;
+mod laws;
+mod worker;
+mod world;
+
+pub use fault::WorldFault;
+pub use laws::{
+    a_reply_is_dropped_only_by_a_full_ring, every_interleaving_is_in_order,
+    replies_are_served_in_order, the_next_reply_is_taken,
+};
+pub use worker::{Hand, Mark};
+pub use world::{Acted, World, WorldStep};
