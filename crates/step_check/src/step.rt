@@ -1,0 +1,71 @@
+//! Recorded steps, done again.
+
+ghost use Rattle.std.specs.Prelude.{◌≡◌, ◌↔◌, ◌<◌, IfOk, IsTrue, OnErr};
+ghost use Rattle.ras_machine.specs.Machine.{most_steps};
+ghost use Rattle.ras_machine.specs.Soundness.{Sound};
+ghost use Rattle.step_check.specs.Redoing.{Accepts, Redoes};
+
+use crate::course::shown_course;
+use crate::recorded::Recorded;
+use pools::Pool;
+use ras_core::{Snapshot, Zone};
+use ras_machine::{Machine, prepare};
+use std::alloc::AllocError;
+use zone_events::{Event, Outcome};
+
+/// Does a recorded step again. It answers true if and only if the machine has a step with this event
+/// and this outcome from where it stands; then it stands at the state after it. Where it answers
+/// false it may have made another step.
+pub fn redo(machine: &mut Machine, event: &Event, outcome: &Outcome) -> Result<bool, AllocError>
+    requires { Sound machine.old }
+    ensures redoes { IfOk result
+        (λ is_step. Redoes machine.old event.now outcome.now is_step machine.new) }
+    ensures err { OnErr result (machine.new ≡ machine.old) }
+    ensures sound { Sound machine.new }
+{
+    if machine.is_closed() {
+        return Ok(false);
+    }
+    let prepared = prepare(machine.allocator(), event.copy()?)?;
+    let now = machine.clock().later(prepared.moment());
+    let Some(course) = shown_course(machine, now, prepared.into_arrival(), outcome)? else {
+        return Ok(false);
+    };
+    if !machine.may_be_named(&course, &outcome.given) {
+        return Ok(false);
+    }
+    let mut lender = Recorded {
+        answer: outcome.answer,
+    };
+    let again = machine.perform(now, course, outcome.given, &mut lender)?;
+    Ok(again == *outcome)
+}
+
+/// Does a recorded step again, if the machine has one with this event and this outcome from that
+/// state: then it answers true, and the snapshot is the state after it. Else it answers false, and
+/// the snapshot is as it was.
+pub fn accepts(
+    snapshot: &mut Snapshot,
+    event: &Event,
+    outcome: &Outcome,
+) -> Result<bool, AllocError>
+    ensures accepts { IfOk result
+        (λ is_step. Accepts snapshot.old event.now outcome.now is_step snapshot.new) }
+    ensures err { OnErr result (snapshot.new ≡ snapshot.old) }
+{
+    let mut machine = snapshot.copy()?.into_machine();
+    if redo(&mut machine, event, outcome)? {
+        *snapshot = Snapshot::of(machine);
+        Ok(true)
+    } else {
+        Ok(false)
+    }
+}
+
+/// Whether the snapshot is the state of the zone: its tables, what it keeps, its clock and counters,
+/// and the figures of its pools. This takes no memory.
+pub fn same<P: Pool>(snapshot: &Snapshot, zone: &Zone<P>) -> bool
+    ensures { IsTrue result ↔ (snapshot.now ≡ zone.now.state) }
+{
+    snapshot.machine().is_same(zone.machine())
+}
