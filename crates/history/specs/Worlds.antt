@@ -1,6 +1,6 @@
 -- A zone with its book and its workers.
 use Rattle.std.specs.Prelude.{◌≡◌, ◌≤◌, ◌+◌, ◌==◌, ℕ, List, [], ◌∷◌, ◌++◌, length, Option, None}
-use Rattle.std.specs.Prelude.{Some}
+use Rattle.std.specs.Prelude.{Some, Bool, true, false}
 use Rattle.std.specs.Prelude.{slice_get, slice_set, if◌then◌else◌}
 use Rattle.zone_events.specs.declared.event.Event.{Event}
 use Rattle.zone_events.specs.declared.outcome.Datagram.{Datagram}
@@ -91,6 +91,13 @@ refusal x (Receive w event) = refused_receive (slice_get x.workers w)
 refusal x (Apply w) = refused_apply x.zone.state (slice_get x.workers w)
 refusal x (Post w) = refused_post (slice_get x.workers w)
 refusal x (Take w) = refused_take (slice_get x.workers w)
+
+-- Whether a step may be refused for want of memory. An event is received and a reply taken without.
+abbrev pub needs_memory : WorldStep → Bool
+needs_memory (Receive w event) = false
+needs_memory (Apply w) = true
+needs_memory (Post w) = true
+needs_memory (Take w) = false
 
 -- An idle worker holds the event.
 pub record Receives (x : Scene) (w : ℕ) (event : Event) (y : Scene) : Type 0 where

@@ -1,10 +1,10 @@
 //! A world: a zone with its book, and workers with a ring each.
 
 ghost use Rattle.std.specs.Prelude.{◌≡◌, ◌≤◌, [], length, replicate, IfOk, OnOk, IfErr, OnErr};
-ghost use Rattle.std.specs.Prelude.{◌⊎◌, ◌↔◌, MatchOption, None, Err, vec_capacity};
+ghost use Rattle.std.specs.Prelude.{◌⊎◌, ◌↔◌, MatchOption, None, Err, IsTrue, vec_capacity};
 ghost use Rattle.ras_machine.specs.Steps.{HasFewOctets};
 ghost use Rattle.history.specs.Workers.{acted_by};
-ghost use Rattle.history.specs.Worlds.{IsInOrder, IsInRange, Happens, refusal};
+ghost use Rattle.history.specs.Worlds.{IsInOrder, IsInRange, Happens, needs_memory, refusal};
 
 use crate::fault::WorldFault;
 use crate::worker::{Hand, Mark, Worker};
@@ -145,11 +145,12 @@ impl<P: Pool> World<P> {
         (zone, book)
     }
 
-    /// Does one step, or changes nothing.
+    /// Does one step, or changes nothing. Neither receiving nor taking is refused for want of memory.
     pub fn act(&mut self, step: WorldStep) -> Result<Acted, WorldFault>
         ensures ok { IfOk result (λ acted. Happens self.old step acted self.new) }
         ensures refused { MatchOption (refusal self.old step)
-            (IfErr result (λ fault. fault ≡ WorldFault.Memory)) (λ fault. result ≡ Err fault) }
+            (IfErr result (λ fault. (fault ≡ WorldFault.Memory) × IsTrue (needs_memory step)))
+            (λ fault. result ≡ Err fault) }
         ensures err { OnErr result (self.new ≡ self.old) }
         ensures order { IsInOrder self.new }
     {
