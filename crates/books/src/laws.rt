@@ -1,10 +1,15 @@
-//! What makes the entries of a book a run, with calls that are counted seat by seat.
+//! What makes the entries of a book a run, with calls that are counted seat by seat, and what they do
+//! to the bandwidth in use.
 
-ghost use Rattle.std.specs.Prelude.{◌≡◌, ◌++◌, ◌∷◌, [], List, length};
+ghost use Rattle.std.specs.Prelude.{◌≡◌, ◌≤◌, ◌+◌, ◌++◌, ◌∷◌, [], List, length};
+ghost use Rattle.admission.specs.Calls.{in_use};
+ghost use Rattle.zone_events.specs.declared.event.Event.{Event};
+ghost use Rattle.zone_events.specs.declared.outcome.Outcome.{Outcome};
 ghost use Rattle.ras_machine.specs.State.{State};
 ghost use Rattle.ras_machine.specs.Steps.{Step};
 ghost use Rattle.books.specs.declared.book.Entry.{Entry};
 ghost use Rattle.books.specs.Books.{AreCounted, BookRun, entries_of_seat};
+ghost use Rattle.books.specs.Totals.{lent_of, units_lent};
 
 /// Without entries, the book leads from a state to that state, and its calls are counted.
 pub fn a_book_begins_without_entries()
@@ -21,4 +26,26 @@ pub fn a_book_goes_on_by_a_step()
     ensures counted { (entries : List Entry) (entry : Entry) → AreCounted entries
         → entry.call ≡ length (entries_of_seat entry.seat entries)
         → AreCounted (entries ++ entry ∷ []) }
+{}
+
+/// After a step, no more bandwidth is in use than there was before it, with the units that were lent
+/// in it. The settings stay, and the machine made one step more.
+pub fn a_step_uses_no_more_than_is_lent()
+    ensures units { (s : State) (event : Event) (outcome : Outcome) (after : State)
+        → Step s event outcome after → in_use after.tables.calls
+        ≤ in_use s.tables.calls + units_lent outcome.answer }
+    ensures settings { (s : State) (event : Event) (outcome : Outcome) (after : State)
+        → Step s event outcome after → after.tables.config ≡ s.tables.config }
+    ensures steps { (s : State) (event : Event) (outcome : Outcome) (after : State)
+        → Step s event outcome after → after.steps ≡ s.steps + 1 }
+{}
+
+/// So it is of all steps of a book together.
+pub fn a_book_uses_no_more_than_is_lent()
+    ensures units { (base now : State) (entries : List Entry) → BookRun base entries now
+        → in_use now.tables.calls ≤ in_use base.tables.calls + lent_of entries }
+    ensures settings { (base now : State) (entries : List Entry) → BookRun base entries now
+        → now.tables.config ≡ base.tables.config }
+    ensures steps { (base now : State) (entries : List Entry) → BookRun base entries now
+        → now.steps ≡ base.steps + length entries }
 {}

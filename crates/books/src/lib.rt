@@ -3,7 +3,18 @@
 #![tactic(auto)]
 
 mod book;
+mod chapter;
+mod finished;
 mod laws;
+mod shared;
+mod totals;
 
 pub use book::{Book, Entry, Receipt};
-pub use laws::{a_book_begins_without_entries, a_book_goes_on_by_a_step};
+pub use chapter::Chapter;
+pub use finished::Finished;
+pub use laws::{
+    a_book_begins_without_entries, a_book_goes_on_by_a_step, a_book_uses_no_more_than_is_lent,
+    a_step_uses_no_more_than_is_lent,
+};
+pub use shared::SharedSnapshot;
+pub use totals::{Totals, datagrams_in, totals_of, turns_in, units_lent};

@@ -1,0 +1,23 @@
+-- Chapters of a history, and its end.
+use Rattle.std.specs.Prelude.{ℕ, List}
+use Rattle.ras_machine.specs.State.{State}
+use Rattle.ras_core.specs.Running.{Running}
+use Rattle.books.specs.declared.book.Entry.{Entry}
+use Rattle.books.specs.declared.totals.Totals.{Totals}
+
+-- A chapter: the place of its first entry in the whole history, the state in which it begins, its entries, and
+-- the state in which it ends
+pub record ChapterValue : Type 0 where
+  pub first : ℕ
+  pub base : State
+  pub entries : List Entry
+  pub end : State
+
+-- What is left of a history when its zone is taken out: the zone, the state after the last chapter,
+-- the entries since then, the place of the first of these, and the totals of all chapters.
+pub record FinishedValue : Type 0 where
+  pub zone : Running
+  pub base : State
+  pub entries : List Entry
+  pub first : ℕ
+  pub carried : Totals

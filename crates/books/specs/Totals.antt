@@ -1,0 +1,55 @@
+-- What entries add up to.
+use Rattle.std.specs.Prelude.{◌+◌, ◌-◌, ℕ, List, Option, None, Some, sum_by}
+use Rattle.admission.specs.Calls.{in_use}
+use Rattle.pools.specs.declared.interface.Lend.{Lend}
+use Rattle.pools.specs.declared.interface.Lend.TheVariants.{Lent, Refused, Wait}
+use Rattle.zone_events.specs.declared.event.Event.{Event}
+use Rattle.zone_events.specs.declared.event.Event.TheVariants.{Datagram, Turn}
+use Rattle.ras_machine.specs.State.{State}
+use Rattle.books.specs.declared.book.Entry.{Entry}
+use Rattle.books.specs.declared.totals.Totals.{Totals}
+
+-- 1 for a datagram, and 0 for a turn
+abbrev pub datagrams_in : Event → ℕ
+datagrams_in (Datagram source bytes moment) = 1
+datagrams_in (Turn moment) = 0
+
+-- 0 for a datagram, and 1 for a turn
+abbrev pub turns_in : Event → ℕ
+turns_in (Datagram source bytes moment) = 0
+turns_in (Turn moment) = 1
+
+-- the units that a pool lent by its answer
+abbrev pub units_lent : Option Lend → ℕ
+units_lent (Some (Lent units)) = units
+units_lent (Some Refused) = 0
+units_lent (Some Wait) = 0
+units_lent None = 0
+
+-- how many of the entries are of a datagram, how many of a turn, and the units that their pools lent
+abbrev pub datagrams_of : List Entry → ℕ
+datagrams_of entries = sum_by (λ e. datagrams_in e.event) entries
+
+abbrev pub turns_of : List Entry → ℕ
+turns_of entries = sum_by (λ e. turns_in e.event) entries
+
+abbrev pub lent_of : List Entry → ℕ
+lent_of entries = sum_by (λ e. units_lent e.outcome.answer) entries
+
+-- the totals of no entries
+abbrev pub no_totals : Totals
+no_totals = record { datagrams = 0; turns = 0; lent = 0; returned = 0 }
+
+-- what these entries, by which so many units came back, add to totals
+abbrev pub totals_with : Totals → List Entry → ℕ → Totals
+totals_with before entries back = record {
+  datagrams = before.datagrams + datagrams_of entries;
+  turns = before.turns + turns_of entries;
+  lent = before.lent + lent_of entries;
+  returned = before.returned + back;
+}
+
+-- the units that came back in these steps: what was in use and what was lent, less what is in use
+abbrev pub returned_by : State → List Entry → State → ℕ
+returned_by base entries now =
+    in_use base.tables.calls + lent_of entries - in_use now.tables.calls

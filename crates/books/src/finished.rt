@@ -1,0 +1,120 @@
+//! How a history ends.
+
+ghost use Rattle.std.specs.Prelude.{◌≡◌};
+ghost use Rattle.books.specs.Books.{BookRun};
+
+use crate::book::Entry;
+use crate::shared::SharedSnapshot;
+use crate::totals::Totals;
+use pools::Pool;
+use ras_core::{Snapshot, Zone};
+use std::marker::Model;
+
+/// A history that goes no further: the zone as it is left, the state after the last chapter and the
+/// entries since then, which lead from that state to the zone, the place of the first of these in the
+/// whole history, and the totals of all chapters.
+#[derive(Drop)]
+pub struct Finished<P: Pool> {
+    zone: Zone<P>,
+    base: SharedSnapshot,
+    entries: Vec<Entry>,
+    first: usize,
+    carried: Totals,
+}
+
+impl<P: Pool> Model for Finished<P> {
+    ghost use Rattle.std.specs.Coded.{codes};
+    ghost use Rattle.std.specs.FinMap as map;
+    ghost use Rattle.books.specs.Books.{BookRun};
+    ghost use Rattle.books.specs.Chapters.{FinishedValue};
+
+    ghost Value = { FinishedValue };
+
+    ghost coded = { Prim.hlevel (codes, map.code) };
+
+    ghost view = { λ f. record {
+      zone = f.zone;
+      base = f.base;
+      entries = f.entries.items;
+      first = f.first;
+      carried = f.carried;
+    } };
+
+    ghost invariant = { λ f. BookRun f.base f.entries.items f.zone.state };
+}
+
+impl<P: Pool> Finished<P> {
+    /// A history whose entries since the last chapter lead from the state after it to the zone.
+    pub fn new(
+        zone: Zone<P>,
+        base: SharedSnapshot,
+        entries: Vec<Entry>,
+        first: usize,
+        carried: Totals,
+    ) -> Self
+        requires { BookRun base entries.items zone.state }
+        ensures zone { result.zone ≡ zone }
+        ensures base { result.base ≡ base }
+        ensures entries { result.entries ≡ entries.items }
+        ensures first { result.first ≡ first }
+        ensures carried { result.carried ≡ carried }
+    {
+        Finished {
+            zone,
+            base,
+            entries,
+            first,
+            carried,
+        }
+    }
+
+    /// The zone as it is left.
+    pub fn zone(&self) -> &Zone<P>
+        ensures { result.now ≡ self.now.zone }
+    {
+        &self.zone
+    }
+
+    /// The state after the last chapter, or, if there was none, the one with which the history began.
+    pub fn base(&self) -> &Snapshot
+        ensures { result.now ≡ self.now.base }
+    {
+        self.base.snapshot()
+    }
+
+    /// The entries since the last chapter: they lead from the state after it to that of the zone.
+    pub fn entries(&self) -> &[Entry]
+        ensures entries { result.now ≡ self.now.entries }
+        ensures run { BookRun self.now.base self.now.entries self.now.zone.state }
+    {
+        &self.entries
+    }
+
+    /// The place of the first of these entries in the whole history.
+    pub fn first(&self) -> usize
+        ensures { result ≡ self.now.first }
+    {
+        self.first
+    }
+
+    /// The totals of all chapters.
+    pub fn carried(&self) -> Totals
+        ensures { result ≡ self.now.carried }
+    {
+        self.carried
+    }
+
+    /// The zone, without its history.
+    pub fn into_zone(self) -> Zone<P>
+        ensures { result ≡ self.zone }
+    {
+        let Finished {
+            zone,
+            base: _,
+            entries: _,
+            first: _,
+            carried: _,
+        } = self;
+        zone
+    }
+}

@@ -1,0 +1,4 @@
+pub mod Seats
+pub mod Held
+pub mod Listings
+pub mod Faults

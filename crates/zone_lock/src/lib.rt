@@ -1,0 +1,16 @@
+//! A zone behind a lock, with the history of its steps: whoever has a seat may make a step. The book
+//! under the lock is a run of the machine at any time, and the shares that the seats have of the
+//! ledgers add up to what the history has.
+#![tactic(auto)]
+
+mod ledgers;
+mod listing;
+mod lock;
+mod locked;
+mod order;
+mod seat;
+
+pub use listing::Listing;
+pub use lock::{Blanks, OpenFault, ZoneLock};
+pub use locked::{Locked, apply_locked, cut_locked, list_locked};
+pub use seat::{Hall, Seat};

@@ -1,0 +1,325 @@
+//! The lock.
+
+ghost use Rattle.std.specs.Prelude.{◌≡◌, ◌≢◌, ◌≤◌, ◌+◌, ◌<◌, ℕ, Some, slice_get, sum_by, vec_len};
+ghost use Rattle.std.specs.Prelude.{IfOk, IfErr, OnOk, OnErr, vec_capacity, ◌⊎◌};
+ghost use Rattle.ras_machine.specs.Soundness.{Sound};
+ghost use Rattle.books.specs.Books.{BookRun};
+ghost use Rattle.books.specs.Totals.{datagrams_of, lent_of, returned_by, turns_of};
+ghost use Rattle.zone_lock.specs.Held.{IsLedInUse, IsStepOfSome, entry_by, receipt_at};
+ghost use Rattle.zone_lock.specs.Faults.{open_fault_number};
+ghost use Rattle.zone_lock.specs.Listings.{IsListingOfSome};
+ghost use Rattle.zone_lock.specs.Seats.{IsSeatCount, seated, seated_after};
+
+use crate::ledgers::Ledgers;
+use crate::listing::Listing;
+use crate::locked::{Locked, cut_locked, list_locked, make_step};
+use crate::order::Order;
+use crate::seat::{Hall, Seat};
+use books::{Chapter, Finished, Receipt, SharedSnapshot, Totals};
+use pools::Pool;
+use ras_core::{Prepared, StepFault, Zone};
+use std::alloc::{AllocError, Global};
+use std::sync::ledger::{Blank, Ledger, Share};
+use std::sync::{Mutex, Wait};
+
+/// A zone behind a lock.
+#[derive(Drop)]
+pub struct ZoneLock<P: Pool, D: Hall, T: Ledger, U: Ledger> {
+    alloc: Global,
+    seats: usize,
+    inner: Mutex<Locked<P, D, T, U>>,
+    ghost some: { 0 < seats },
+    ghost all: { seats ≡ D.all },
+}
+
+/// Three new ledgers, with a part for each seat: of datagrams, of turns, and of units lent.
+#[derive(Drop)]
+pub struct Blanks {
+    pub datagrams: Blank,
+    pub turns: Blank,
+    pub lent: Blank,
+}
+
+impl Blanks {
+    /// For so many seats.
+    pub fn new(seats: usize) -> Self
+        ensures datagrams { result.datagrams.parts ≡ seats }
+        ensures turns { result.turns.parts ≡ seats }
+        ensures lent { result.lent.parts ≡ seats }
+    {
+        Blanks {
+            datagrams: Blank::new(seats as u64),
+            turns: Blank::new(seats as u64),
+            lent: Blank::new(seats as u64),
+        }
+    }
+}
+
+/// Why a lock isn't made.
+#[derive(Clone, Copy, Debug, PartialEq, Eq, Drop)]
+pub enum OpenFault {
+    /// There are to be 1 to 16 seats.
+    BadSeats,
+    Memory,
+}
+
+impl OpenFault {
+    /// The number of the fault.
+    pub fn number(&self) -> u8
+        ensures { result ≡ open_fault_number self.now }
+    {
+        match self {
+            OpenFault::BadSeats => 1,
+            OpenFault::Memory => 2,
+        }
+    }
+}
+
+impl<P: Pool, D: Hall, T: Ledger, U: Ledger> ZoneLock<P, D, T, U> {
+    /// Locks a zone, and makes its seats, 1 to 16 of them, which made no step yet. Else, or where
+    /// there is no memory, the zone comes back.
+    pub fn open(
+        alloc: Global,
+        zone: Zone<P>,
+        seats: usize,
+        blanks: Blanks,
+    ) -> Result<(Self, Vec<Seat<D, T, U>>), (Zone<P>, OpenFault)>
+        requires datagrams { (blanks.datagrams.name ≡ D.name)
+            × (blanks.datagrams.parts ≡ D.parts) × (D.parts ≡ seats) }
+        requires turns { (blanks.turns.name ≡ T.name)
+            × (blanks.turns.parts ≡ T.parts) × (T.parts ≡ seats) }
+        requires lent { (blanks.lent.name ≡ U.name)
+            × (blanks.lent.parts ≡ U.parts) × (U.parts ≡ seats) }
+        requires opened { (D.all ≡ seats) × (D.opened ≡ zone.state) }
+        ensures len { IfOk result (λ made. vec_len made.1 ≡ seats) }
+        ensures seats { IfOk result (λ made. (k : ℕ) → k < seats
+            → slice_get made.1.items k ≡ Some (seated k 0 0 0 0)) }
+        ensures range { OnOk result (IsSeatCount seats) }
+        ensures handed_back { IfErr result (λ fault. fault.0 ≡ zone) }
+        ensures fault { IfErr result (λ fault.
+            ((fault.1 ≡ OpenFault.BadSeats) × ¬ IsSeatCount seats)
+            ⊎ ((fault.1 ≡ OpenFault.Memory) × IsSeatCount seats)) }
+    {
+        if seats == 0 || seats > 16 {
+            return Err((zone, OpenFault::BadSeats));
+        }
+        let Ok(base) = base_of(alloc, &zone) else {
+            return Err((zone, OpenFault::Memory));
+        };
+        let Ok(all) = Vec::with_capacity(alloc, seats) else {
+            return Err((zone, OpenFault::Memory));
+        };
+        let (ledgers, all) = seats_of(all, seats, blanks);
+        let locked = Locked {
+            first: 0,
+            carried: Totals::none(),
+            so_far: Totals::none(),
+            opened_units: zone.in_use(),
+            base,
+            entries: Vec::new(alloc),
+            zone,
+            ledgers,
+        };
+        let inner = Mutex::new(locked);
+        Ok((
+            ZoneLock {
+                alloc,
+                seats,
+                inner,
+            },
+            all,
+        ))
+    }
+
+    /// Waits for the lock and makes one step. What it needs of memory but for its place in the book is
+    /// there before.
+    pub fn apply<R: Wait>(
+        &self,
+        rt: &R,
+        seat: &mut Seat<D, T, U>,
+        prepared: Prepared,
+    ) -> Result<Receipt, StepFault>
+        ensures receipt { IfOk result (λ receipt. receipt ≡ receipt_at receipt.place
+            (entry_by seat.old.number seat.old.calls prepared receipt.outcome)) }
+        ensures step { IfOk result (λ receipt. IsStepOfSome prepared receipt.outcome) }
+        ensures seat { IfOk result (λ receipt.
+            seat.new ≡ seated_after seat.old prepared receipt.outcome) }
+        ensures err { OnErr result (seat.new ≡ seat.old) }
+    {
+        match Order::new(self.alloc, prepared) {
+            Ok(order) => make_step(&mut *self.inner.lock(rt), seat, order),
+            Err(_) => {
+                if self.inner.lock(rt).zone.is_closed() {
+                    Err(StepFault::Closed)
+                } else {
+                    Err(StepFault::Memory)
+                }
+            }
+        }
+    }
+
+    /// Waits for the lock and lists what the zone has.
+    pub fn list<R: Wait>(&self, rt: &R) -> Result<Listing, AllocError>
+        ensures { IfOk result IsListingOfSome }
+    {
+        list_locked(&*self.inner.lock(rt))
+    }
+
+    /// Waits for the lock and ends a chapter.
+    pub fn cut<R: Wait>(&self, rt: &R) -> Result<Chapter, AllocError> {
+        cut_locked(&mut *self.inner.lock(rt))
+    }
+
+    /// Takes the zone out, with its history since the last chapter. It is refused exactly where the
+    /// seats are not all of this lock's; lock and seats then come back.
+    pub fn finish(
+        self,
+        seats: Vec<Seat<D, T, U>>,
+    ) -> Result<Finished<P>, (Self, Vec<Seat<D, T, U>>)>
+        requires { (D.parts ≡ D.all) × (T.parts ≡ D.all) × (U.parts ≡ D.all) }
+        ensures all { OnOk result (vec_len seats ≡ D.all) }
+        ensures run { IfOk result (λ f. BookRun f.base f.entries f.zone.state) }
+        ensures sound { IfOk result (λ f. Sound f.zone.state) }
+        ensures opened { IfOk result (λ f. f.first ≡ 0 → f.base ≡ D.opened) }
+        ensures first { IfOk result (λ f. f.carried.datagrams + f.carried.turns ≡ f.first) }
+        ensures datagrams { IfOk result (λ f.
+            f.carried.datagrams + datagrams_of f.entries
+            ≡ sum_by (λ s. s.datagrams) seats.items) }
+        ensures turns { IfOk result (λ f. f.carried.turns + turns_of f.entries
+            ≡ sum_by (λ s. s.turns) seats.items) }
+        ensures lent { IfOk result (λ f. f.carried.lent + lent_of f.entries
+            ≡ sum_by (λ s. s.lent) seats.items) }
+        ensures in_use { IfOk result (λ f. IsLedInUse D.opened f.zone.state
+            (f.carried.lent + lent_of f.entries)
+            (f.carried.returned + returned_by f.base f.entries f.zone.state)) }
+        ensures settings { IfOk result (λ f.
+            f.base.tables.config ≡ D.opened.tables.config) }
+        ensures refused { IfErr result (λ back. vec_len seats ≢ D.all) }
+        ensures handed_back { IfErr result (λ back. back.1 ≡ seats) }
+    {
+        if seats.len() != self.seats {
+            return Err((self, seats));
+        }
+        let ZoneLock {
+            alloc: _,
+            seats: _,
+            inner,
+        } = self;
+        let Locked {
+            first,
+            carried,
+            so_far: _,
+            opened_units: _,
+            base,
+            entries,
+            zone,
+            ledgers,
+        } = inner.into_inner();
+        let Ledgers {
+            mut datagrams,
+            mut turns,
+            mut lent,
+        } = ledgers;
+        let (mut my_datagrams, mut my_turns, mut my_lent) = merged(seats);
+        datagrams.audit(&mut my_datagrams);
+        turns.audit(&mut my_turns);
+        lent.audit(&mut my_lent);
+        Ok(Finished::new(zone, base, entries, first, carried))
+    }
+}
+
+/// The state of a zone, which is the base of its history.
+fn base_of<P: Pool>(alloc: Global, zone: &Zone<P>) -> Result<SharedSnapshot, AllocError>
+    ensures base { IfOk result (λ base. base ≡ zone.now.state) }
+    ensures sound { OnOk result (Sound zone.now.state) }
+{
+    let snapshot = zone.snapshot()?;
+    // The state that a snapshot shows is sound.
+    let _ = snapshot.machine();
+    SharedSnapshot::new(alloc, snapshot)
+}
+
+/// So many seats, which made no step, with the books of their ledgers.
+fn seats_of<D: Hall, T: Ledger, U: Ledger>(
+    room: Vec<Seat<D, T, U>>,
+    seats: usize,
+    blanks: Blanks,
+) -> (Ledgers<D, T, U>, Vec<Seat<D, T, U>>)
+    requires datagrams { (blanks.datagrams.name ≡ D.name)
+        × (blanks.datagrams.parts ≡ D.parts) × (D.parts ≡ seats) }
+    requires turns { (blanks.turns.name ≡ T.name)
+        × (blanks.turns.parts ≡ T.parts) × (T.parts ≡ seats) }
+    requires lent { (blanks.lent.name ≡ U.name)
+        × (blanks.lent.parts ≡ U.parts) × (U.parts ≡ seats) }
+    requires room { (vec_len room ≡ 0) × (seats ≤ vec_capacity room) }
+    ensures datagrams { result.0.datagrams.total ≡ 0 }
+    ensures turns { result.0.turns.total ≡ 0 }
+    ensures lent { result.0.lent.total ≡ 0 }
+    ensures len { vec_len result.1 ≡ seats }
+    ensures seats { (k : ℕ) → k < seats → slice_get result.1.items k
+        ≡ Some (seated k 0 0 0 0) }
+{
+    let mut all = room;
+    let Blanks {
+        datagrams,
+        turns,
+        lent,
+    } = blanks;
+    let (datagrams, mut my_datagrams) = datagrams.open::<D>();
+    let (turns, mut my_turns) = turns.open::<T>();
+    let (lent, mut my_lent) = lent.open::<U>();
+    for number in 0..seats {
+        all.push_reserved(Seat {
+            number,
+            calls: 0,
+            datagrams: my_datagrams.split_off(1, 0),
+            turns: my_turns.split_off(1, 0),
+            lent: my_lent.split_off(1, 0),
+        });
+    }
+    (
+        Ledgers {
+            datagrams,
+            turns,
+            lent,
+        },
+        all,
+    )
+}
+
+/// What the seats have together.
+fn merged<D: Hall, T: Ledger, U: Ledger>(
+    seats: Vec<Seat<D, T, U>>,
+) -> (Share<D>, Share<T>, Share<U>)
+    requires { 0 < vec_len seats }
+    ensures parts { (result.0.parts ≡ vec_len seats) × (result.1.parts ≡ vec_len seats)
+        × (result.2.parts ≡ vec_len seats) }
+    ensures datagrams { result.0.amount ≡ sum_by (λ s. s.datagrams) seats.items }
+    ensures turns { result.1.amount ≡ sum_by (λ s. s.turns) seats.items }
+    ensures lent { result.2.amount ≡ sum_by (λ s. s.lent) seats.items }
+{
+    let mut seats = seats;
+    let Some(first) = seats.pop() else {
+        unreachable!()
+    };
+    let Seat {
+        number: _,
+        calls: _,
+        mut datagrams,
+        mut turns,
+        mut lent,
+    } = first;
+    while let Some(seat) = seats.pop() {
+        let Seat {
+            number: _,
+            calls: _,
+            datagrams: d,
+            turns: t,
+            lent: u,
+        } = seat;
+        datagrams.merge(d);
+        turns.merge(t);
+        lent.merge(u);
+    }
+    (datagrams, turns, lent)
+}

@@ -1,0 +1,213 @@
+//! What stands behind the lock, and what is done with it by whoever holds it.
+
+ghost use Rattle.std.specs.Prelude.{◌≡◌, ◌≤◌, ◌<◌, ◌+◌, ◌*◌, ◌^◌, ◌++◌, ◌∷◌, [], ◌↔◌, length};
+ghost use Rattle.std.specs.Prelude.{IfOk, OnOk, OnErr, Err, vec_capacity};
+ghost use Rattle.ras_machine.specs.Machine.{most_steps};
+ghost use Rattle.ras_machine.specs.Steps.{HasFewOctets};
+ghost use Rattle.ras_core.specs.Runs.{RunningStep};
+ghost use Rattle.books.specs.Totals.{returned_by, totals_with};
+ghost use Rattle.zone_lock.specs.Held.{IsKept, entry_by, receipt_at};
+ghost use Rattle.zone_lock.specs.Listings.{IsListing};
+ghost use Rattle.zone_lock.specs.Seats.{seated_after};
+
+use crate::ledgers::Ledgers;
+use crate::listing::{Listing, listing_of};
+use crate::order::Order;
+use crate::seat::{Hall, Seat};
+use books::{Chapter, Entry, Receipt, SharedSnapshot, Totals};
+use pools::Pool;
+use ras_core::{Event, Outcome, Prepared, StepFault, Zone};
+use std::alloc::{AllocError, Global};
+use std::marker::Model;
+use std::mem;
+use std::sync::ledger::Ledger;
+
+/// A zone with the part of its history since the last chapter: the place of its first entry in the
+/// whole history, the totals of the entries before it, the totals so far (units that come back are
+/// counted when a chapter ends), the units that were in use when the zone was locked, the state in
+/// which it begins, its entries, the zone, and the ledgers.
+#[derive(Drop)]
+pub struct Locked<P: Pool, D: Hall, T: Ledger, U: Ledger> {
+    pub(crate) first: usize,
+    pub(crate) carried: Totals,
+    pub(crate) so_far: Totals,
+    pub(crate) opened_units: u64,
+    pub(crate) base: SharedSnapshot,
+    pub(crate) entries: Vec<Entry>,
+    pub(crate) zone: Zone<P>,
+    pub(crate) ledgers: Ledgers<D, T, U>,
+}
+
+impl<P: Pool, D: Hall, T: Ledger, U: Ledger> Model for Locked<P, D, T, U> {
+    ghost use Rattle.std.specs.Coded.{codes};
+    ghost use Rattle.std.specs.FinMap as map;
+    ghost use Rattle.zone_lock.specs.Held.{Held, IsInside};
+
+    ghost Value = { Held };
+
+    ghost coded = { Prim.hlevel (codes, map.code) };
+
+    ghost view = { λ l. record {
+      first = l.first;
+      carried = l.carried;
+      base = l.base;
+      entries = l.entries.items;
+      zone = l.zone;
+    } };
+
+    ghost invariant = { λ l. IsInside D.opened (record {
+      first = l.first;
+      carried = l.carried;
+      base = l.base;
+      entries = l.entries.items;
+      zone = l.zone;
+    }) l.so_far l.opened_units l.ledgers.datagrams.total l.ledgers.turns.total l.ledgers.lent.total };
+}
+
+/// Makes one step of the locked zone, which is the last entry afterwards, or changes nothing. It is
+/// refused as Closed exactly where 2^62 steps were made. All memory is there before the step.
+pub fn apply_locked<P: Pool, D: Hall, T: Ledger, U: Ledger>(
+    locked: &mut Locked<P, D, T, U>,
+    seat: &mut Seat<D, T, U>,
+    prepared: Prepared,
+) -> Result<Receipt, StepFault>
+    ensures step { IfOk result (λ receipt.
+        RunningStep locked.old.zone prepared receipt.outcome locked.new.zone) }
+    ensures entry { IfOk result (λ receipt. locked.new.entries ≡ locked.old.entries
+        ++ entry_by seat.old.number seat.old.calls prepared receipt.outcome ∷ []) }
+    ensures receipt { IfOk result (λ receipt. receipt
+        ≡ receipt_at (locked.old.first + length locked.old.entries)
+        (entry_by seat.old.number seat.old.calls prepared receipt.outcome)) }
+    ensures seat { IfOk result (λ receipt.
+        seat.new ≡ seated_after seat.old prepared receipt.outcome) }
+    ensures first { locked.new.first ≡ locked.old.first }
+    ensures carried { locked.new.carried ≡ locked.old.carried }
+    ensures base { locked.new.base ≡ locked.old.base }
+    ensures closed { (result ≡ Err StepFault.Closed)
+        ↔ (locked.old.zone.state.steps ≡ most_steps) }
+    ensures err { OnErr result (locked.new ≡ locked.old) }
+    ensures err_seat { OnErr result (seat.new ≡ seat.old) }
+    ensures kept { IsKept D.opened locked.new }
+{
+    if locked.zone.is_closed() {
+        return Err(StepFault::Closed);
+    }
+    let order = Order::new(*locked.entries.allocator(), prepared)?;
+    make_step(locked, seat, order)
+}
+
+/// The step of an order.
+pub(crate) fn make_step<P: Pool, D: Hall, T: Ledger, U: Ledger>(
+    locked: &mut Locked<P, D, T, U>,
+    seat: &mut Seat<D, T, U>,
+    order: Order,
+) -> Result<Receipt, StepFault>
+    requires kept { order.kept ≡ order.prepared }
+    requires told { order.told ≡ order.prepared }
+    requires empty { order.buffer.items ≡ [] }
+    requires room { 20000 ≤ vec_capacity order.buffer }
+    ensures step { IfOk result (λ receipt.
+        RunningStep locked.old.zone order.prepared receipt.outcome locked.new.zone) }
+    ensures entry { IfOk result (λ receipt. locked.new.entries ≡ locked.old.entries
+        ++ entry_by seat.old.number seat.old.calls order.prepared receipt.outcome ∷ []) }
+    ensures receipt { IfOk result (λ receipt. receipt
+        ≡ receipt_at (locked.old.first + length locked.old.entries)
+        (entry_by seat.old.number seat.old.calls order.prepared receipt.outcome)) }
+    ensures seat { IfOk result (λ receipt.
+        seat.new ≡ seated_after seat.old order.prepared receipt.outcome) }
+    ensures first { locked.new.first ≡ locked.old.first }
+    ensures carried { locked.new.carried ≡ locked.old.carried }
+    ensures base { locked.new.base ≡ locked.old.base }
+    ensures closed { (result ≡ Err StepFault.Closed)
+        ↔ (locked.old.zone.state.steps ≡ most_steps) }
+    ensures err { OnErr result (locked.new ≡ locked.old) }
+    ensures err_seat { OnErr result (seat.new ≡ seat.old) }
+    ensures before { IsKept D.opened locked.old }
+    ensures kept { IsKept D.opened locked.new }
+{
+    if locked.zone.is_closed() {
+        return Err(StepFault::Closed);
+    }
+    locked.entries.reserve(1)?;
+    locked.ledgers.audit(seat);
+    let Order {
+        prepared,
+        kept,
+        told,
+        buffer,
+    } = order;
+    let outcome = locked.zone.step_prepared(prepared)?;
+    let receipt = Receipt {
+        seat: seat.number,
+        call: seat.calls,
+        place: locked.first + locked.entries.len(),
+        event: told,
+        outcome: copy_of(&outcome, buffer),
+    };
+    locked.so_far = locked.so_far.with_step(&kept, &outcome);
+    locked.ledgers.count(seat, &kept, &outcome);
+    locked.entries.push_reserved(Entry {
+        seat: receipt.seat,
+        call: receipt.call,
+        event: kept,
+        outcome,
+    });
+    Ok(receipt)
+}
+
+/// An equal outcome, of which what is sent stands in this buffer.
+fn copy_of(outcome: &Outcome, buffer: Vec<u8>) -> Outcome
+    requires empty { buffer.items ≡ [] }
+    requires few { HasFewOctets outcome.now.output }
+    requires room { 20000 ≤ vec_capacity buffer }
+    ensures { result ≡ outcome.now }
+{
+    outcome.copy_into(buffer)
+}
+
+/// Lists what the locked zone has.
+pub fn list_locked<P: Pool, D: Hall, T: Ledger, U: Ledger>(
+    locked: &Locked<P, D, T, U>,
+) -> Result<Listing, AllocError>
+    ensures listing { IfOk result (λ listing. IsListing locked.now.zone.state listing) }
+    ensures kept { IsKept D.opened locked.now }
+{
+    listing_of(&locked.zone)
+}
+
+/// Ends a chapter: the entries so far are taken out, and the state that they lead to, which is copied
+/// once, is the end of the chapter and the base of what comes. If there is no memory, nothing has
+/// changed.
+pub fn cut_locked<P: Pool, D: Hall, T: Ledger, U: Ledger>(
+    locked: &mut Locked<P, D, T, U>,
+) -> Result<Chapter, AllocError>
+    ensures chapter { IfOk result (λ chapter. chapter ≡ record {
+      first = locked.old.first;
+      base = locked.old.base;
+      entries = locked.old.entries;
+      end = locked.old.zone.state;
+    }) }
+    ensures first { OnOk result
+        (locked.new.first ≡ locked.old.first + length locked.old.entries) }
+    ensures carried { OnOk result (locked.new.carried
+        ≡ totals_with locked.old.carried locked.old.entries
+        (returned_by locked.old.base locked.old.entries locked.old.zone.state)) }
+    ensures base { OnOk result (locked.new.base ≡ locked.old.zone.state) }
+    ensures entries { OnOk result (locked.new.entries ≡ []) }
+    ensures zone { locked.new.zone ≡ locked.old.zone }
+    ensures err { OnErr result (locked.new ≡ locked.old) }
+    ensures kept { IsKept D.opened locked.new }
+{
+    let alloc: Global = *locked.entries.allocator();
+    let end = SharedSnapshot::new(alloc, locked.zone.snapshot()?)?;
+    let next = end.again()?;
+    let first = locked.first + locked.entries.len();
+    locked.so_far.returned = locked.opened_units as u128 + locked.so_far.lent
+        - locked.zone.in_use() as u128;
+    locked.carried = locked.so_far;
+    let entries = mem::replace(&mut locked.entries, Vec::new(alloc));
+    let base = mem::replace(&mut locked.base, next);
+    let chapter = Chapter::new(locked.first, base, entries, end);
+    locked.first = first;
+    Ok(chapter)
+}
