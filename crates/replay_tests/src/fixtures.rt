@@ -1,0 +1,73 @@
+//! A zone in which two endpoints register and one calls the other, with the book of its steps.
+
+use books::{Book, Entry};
+use pools::{FixedPool, PoolSet};
+use ras_core::{Config, ConfigParts, Event, Moment, Networks, Zone};
+use ras_module::{Address, Name, Octets, Source};
+use std::alloc::Global;
+use std::test::Fail;
+use vectors::requests::{ARQ, GRQ, RRQ_101, RRQ_102};
+
+const GATEKEEPER: Address = Address {
+    ip: [10, 0, 0, 1],
+    port: 1719,
+};
+
+pub const ENDPOINT: Source = Address {
+    ip: [10, 0, 0, 5],
+    port: 1719,
+};
+
+/// A zone of 3,000 units, of which a call may have 2,000, over a pool of 2,500.
+pub fn zone(alloc: Global) -> Result<Zone<FixedPool>, Fail> {
+    let identifier = Name::new(&[103, 107]).ok_or("a name")?;
+    let mut networks = Vec::new(alloc);
+    networks.push(None)?;
+    let mut parts = ConfigParts::new(identifier, GATEKEEPER, Networks::from_vec(networks));
+    parts.limit = 3_000;
+    parts.call_limit = 2_000;
+    let Ok(config) = Config::new(parts) else {
+        return Err(Fail::from("the settings are in their ranges"));
+    };
+    let mut pools = Vec::new(alloc);
+    pools.push(FixedPool::new(2_500))?;
+    let Ok(set) = PoolSet::new(pools) else {
+        return Err(Fail::from("an idle pool"));
+    };
+    match Zone::new(alloc, config, set) {
+        Ok(zone) => Ok(zone),
+        Err(_) => Err(Fail::from("as many pools as networks")),
+    }
+}
+
+/// The zone makes a step of this event, which is added to the book.
+fn record(book: &mut Book, zone: &mut Zone<FixedPool>, event: Event) -> Result<(), Fail> {
+    book.reserve_entry()?;
+    let kept = event.copy()?;
+    let outcome = zone.step(event)?;
+    let call = book.entries.len();
+    book.add_reserved(Entry {
+        seat: 0,
+        call,
+        event: kept,
+        outcome,
+    });
+    Ok(())
+}
+
+fn datagram(alloc: Global, bytes: &[u8], milliseconds: u64) -> Result<Event, Fail> {
+    let moment = Moment::new(milliseconds).ok_or("a moment")?;
+    let bytes = Octets::from_vec(bytes.to_vec(alloc)?);
+    Ok(Event::Datagram(ENDPOINT, bytes, moment))
+}
+
+/// Two endpoints register, the first one calls the second, its request comes again, and a turn finds
+/// nothing that is due.
+pub fn call(alloc: Global, book: &mut Book, zone: &mut Zone<FixedPool>) -> Result<(), Fail> {
+    record(book, zone, datagram(alloc, &GRQ, 0)?)?;
+    record(book, zone, datagram(alloc, &RRQ_101, 1)?)?;
+    record(book, zone, datagram(alloc, &RRQ_102, 2)?)?;
+    record(book, zone, datagram(alloc, &ARQ, 3)?)?;
+    record(book, zone, datagram(alloc, &ARQ, 4)?)?;
+    record(book, zone, Event::Turn(Moment::new(5).ok_or("a moment")?))
+}

@@ -1,0 +1,10 @@
+//! Tests of recorded steps over public calls: the book of a worked call is run again, and each
+//! change of an entry is found.
+#![tactic(auto)]
+
+#[cfg(test)]
+mod changes;
+#[cfg(test)]
+mod fixtures;
+#[cfg(test)]
+mod recorded;
