@@ -1,0 +1,5 @@
+pub mod EntrySums
+pub mod Leading
+pub mod Joining
+pub mod Places
+pub mod GoodReceipts

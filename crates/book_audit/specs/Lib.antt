@@ -1,0 +1,4 @@
+pub mod Joined
+pub mod Receipts
+pub mod Audits
+pub mod inside
