@@ -1,5 +1,6 @@
 //! A world over the zone of the worked examples, and what its workers do.
 
+use book_replay::replays;
 use history::{Acted, World, WorldFault, WorldStep};
 use pools::{FixedPool, PoolSet};
 use ras_core::{Config, ConfigParts, Moment, Networks, Zone};
@@ -12,17 +13,21 @@ const GATEKEEPER: Address = Address {
     port: 1719,
 };
 
+/// The endpoint that sends what is sent from nowhere else.
 const ENDPOINT: Source = Address {
     ip: [10, 0, 0, 5],
     port: 1719,
 };
 
-/// A zone over one pool, which serves every address.
+/// A zone of 3,000 units, of which a call may have 2,000, over one pool of 2,500, which serves all
+/// addresses.
 pub fn zone(alloc: Global) -> Option<Zone<FixedPool>> {
     let identifier = Name::new(&[103, 107])?;
     let mut networks = Vec::new(alloc);
     networks.push(None).ok()?;
-    let parts = ConfigParts::new(identifier, GATEKEEPER, Networks::from_vec(networks));
+    let mut parts = ConfigParts::new(identifier, GATEKEEPER, Networks::from_vec(networks));
+    parts.limit = 3_000;
+    parts.call_limit = 2_000;
     let Ok(config) = Config::new(parts) else {
         return None;
     };
@@ -37,12 +42,12 @@ pub fn zone(alloc: Global) -> Option<Zone<FixedPool>> {
     }
 }
 
-/// A world of two workers, with so many places in each ring. If there is no memory, the zone that
-/// comes back is taken once more.
-pub fn world(alloc: Global, capacity: usize) -> Option<World<FixedPool>> {
-    match World::new(alloc, zone(alloc)?, 2, capacity) {
+/// A world of so many workers, with so many places in each ring. If there is no memory, the zone
+/// that comes back is taken once more.
+pub fn world(alloc: Global, workers: usize, capacity: usize) -> Option<World<FixedPool>> {
+    match World::new(alloc, zone(alloc)?, workers, capacity) {
         Ok(world) => Some(world),
-        Err((zone, WorldFault::Memory)) => match World::new(alloc, zone, 2, capacity) {
+        Err((zone, WorldFault::Memory)) => match World::new(alloc, zone, workers, capacity) {
             Ok(world) => Some(world),
             Err(_) => None,
         },
@@ -50,20 +55,25 @@ pub fn world(alloc: Global, capacity: usize) -> Option<World<FixedPool>> {
     }
 }
 
-/// A datagram with these octets comes.
+/// A datagram with these octets comes from the endpoint.
 pub fn event(alloc: Global, bytes: &[u8], milliseconds: u64) -> Option<Event> {
+    event_from(alloc, ENDPOINT, bytes, milliseconds)
+}
+
+/// A datagram with these octets comes from this address.
+pub fn event_from(alloc: Global, from: Source, bytes: &[u8], milliseconds: u64) -> Option<Event> {
     let moment = Moment::new(milliseconds)?;
     let bytes = Octets::from_vec(bytes.to_vec(alloc).ok()?);
-    Some(Event::Datagram(ENDPOINT, bytes, moment))
+    Some(Event::Datagram(from, bytes, moment))
 }
 
 pub fn turn(milliseconds: u64) -> Option<Event> {
     Some(Event::Turn(Moment::new(milliseconds)?))
 }
 
-/// Whether the datagram goes to the endpoint, with these octets.
-pub fn has_octets(datagram: &Datagram, bytes: &[u8]) -> bool {
-    datagram.to == ENDPOINT && datagram.bytes.as_slice() == bytes
+/// Whether the datagram goes to this address, with these octets.
+fn has_octets(datagram: &Datagram, to: Source, bytes: &[u8]) -> bool {
+    datagram.to == to && datagram.bytes.as_slice() == bytes
 }
 
 /// How many steps the zone made, and how many entries the book has.
@@ -95,17 +105,40 @@ pub fn post(world: &mut World<FixedPool>, w: usize) -> Result<Acted, WorldFault>
     }
 }
 
-/// Whether the worker receives the event, and the zone makes a step of it.
-pub fn is_applied(world: &mut World<FixedPool>, w: usize, event: Event) -> Option<bool> {
-    let received = world.act(WorldStep::Receive(w, event)).ok()?;
-    let applied = apply(world, w).ok()?;
-    Some(matches!(&received, Acted::Received) && matches!(&applied, Acted::Applied(_)))
+/// Whether the worker receives the event. This takes no memory.
+pub fn is_received(world: &mut World<FixedPool>, w: usize, event: Event) -> bool {
+    let received = world.act(WorldStep::Receive(w, event));
+    matches!(&received, Ok(Acted::Received))
 }
 
-/// Whether the front of the worker's ring has these octets.
-pub fn is_taken(world: &mut World<FixedPool>, w: usize, bytes: &[u8]) -> Option<bool> {
-    match world.act(WorldStep::Take(w)).ok()? {
-        Acted::Took(datagram) => Some(has_octets(&datagram, bytes)),
-        _ => Some(false),
+/// Whether the worker receives the event, and the zone makes a step of it.
+pub fn is_applied(world: &mut World<FixedPool>, w: usize, event: Event) -> bool {
+    if !is_received(world, w, event) {
+        return false;
+    }
+    let applied = apply(world, w);
+    matches!(&applied, Ok(Acted::Applied(_)))
+}
+
+/// Whether the front of the worker's ring goes to the endpoint, with these octets.
+pub fn is_taken(world: &mut World<FixedPool>, w: usize, bytes: &[u8]) -> bool {
+    is_taken_to(world, w, ENDPOINT, bytes)
+}
+
+/// Whether the front of the worker's ring goes to this address, with these octets. This takes no
+/// memory.
+pub fn is_taken_to(world: &mut World<FixedPool>, w: usize, to: Source, bytes: &[u8]) -> bool {
+    match world.act(WorldStep::Take(w)) {
+        Ok(Acted::Took(datagram)) => has_octets(&datagram, to, bytes),
+        _ => false,
+    }
+}
+
+/// Whether the book of the world leads to its zone. If there is no memory for it, it is tried once
+/// more.
+pub fn is_run(world: &World<FixedPool>) -> bool {
+    match replays(world.book(), world.zone()) {
+        Ok(is_run) => is_run,
+        Err(_) => replays(world.book(), world.zone()).unwrap_or(false),
     }
 }

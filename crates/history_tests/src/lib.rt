@@ -1,7 +1,9 @@
-//! Tests of worlds over their public calls: the orders in which workers act, a ring that is full,
-//! and refusals.
+//! Tests of worlds over their public calls: the orders in which workers act, two calls that their
+//! pool can't carry together, a ring that is full, and refusals.
 #![tactic(auto)]
 
+#[cfg(test)]
+mod calls;
 #[cfg(test)]
 mod fixtures;
 #[cfg(test)]

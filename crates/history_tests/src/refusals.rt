@@ -1,6 +1,6 @@
 //! What a world refuses, and that it stays as it was.
 
-use crate::fixtures::{event, is_applied, turn, world, zone};
+use crate::fixtures::{event, is_applied, is_received, turn, world, zone};
 use history::{World, WorldFault, WorldStep};
 use pools::FixedPool;
 use std::alloc::Global;
@@ -35,20 +35,18 @@ fn is_idle(world: &mut World<FixedPool>) -> bool {
 /// Whether a worker that holds an event or an outcome receives none, and one that holds an outcome
 /// doesn't apply.
 fn is_busy(alloc: Global, world: &mut World<FixedPool>) -> Option<bool> {
-    let _ = world
-        .act(WorldStep::Receive(1, event(alloc, &GRQ, 0)?))
-        .ok()?;
+    let is_received = is_received(world, 1, event(alloc, &GRQ, 0)?);
     let is_holding = is_refused(world, WorldStep::Receive(1, turn(0)?), 4)
         && is_refused(world, WorldStep::Post(1), 6);
-    let is_done = is_applied(world, 0, turn(0)?)?
+    let is_done = is_applied(world, 0, turn(0)?)
         && is_refused(world, WorldStep::Receive(0, turn(0)?), 4)
         && is_refused(world, WorldStep::Apply(0), 5);
-    Some(is_holding && is_done)
+    Some(is_received && is_holding && is_done)
 }
 
 /// Whether all of these are refused, in a world of its own in which one step was made.
 fn are_refused(alloc: Global) -> Option<bool> {
-    let mut world = world(alloc, 1)?;
+    let mut world = world(alloc, 2, 1)?;
     let nobody = is_nobody(&mut world);
     let idle = is_idle(&mut world);
     let busy = is_busy(alloc, &mut world);
