@@ -1,0 +1,34 @@
+//! Measurements of a zone's work, one by each word of the command line.
+#![tactic(auto)]
+
+mod replays;
+mod requests;
+mod zones;
+
+use anyhow::{Context, Result, bail};
+use std::alloc::Global;
+use std::env;
+use std::rt::Env;
+use std::time::Clock;
+
+const USAGE: &str = "usage: benchmarks replays [ENDPOINTS STEPS]";
+
+/// Measures what the command line names, and prints what it finds. Without a word it does nothing.
+fn main(rt: HostRuntime) -> Result<()> {
+    let alloc = rt.alloc();
+    let words: Vec<String> = env::args(&rt)?.collect(alloc)?;
+    chosen(&rt, alloc, words.as_slice())
+}
+
+fn chosen(rt: &(impl Clock + Print), alloc: Global, words: &[String]) -> Result<()> {
+    match words {
+        [] | [_] => Ok(()),
+        [_, name] if name.as_str() == "replays" => replays::measure(rt, alloc, 1_000, 100_000),
+        [_, name, endpoints, steps] if name.as_str() == "replays" => {
+            let endpoints = endpoints.parse::<usize>().context("ENDPOINTS")?;
+            let steps = steps.parse::<usize>().context("STEPS")?;
+            replays::measure(rt, alloc, endpoints, steps)
+        }
+        _ => bail!("{USAGE}"),
+    }
+}

@@ -1,0 +1,130 @@
+//! Requests of many endpoints: those of the worked examples, with other addresses, digits, numbers
+//! and keys.
+
+ghost use Rattle.std.specs.Prelude.{◌<◌};
+
+use ras_module::Octets;
+use std::alloc::{AllocError, Global};
+use vectors::requests::{ARQ, DRQ, KEEP_ALIVE, RRQ_101};
+
+/// An endpoint that is registered.
+#[derive(Clone, Copy)]
+pub struct Endpoint {
+    /// Its number, from 0, which has five digits at most. Its address and its digits come of it.
+    pub number: u16,
+    /// Its identifier, of four characters.
+    pub identifier: [u8; 8],
+}
+
+/// The address of the endpoint with this number.
+pub fn address_of(number: u16) -> [u8; 4] {
+    let [high, low] = number.to_be_bytes();
+    [10, 1, high, low]
+}
+
+/// A digit in four bits, as a dialled number has it.
+fn digit_of(number: u16) -> u8
+    ensures { result < 13 }
+{
+    (number % 10) as u8 + 3
+}
+
+/// The five digits of the endpoint with this number, as an alias.
+fn alias_of(number: u16) -> [u8; 5] {
+    let first = digit_of(number / 10_000) * 16 + digit_of(number / 1_000);
+    let second = digit_of(number / 100) * 16 + digit_of(number / 10);
+    [0x02, 0x00, first, second, digit_of(number) * 16]
+}
+
+/// The parts, one behind the other.
+fn joined(alloc: Global, parts: &[&[u8]]) -> Result<Octets, AllocError> {
+    let mut octets = Vec::new(alloc);
+    for part in parts {
+        octets.extend_from_slice(part)?;
+    }
+    Ok(Octets::from_vec(octets))
+}
+
+/// A RegistrationRequest of the endpoint with this number.
+pub fn registration(alloc: Global, number: u16) -> Result<Octets, AllocError> {
+    let address = address_of(number);
+    joined(
+        alloc,
+        &[
+            &RRQ_101[..14],
+            &address,
+            &RRQ_101[18..22],
+            &address,
+            &RRQ_101[26..31],
+            &alias_of(number),
+            &RRQ_101[35..],
+        ],
+    )
+}
+
+/// A RegistrationRequest with keepAlive.
+pub fn keep_alive(alloc: Global, endpoint: &Endpoint, seq: u16) -> Result<Octets, AllocError> {
+    let address = address_of(endpoint.number);
+    joined(
+        alloc,
+        &[
+            &KEEP_ALIVE[..2],
+            &seq.to_be_bytes(),
+            &KEEP_ALIVE[4..14],
+            &address,
+            &KEEP_ALIVE[18..22],
+            &address,
+            &KEEP_ALIVE[26..40],
+            &endpoint.identifier,
+        ],
+    )
+}
+
+/// An AdmissionRequest to call the endpoint with that number, for 1,280 units. The octets of `call`
+/// begin the keys of the call.
+pub fn admission(
+    alloc: Global,
+    endpoint: &Endpoint,
+    seq: u16,
+    called: u16,
+    call: u64,
+) -> Result<Octets, AllocError> {
+    joined(
+        alloc,
+        &[
+            &ARQ[..2],
+            &seq.to_be_bytes(),
+            &ARQ[4..6],
+            &endpoint.identifier,
+            &ARQ[14..15],
+            &alias_of(called),
+            &ARQ[19..28],
+            &call.to_be_bytes(),
+            &ARQ[36..50],
+            &call.to_be_bytes(),
+            &ARQ[58..],
+        ],
+    )
+}
+
+/// A DisengageRequest for that call.
+pub fn disengage(
+    alloc: Global,
+    endpoint: &Endpoint,
+    seq: u16,
+    call: u64,
+) -> Result<Octets, AllocError> {
+    joined(
+        alloc,
+        &[
+            &DRQ[..1],
+            &seq.to_be_bytes(),
+            &DRQ[3..4],
+            &endpoint.identifier,
+            &call.to_be_bytes(),
+            &DRQ[20..34],
+            &call.to_be_bytes(),
+            &DRQ[42..],
+        ],
+    )
+}

@@ -1,0 +1,79 @@
+//! A zone in which endpoints are registered.
+
+use crate::requests::{Endpoint, address_of, registration};
+use anyhow::{Context, Result, bail, ensure};
+use pools::{FixedPool, PoolSet};
+use ras_core::{Config, ConfigParts, Event, Moment, Networks, Zone};
+use ras_module::{Address, EndpointId, Name, Octets, Source};
+use std::alloc::Global;
+
+/// A datagram of the endpoint with this number.
+pub fn datagram(number: u16, octets: Octets, moment: Moment) -> Event {
+    let from: Source = Address {
+        ip: address_of(number),
+        port: 1719,
+    };
+    Event::Datagram(from, octets, moment)
+}
+
+/// A zone without endpoints over one pool, whose tables are as large as they may be.
+pub fn zone_of(alloc: Global) -> Result<Zone<FixedPool>> {
+    let identifier = Name::new(&[103, 107]).context("a name")?;
+    let address = Address {
+        ip: [10, 0, 0, 1],
+        port: 1719,
+    };
+    let mut networks = Vec::new(alloc);
+    networks.push(None)?;
+    let mut parts = ConfigParts::new(identifier, address, Networks::from_vec(networks));
+    parts.limit = 1_000_000_000;
+    parts.time_to_live = 3_600;
+    parts.endpoints = 20_000;
+    parts.calls = 20_000;
+    parts.kept = 65_536;
+    let config = Config::new(parts)?;
+    let mut pools = Vec::new(alloc);
+    pools.push(FixedPool::new(1_000_000_000))?;
+    let Ok(set) = PoolSet::new(pools) else {
+        bail!("the pool isn't idle");
+    };
+    match Zone::new(alloc, config, set) {
+        Ok(zone) => Ok(zone),
+        Err(_) => bail!("no zone was made"),
+    }
+}
+
+/// The octets of an identifier of four characters.
+fn octets_of(identifier: &EndpointId) -> Result<[u8; 8]> {
+    let [a, b, c, d] = identifier.as_slice() else {
+        bail!("an identifier hasn't four characters");
+    };
+    let ([a, e], [b, f]) = (a.to_be_bytes(), b.to_be_bytes());
+    let ([c, g], [d, h]) = (c.to_be_bytes(), d.to_be_bytes());
+    Ok([a, e, b, f, c, g, d, h])
+}
+
+/// The endpoint with this number registers.
+fn register(alloc: Global, zone: &mut Zone<FixedPool>, number: u16) -> Result<Endpoint> {
+    let octets = registration(alloc, number)?;
+    let outcome = zone.step(datagram(number, octets, Moment::START))?;
+    let given = outcome.given.context("an endpoint isn't registered")?;
+    Ok(Endpoint {
+        number,
+        identifier: octets_of(&given)?,
+    })
+}
+
+/// So many endpoints register.
+pub fn register_all(
+    alloc: Global,
+    zone: &mut Zone<FixedPool>,
+    count: usize,
+) -> Result<Vec<Endpoint>> {
+    ensure!(0 < count && count <= 20_000, "ENDPOINTS is 1 to 20000");
+    let mut endpoints = Vec::new(alloc);
+    for number in 0..count as u16 {
+        endpoints.push(register(alloc, zone, number)?)?;
+    }
+    Ok(endpoints)
+}
