@@ -3,19 +3,26 @@
 //! leaves the zone as it was, a call of a table its table, and the same call with memory then
 //! gives the answer that it would have given.
 //!
-//! Its input is a script, which it runs step by step, or at once behind a line `run`, and whose lines it
-//! prints; where there is no script, the tables and the values have their turn. First it asks for memory
-//! once for each empty line at the head of the input, and at last once more. `rt try` refuses the request of
-//! one number in all runs of one build: with more and more empty lines each request of the trials is refused
-//! in turn, up to the one behind them, which ends the program with a status of its own. `./check` runs it so.
+//! Its input is a script, whose lines it prints. It runs it step by step; behind a line `run`, at
+//! once; behind a line `world`, by the workers of a world; behind a line `book`, step by step and
+//! recorded in a book, which is then run again. If there is no script, the tables and the values have
+//! their turn.
+//!
+//! First it asks for memory once for each empty line at the head of the input, and at last once
+//! more. `rt try` refuses the request of one number in all runs of one build: with more and more
+//! empty lines each request of the trials is refused in turn, up to the one behind them, which ends
+//! the program with a status of its own. `./check` runs it so.
 #![tactic(auto)]
 
 ghost use Rattle.std.specs.Prelude.{◌≤◌, IfOk};
 
 mod copies;
 mod meter;
+mod records;
 mod rehearsal;
+mod sights;
 mod tables;
+mod worlds;
 
 use rehearsal::{Way, rehearse};
 use std::alloc::Global;
@@ -23,7 +30,7 @@ use std::io::Read;
 use std::process::ExitCode;
 
 /// The octets that the input has at most.
-const MOST: usize = 8192;
+const MOST: usize = 32_768;
 
 /// The exit status where the request behind the trials is refused.
 const REFUSED_BEHIND: u8 = 3;
@@ -36,7 +43,7 @@ fn is_given(alloc: Global) -> bool {
 
 /// Reads the input, octet by octet, and answers how many it has. This takes no memory.
 fn read_input(reader: &mut impl Read, text: &mut [u8; MOST]) -> Result<usize, &'static str>
-    ensures { IfOk result (λ length. length ≤ 8192) }
+    ensures { IfOk result (λ length. length ≤ 32768) }
 {
     let mut octet = [0; 1];
     for i in 0..MOST {
@@ -49,7 +56,8 @@ fn read_input(reader: &mut impl Read, text: &mut [u8; MOST]) -> Result<usize, &'
     Err("the input is too long")
 }
 
-/// Asks for memory once for each empty line at the head of the input, and answers what is behind them.
+/// Asks for memory once for each empty line at the head of the input, and returns what is behind
+/// them.
 fn ask_before(alloc: Global, text: &[u8]) -> &[u8] {
     let lines = text
         .iter()
@@ -69,6 +77,21 @@ fn try_parts(alloc: Global) -> Result<(), &'static str> {
     copies::copies(alloc)
 }
 
+/// The script without its first line, if that names the way in which it is run.
+fn way_of(script: &[u8]) -> (&[u8], Way) {
+    let ways: [(&[u8], Way); 3] = [
+        (b"run\n", Way::Run),
+        (b"world\n", Way::World),
+        (b"book\n", Way::Book),
+    ];
+    for (line, way) in ways {
+        if let Some(script) = script.strip_prefix(line) {
+            return (script, way);
+        }
+    }
+    (script, Way::Steps)
+}
+
 fn run(rt: &(impl Input + Print), alloc: Global) -> Result<(), &'static str> {
     let mut text = [0; MOST];
     let length = read_input(&mut rt.reader(), &mut text)?;
@@ -76,10 +99,8 @@ fn run(rt: &(impl Input + Print), alloc: Global) -> Result<(), &'static str> {
     if script.is_empty() {
         return try_parts(alloc);
     }
-    match script.strip_prefix(b"run\n") {
-        Some(script) => rehearse(rt, alloc, script, Way::Run),
-        None => rehearse(rt, alloc, script, Way::Steps),
-    }
+    let (script, way) = way_of(script);
+    rehearse(rt, alloc, script, way)
 }
 
 fn main(rt: HostRuntime) -> ExitCode {

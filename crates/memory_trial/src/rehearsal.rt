@@ -1,6 +1,9 @@
-//! Scripts that are run while memory is refused: step by step, and as a run.
+//! Scripts that are run while memory is refused: step by step, as a run, by the workers of a world,
+//! and recorded in a book.
 
 use crate::meter::Metered;
+use crate::records::keep_book;
+use crate::worlds::act_out;
 use pools::{Pool, PoolSet, StandardPool};
 use ras_core::{Event, Outcome, StepFault, Zone};
 use registrations::Registration;
@@ -40,13 +43,17 @@ pub enum Way {
     Steps,
     /// All at once.
     Run,
+    /// By the workers of a world in turn.
+    World,
+    /// One by one, recorded in a book that is then run again.
+    Book,
 }
 
 /// A zone, and a meter that shows what its pools have lent.
 #[derive(Drop)]
-struct Stage<P: Pool> {
-    zone: Zone<Metered<P>>,
-    meter: Arc<AtomicU64>,
+pub struct Stage<P: Pool> {
+    pub zone: Zone<Metered<P>>,
+    pub meter: Arc<AtomicU64>,
 }
 
 impl<P: Pool> Stage<P> {
@@ -68,7 +75,7 @@ fn is_same(one: &Registration, other: &Registration) -> bool {
         && one.asked == other.asked
 }
 
-fn are_same(some: &[Registration], others: &[Registration]) -> bool {
+pub fn are_same(some: &[Registration], others: &[Registration]) -> bool {
     if some.len() != others.len() {
         return false;
     }
@@ -80,8 +87,8 @@ fn are_same(some: &[Registration], others: &[Registration]) -> bool {
     true
 }
 
-/// One step. Where it is refused for want of memory, the zone is as it was: its clock, its steps, its
-/// endpoints, its calls and what its pools have lent.
+/// One step. Where it is refused for want of memory, the zone is as it was: its clock, its steps,
+/// its endpoints, its calls and what its pools have lent.
 fn try_step<P: Pool>(stage: &mut Stage<P>, event: &Event) -> Result<Outcome, Trouble> {
     let event = event.copy()?;
     let endpoints = stage.zone.endpoints()?;
@@ -107,7 +114,7 @@ fn try_step<P: Pool>(stage: &mut Stage<P>, event: &Event) -> Result<Outcome, Tro
 }
 
 /// One step, which is made again where it was refused.
-fn step<P: Pool>(stage: &mut Stage<P>, event: &Event) -> Result<Outcome, &'static str> {
+pub fn step<P: Pool>(stage: &mut Stage<P>, event: &Event) -> Result<Outcome, &'static str> {
     for _ in 0..TRIES {
         match try_step(stage, event) {
             Ok(outcome) => return Ok(outcome),
@@ -133,8 +140,8 @@ fn steps<P: Pool>(
     Ok(())
 }
 
-/// A run over the events. Where it is refused, the steps before the event that its fault names stand, and it
-/// goes on from there.
+/// A run over the events. Where it is refused, the steps before the event that its fault names
+/// stand, and it goes on from there.
 fn run<P: Pool>(
     stage: &mut Stage<P>,
     events: &[Event],
@@ -191,6 +198,23 @@ fn stage_of<P: Pool>(
     Ok((Stage { zone, meter }, events.into_vec()))
 }
 
+/// Hands the events to the zone.
+fn hand_over<P: Pool>(
+    alloc: Global,
+    stage: Stage<P>,
+    events: &[Event],
+    outcomes: &mut Vec<Outcome>,
+    way: Way,
+) -> Result<(), &'static str> {
+    let mut stage = stage;
+    match way {
+        Way::Steps => steps(&mut stage, events, outcomes),
+        Way::Run => run(&mut stage, events, outcomes),
+        Way::World => act_out(alloc, stage, events, outcomes),
+        Way::Book => keep_book(alloc, &mut stage, events, outcomes),
+    }
+}
+
 /// Runs a script over these pools, and prints the lines of its outcomes.
 fn perform<P: Pool>(
     rt: &impl Print,
@@ -199,13 +223,9 @@ fn perform<P: Pool>(
     pools: Vec<P>,
     way: Way,
 ) -> Result<(), Trouble> {
-    let (mut stage, events) = stage_of(alloc, script, pools)?;
+    let (stage, events) = stage_of(alloc, script, pools)?;
     let mut outcomes = Vec::with_capacity(alloc, events.len())?;
-    let done = match way {
-        Way::Steps => steps(&mut stage, &events, &mut outcomes),
-        Way::Run => run(&mut stage, &events, &mut outcomes),
-    };
-    if let Err(told) = done {
+    if let Err(told) = hand_over(alloc, stage, &events, &mut outcomes, way) {
         return Err(Trouble::Otherwise(told));
     }
     write_outcomes(&outcomes, &mut io::writer(rt)).map_err(|_| Trouble::Otherwise(
@@ -221,8 +241,8 @@ fn script_of(alloc: Global, text: &[u8]) -> Result<Script, Trouble> {
     }
 }
 
-/// Makes the pools of a script, and runs it over them. The program makes them so too: no library may make
-/// a box and hand it out.
+/// Makes the pools of a script, and runs it over them. The program makes them so too: no library may
+/// make a box and hand it out.
 fn try_rehearsal(rt: &impl Print, alloc: Global, text: &[u8], way: Way) -> Result<(), Trouble> {
     let script = script_of(alloc, text)?;
     let mut pools: Vec<Box<dyn Pool + Send>> = Vec::new(alloc);
