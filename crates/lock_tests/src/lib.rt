@@ -1,0 +1,15 @@
+//! Tests of a zone's lock with its history, over public calls: seats, lists, chapters, and threads.
+#![tactic(auto)]
+
+#[cfg(test)]
+mod audits;
+#[cfg(test)]
+mod chapters;
+#[cfg(test)]
+mod fixtures;
+#[cfg(test)]
+mod locks;
+#[cfg(test)]
+mod seats;
+#[cfg(test)]
+mod threads;

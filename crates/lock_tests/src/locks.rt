@@ -1,0 +1,76 @@
+//! Locks over the zone of the worked examples.
+
+ghost use Rattle.std.specs.Prelude.{◌≡◌};
+
+use crate::chapters::has_chapters;
+use crate::fixtures::zone;
+use crate::seats::{are_listed, are_seated, is_short_of_a_seat};
+use crate::threads::are_all_entered;
+use pools::FixedPool;
+use ras_core::Zone;
+use std::alloc::Global;
+use std::marker::Brand;
+use std::sync::Wait;
+use std::sync::ledger::Ledger;
+use std::thread::Threads;
+use zone_lock::{Blanks, Hall, OpenFault, ZoneLock};
+
+/// What is done with a lock.
+#[derive(Clone, Copy)]
+pub enum Deed {
+    Nothing,
+    TwoSeats,
+    Listing,
+    SeatMissing,
+    Chapters,
+    Threads,
+}
+
+/// Whether a lock of so many seats over a zone of its own passes what is done with it: false, if it
+/// isn't made for their number, and None, if memory is out.
+pub fn passes<R: Threads + Wait + Sync>(
+    rt: &R,
+    alloc: Global,
+    seats: usize,
+    deed: Deed,
+) -> Option<bool> {
+    let zone = zone(alloc)?;
+    let blanks = Blanks::new(seats);
+    open_and_do::<Brand, Brand, Brand, R>(rt, alloc, zone, seats, blanks, deed)
+}
+
+/// The ledgers are the caller's to pick.
+fn open_and_do<
+    D: Hall + Send + Sync,
+    T: Ledger + Send + Sync,
+    U: Ledger + Send + Sync,
+    R: Threads + Wait + Sync,
+>(
+    rt: &R,
+    alloc: Global,
+    zone: Zone<FixedPool>,
+    seats: usize,
+    blanks: Blanks,
+    deed: Deed,
+) -> Option<bool>
+    requires datagrams { (blanks.datagrams.name ≡ D.name)
+        × (blanks.datagrams.parts ≡ D.parts) × (D.parts ≡ seats) }
+    requires turns { (blanks.turns.name ≡ T.name)
+        × (blanks.turns.parts ≡ T.parts) × (T.parts ≡ seats) }
+    requires lent { (blanks.lent.name ≡ U.name)
+        × (blanks.lent.parts ≡ U.parts) × (U.parts ≡ seats) }
+    requires opened { (D.all ≡ seats) × (D.opened ≡ zone.state) }
+{
+    match ZoneLock::<FixedPool, D, T, U>::open(alloc, zone, seats, blanks) {
+        Ok((lock, seats)) => match deed {
+            Deed::Nothing => Some(true),
+            Deed::TwoSeats => are_seated(rt, alloc, lock, seats),
+            Deed::Listing => are_listed(rt, alloc, lock, seats),
+            Deed::SeatMissing => is_short_of_a_seat(lock, seats),
+            Deed::Chapters => has_chapters(rt, alloc, lock, seats),
+            Deed::Threads => are_all_entered(rt, alloc, lock, seats),
+        },
+        Err((_, OpenFault::BadSeats)) => Some(false),
+        Err((_, OpenFault::Memory)) => None,
+    }
+}
