@@ -3,15 +3,18 @@
 
 mod replays;
 mod requests;
+mod snapshots;
 mod zones;
 
 use anyhow::{Context, Result, bail};
+use snapshots::Sizes;
 use std::alloc::Global;
 use std::env;
 use std::rt::Env;
 use std::time::Clock;
 
-const USAGE: &str = "usage: benchmarks replays [ENDPOINTS STEPS]";
+const USAGE: &str =
+    "usage: benchmarks replays [ENDPOINTS STEPS] | snapshot ENDPOINTS CALLS REPLIES";
 
 /// Measures what the command line names, and prints what it finds. Without a word it does nothing.
 fn main(rt: HostRuntime) -> Result<()> {
@@ -28,6 +31,17 @@ fn chosen(rt: &(impl Clock + Print), alloc: Global, words: &[String]) -> Result<
             let endpoints = endpoints.parse::<usize>().context("ENDPOINTS")?;
             let steps = steps.parse::<usize>().context("STEPS")?;
             replays::measure(rt, alloc, endpoints, steps)
+        }
+        [_, name, endpoints, calls, replies] if name.as_str() == "snapshot" => {
+            let endpoints = endpoints.parse::<usize>().context("ENDPOINTS")?;
+            let calls = calls.parse::<usize>().context("CALLS")?;
+            let replies = replies.parse::<usize>().context("REPLIES")?;
+            let sizes = Sizes {
+                endpoints,
+                calls,
+                replies,
+            };
+            snapshots::measure(rt, alloc, sizes)
         }
         _ => bail!("{USAGE}"),
     }
