@@ -10,6 +10,7 @@ use Rattle.zone_config.specs.Networks.{is_too_long}
 use Rattle.zone_config.specs.Ranges.{IsConfig}
 use Rattle.settings.specs.ServeKeys.{takes}
 use Rattle.settings.specs.declared.serve_key.ServeKey.TheVariants.{Receivers, Ring, Faults, Tick}
+use Rattle.settings.specs.declared.serve_key.ServeKey.TheVariants.{Buffer}
 
 -- the settings of a zone whose one pool serves every address
 abbrev pub with_one_pool : ConfigParts → ConfigParts
@@ -37,11 +38,12 @@ pub record IsPoolEntry (entry : PoolEntry) : Type 0 where
   pub bits : is_too_long entry.1 ≡ false
 
 -- the numbers of the server are in their ranges
-pub record AreServeNumbers (receivers ring faults tick : ℕ) : Type 0 where
+pub record AreServeNumbers (receivers ring faults tick buffer : ℕ) : Type 0 where
   pub receivers_range : takes Receivers receivers ≡ true
   pub ring_range : takes Ring ring ≡ true
   pub faults_range : takes Faults faults ≡ true
   pub tick_range : takes Tick tick ≡ true
+  pub buffer_range : takes Buffer buffer ≡ true
 
 -- as many pools as networks, one to sixteen, each with a limit in its range
 pub record ArePools (pools : List PoolSpec) (networks : List (Option Network)) : Type 0 where

@@ -2,6 +2,7 @@
 use Rattle.std.specs.Prelude.{ℕ, Bool, ◌++◌, List, [], ◌∷◌, nat_le, ◌&&◌, codes}
 use Rattle.settings.specs.declared.serve_key.ServeKey.{ServeKey}
 use Rattle.settings.specs.declared.serve_key.ServeKey.TheVariants.{Receivers, Ring, Faults, Tick}
+use Rattle.settings.specs.declared.serve_key.ServeKey.TheVariants.{Buffer}
 
 -- the row of a key in the table: its name, the least and the greatest number that it takes, and its
 -- number where nothing is set
@@ -20,6 +21,7 @@ row_of Receivers = row_with (codes "receivers") 1 15 4
 row_of Ring = row_with (codes "ring") 1 4096 64
 row_of Faults = row_with (codes "faults") 1 1000 16
 row_of Tick = row_with (codes "tick") 1 60000 20
+row_of Buffer = row_with (codes "buffer") 0 1073741823 8388608
 
 abbrev pub name_of : ServeKey → List ℕ
 name_of key = (row_of key).name
@@ -39,7 +41,7 @@ path_of key = codes "serve." ++ name_of key
 
 -- the order in which they are tested
 abbrev pub all_serve_keys : List ServeKey
-all_serve_keys = Receivers ∷ Ring ∷ Faults ∷ Tick ∷ []
+all_serve_keys = Receivers ∷ Ring ∷ Faults ∷ Tick ∷ Buffer ∷ []
 
 -- the number lies in the range of the key
 abbrev pub takes : ServeKey → ℕ → Bool

@@ -5,6 +5,7 @@ use Rattle.settings.specs.declared.fault.Refusal.{Refusal}
 use Rattle.settings.specs.declared.serve.ServeNumbers.{ServeNumbers}
 use Rattle.settings.specs.declared.serve_key.ServeKey.{ServeKey}
 use Rattle.settings.specs.declared.serve_key.ServeKey.TheVariants.{Receivers, Ring, Faults, Tick}
+use Rattle.settings.specs.declared.serve_key.ServeKey.TheVariants.{Buffer}
 use Rattle.settings.specs.declared.setting_key.SettingKey.TheVariants.{ServeTable, Serve}
 use Rattle.settings.specs.ServeKeys.{name_of, least_of, most_of, default_of}
 use Rattle.settings.specs.Ranges.{AreServeNumbers}
@@ -23,7 +24,14 @@ serve_numbers table = do
   ring ← serve_number table Ring
   faults ← serve_number table Faults
   tick ← serve_number table Tick
-  Ok (record { receivers = receivers; ring = ring; faults = faults; tick = tick })
+  buffer ← serve_number table Buffer
+  Ok (record {
+    receivers = receivers;
+    ring = ring;
+    faults = faults;
+    tick = tick;
+    buffer = buffer;
+  })
 
 abbrev pub default_numbers : ServeNumbers
 default_numbers = record {
@@ -31,6 +39,7 @@ default_numbers = record {
   ring = default_of Ring;
   faults = default_of Faults;
   tick = default_of Tick;
+  buffer = default_of Buffer;
 }
 
 -- the defaults stand in for a table that isn't there
@@ -42,4 +51,5 @@ serve_of (Some value) = do
 
 -- the numbers are in their ranges
 abbrev pub AreInRange : ServeNumbers → Type 0
-AreInRange numbers = AreServeNumbers numbers.receivers numbers.ring numbers.faults numbers.tick
+AreInRange numbers =
+    AreServeNumbers numbers.receivers numbers.ring numbers.faults numbers.tick numbers.buffer

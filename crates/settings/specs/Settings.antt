@@ -14,6 +14,7 @@ use Rattle.settings.specs.declared.fault.SettingsFault.TheVariants.{Syntax, Memo
 use Rattle.settings.specs.declared.serve.ServeNumbers.{ServeNumbers}
 use Rattle.settings.specs.declared.serve_key.ServeKey.{ServeKey}
 use Rattle.settings.specs.declared.serve_key.ServeKey.TheVariants.{Receivers, Ring, Faults, Tick}
+use Rattle.settings.specs.declared.serve_key.ServeKey.TheVariants.{Buffer}
 use Rattle.settings.specs.declared.setting_key.SettingKey.TheVariants.{ZoneTable}
 use Rattle.settings.specs.declared.settings.Settings.{Settings}
 use Rattle.settings.specs.Faults.{Tells}
@@ -45,6 +46,7 @@ settings_from (Some config) serve pools = Ok (record {
   ring = serve.ring;
   faults = serve.faults;
   tick = serve.tick;
+  buffer = serve.buffer;
 })
 
 abbrev pub settings_with : ConfigParts → ServeNumbers → List PoolEntry → Result Settings Refusal
@@ -81,9 +83,11 @@ serve_number_in settings Receivers = settings.receivers
 serve_number_in settings Ring = settings.ring
 serve_number_in settings Faults = settings.faults
 serve_number_in settings Tick = settings.tick
+serve_number_in settings Buffer = settings.buffer
 
 -- each number is in its range
 pub record AreSettings (settings : Settings) : Type 0 where
   pub zone : IsConfig settings.config
   pub pools : ArePools settings.pools settings.config.networks
   pub serve : AreServeNumbers settings.receivers settings.ring settings.faults settings.tick
+      settings.buffer

@@ -20,6 +20,7 @@ pub(crate) struct ServeNumbers {
     pub(crate) ring: u64,
     pub(crate) faults: u64,
     pub(crate) tick: u64,
+    pub(crate) buffer: u64,
 }
 
 impl ServeNumbers {
@@ -33,6 +34,7 @@ impl ServeNumbers {
             ring: ServeKey::Ring.default(),
             faults: ServeKey::Faults.default(),
             tick: ServeKey::Tick.default(),
+            buffer: ServeKey::Buffer.default(),
         }
     }
 }
@@ -54,11 +56,13 @@ fn numbers_in(serve: &Table) -> Result<ServeNumbers, Refusal>
     let ring = serve_number(serve, ServeKey::Ring)?;
     let faults = serve_number(serve, ServeKey::Faults)?;
     let tick = serve_number(serve, ServeKey::Tick)?;
+    let buffer = serve_number(serve, ServeKey::Buffer)?;
     Ok(ServeNumbers {
         receivers,
         ring,
         faults,
         tick,
+        buffer,
     })
 }
 

@@ -14,6 +14,9 @@ pub enum ServeKey {
     Faults,
     /// How long it is from one look at what is due to the next, in milliseconds.
     Tick,
+    /// How many octets of datagrams that aren't received yet the system is asked to hold; 0: as many as
+    /// it holds by itself.
+    Buffer,
 }
 
 /// The row of a key in the table of settings.
@@ -46,11 +49,12 @@ impl Row {
 
 impl ServeKey {
     /// The keys, in the order in which they are tested.
-    pub const ALL: [ServeKey; 4] = [
+    pub const ALL: [ServeKey; 5] = [
         ServeKey::Receivers,
         ServeKey::Ring,
         ServeKey::Faults,
         ServeKey::Tick,
+        ServeKey::Buffer,
     ];
 
     /// Its name, its path, the least and the greatest number that it takes, and its default.
@@ -66,6 +70,7 @@ impl ServeKey {
             ServeKey::Ring => Row::new("ring", "serve.ring", 1, 4_096, 64),
             ServeKey::Faults => Row::new("faults", "serve.faults", 1, 1_000, 16),
             ServeKey::Tick => Row::new("tick", "serve.tick", 1, 60_000, 20),
+            ServeKey::Buffer => { Row::new("buffer", "serve.buffer", 0, 1_073_741_823, 8_388_608) }
         }
     }
 

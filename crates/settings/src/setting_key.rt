@@ -37,7 +37,7 @@ pub(crate) enum SettingKey {
 
 impl SettingKey {
     /// The tables and keys, in the order in which they are tested.
-    pub(crate) const ALL: [SettingKey; 27] = [
+    pub(crate) const ALL: [SettingKey; 28] = [
         SettingKey::ZoneTable,
         SettingKey::Identifier,
         SettingKey::Address,
@@ -59,6 +59,7 @@ impl SettingKey {
         SettingKey::Serve(ServeKey::Ring),
         SettingKey::Serve(ServeKey::Faults),
         SettingKey::Serve(ServeKey::Tick),
+        SettingKey::Serve(ServeKey::Buffer),
         SettingKey::Pools,
         SettingKey::PoolKind,
         SettingKey::PoolLimit,

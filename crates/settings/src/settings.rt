@@ -37,6 +37,9 @@ pub struct Settings {
     pub faults: u64,
     /// How long it is from one look at what is due to the next, in milliseconds: 1 to 60000.
     pub tick: u64,
+    /// How many octets of datagrams that aren't received yet the system is asked to hold: 1 to
+    /// 1073741823, or 0 for as many as it holds by itself.
+    pub buffer: u64,
 }
 
 impl Settings {
@@ -49,6 +52,7 @@ impl Settings {
             ServeKey::Ring => self.ring as u64,
             ServeKey::Faults => self.faults,
             ServeKey::Tick => self.tick,
+            ServeKey::Buffer => self.buffer,
         }
     }
 }
@@ -107,6 +111,7 @@ fn settings_with(
         ring: serve.ring as usize,
         faults: serve.faults,
         tick: serve.tick,
+        buffer: serve.buffer,
     })
 }
 

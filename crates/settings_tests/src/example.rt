@@ -17,6 +17,7 @@ fn are_defaults(settings: &Settings) -> bool {
         == (ServeKey::Receivers.default(), ServeKey::Ring.default())
         && (settings.faults, settings.tick)
             == (ServeKey::Faults.default(), ServeKey::Tick.default())
+        && settings.buffer == ServeKey::Buffer.default()
 }
 
 /// Whether these are the address and the pool of the example.
@@ -53,7 +54,7 @@ fn the_example_sets_each_number_to_its_default(rt: HostRuntime) -> Result<(), Fa
         Err(_) => false,
     };
     assert!(rt; passed);
-    assert_eq!(rt; keys_written(), 18);
+    assert_eq!(rt; keys_written(), 19);
     Ok(())
 }
 
@@ -123,6 +124,11 @@ faults = 16
 
 # How long it is from one look at what is due to the next: 1 to 60000 milliseconds.
 tick = 20
+
+# How many octets of datagrams that weren't received yet the system is asked to hold: 1 to 1073741823,
+# or 0 for as many as it holds by itself. The default holds a storm of 20000 registrations; the system
+# may have a smaller limit of its own (on Linux net.core.rmem_max), and `serve` warns if it does.
+buffer = 8388608
 
 # The pools that lend calls their bandwidth: 1 to 16 tables `[[pool]]`. A call has its bandwidth
 # from the first pool whose network holds the address of the endpoint that opens it. The last pool

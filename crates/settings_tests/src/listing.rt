@@ -46,6 +46,7 @@ serve.receivers = 4  # the default
 serve.ring = 4096
 serve.faults = 16  # the default
 serve.tick = 20  # the default
+serve.buffer = 8388608  # the default
 [[pool]]
 kind = \"step\"
 limit = 8

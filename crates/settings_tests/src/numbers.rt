@@ -5,30 +5,34 @@ use std::alloc::{AllocError, Global};
 use std::test::Fail;
 use zone_config::Key;
 
-/// A number of the zone: its name, its path, the greatest number that it takes, and its default;
-/// the least is 1.
-const ZONE: [(&str, &str, u64, u64); 13] = [
-    ("limit", "zone.limit", 1_000_000_000_000, 100_000),
-    ("call_limit", "zone.call_limit", 4_294_967_295, 20_000),
-    ("time_to_live", "zone.time_to_live", 4_294_967_295, 60),
-    ("endpoints", "zone.endpoints", 20_000, 1_000),
-    ("calls", "zone.calls", 20_000, 1_000),
-    ("kept", "zone.kept", 65_536, 4_096),
-    ("window", "zone.window", 3_600_000, 10_000),
-    ("silence", "zone.silence", 3_600_000, 30_000),
-    ("delay", "zone.delay", 65_535, 500),
-    ("retries", "zone.retries", 16, 3),
-    ("asks", "zone.asks", 16, 3),
-    ("ask_wait", "zone.ask_wait", 3_600_000, 5_000),
-    ("pool_turn", "zone.pool_turn", 86_400_000, 1_000),
+/// A number that is set: its name, its path, the least and the greatest number that it takes, and its
+/// default.
+type Row = (&'static str, &'static str, u64, u64, u64);
+
+/// The numbers of the zone.
+const ZONE: [Row; 13] = [
+    ("limit", "zone.limit", 1, 1_000_000_000_000, 100_000),
+    ("call_limit", "zone.call_limit", 1, 4_294_967_295, 20_000),
+    ("time_to_live", "zone.time_to_live", 1, 4_294_967_295, 60),
+    ("endpoints", "zone.endpoints", 1, 20_000, 1_000),
+    ("calls", "zone.calls", 1, 20_000, 1_000),
+    ("kept", "zone.kept", 1, 65_536, 4_096),
+    ("window", "zone.window", 1, 3_600_000, 10_000),
+    ("silence", "zone.silence", 1, 3_600_000, 30_000),
+    ("delay", "zone.delay", 1, 65_535, 500),
+    ("retries", "zone.retries", 1, 16, 3),
+    ("asks", "zone.asks", 1, 16, 3),
+    ("ask_wait", "zone.ask_wait", 1, 3_600_000, 5_000),
+    ("pool_turn", "zone.pool_turn", 1, 86_400_000, 1_000),
 ];
 
-/// A number of the server, in the same way.
-const SERVE: [(&str, &str, u64, u64); 4] = [
-    ("receivers", "serve.receivers", 15, 4),
-    ("ring", "serve.ring", 4_096, 64),
-    ("faults", "serve.faults", 1_000, 16),
-    ("tick", "serve.tick", 60_000, 20),
+/// The numbers of the server.
+const SERVE: [Row; 5] = [
+    ("receivers", "serve.receivers", 1, 15, 4),
+    ("ring", "serve.ring", 1, 4_096, 64),
+    ("faults", "serve.faults", 1, 1_000, 16),
+    ("tick", "serve.tick", 1, 60_000, 20),
+    ("buffer", "serve.buffer", 0, 1_073_741_823, 8_388_608),
 ];
 
 /// The settings of a text with this value under this key, of `[zone]` or of `[serve]`.
@@ -82,20 +86,17 @@ fn number_read(
 }
 
 /// Whether the numbers of this row are read, and those beyond its range and other kinds refused.
-fn row_holds(
-    alloc: Global,
-    is_zone: bool,
-    row: (&str, &'static str, u64, u64),
-) -> Result<bool, AllocError> {
-    let (name, path, most, _) = row;
-    for number in [1, most] {
+fn row_holds(alloc: Global, is_zone: bool, row: Row) -> Result<bool, AllocError> {
+    let (name, path, least, most, _) = row;
+    for number in [least, most] {
         if number_read(alloc, is_zone, name, number)? != Some(number) {
             return Ok(false);
         }
     }
     let beyond = format!(in alloc; "{}", most.saturating_add(1))?;
+    let below = if least == 0 { "-1" } else { "0" };
     let outside = Some(SettingsFault::OutOfRange(path));
-    for value in ["0", "-1", beyond.as_str(), "9223372036854775807"] {
+    for value in [below, "-1", beyond.as_str(), "9223372036854775807"] {
         if fault_with(alloc, is_zone, name, value)? != outside {
             return Ok(false);
         }
@@ -126,12 +127,8 @@ fn each_number_of_the_server_is_read_in_its_range(rt: HostRuntime) -> Result<(),
 }
 
 /// The name of the first number that isn't its default.
-fn first_other<'a>(
-    settings: &Settings,
-    is_zone: bool,
-    rows: &[(&'a str, &str, u64, u64)],
-) -> &'a str {
-    for (name, _, _, default) in rows {
+fn first_other(settings: &Settings, is_zone: bool, rows: &[Row]) -> &'static str {
+    for (name, _, _, _, default) in rows {
         if number_in(settings, is_zone, name) != Some(*default) {
             return name;
         }
@@ -155,14 +152,15 @@ fn a_number_that_is_not_set_is_its_default(rt: HostRuntime) -> Result<(), Fail> 
 
 #[test]
 fn the_keys_of_the_server_have_their_rows(rt: HostRuntime) {
-    for (place, (name, path, most, default)) in SERVE.iter().enumerate() {
+    for (place, (name, path, least, most, default)) in SERVE.iter().enumerate() {
         let key = ServeKey::ALL[place];
         assert_eq!(rt; key.name(), *name);
         assert_eq!(rt; key.path(), *path);
-        assert_eq!(rt; key.least(), 1);
+        assert_eq!(rt; key.least(), *least);
         assert_eq!(rt; key.most(), *most);
         assert_eq!(rt; key.default(), *default);
-        assert!(rt; key.takes(1) && key.takes(*most));
-        assert!(rt; !key.takes(0) && !key.takes(key.most() + 1));
+        assert!(rt; key.takes(*least) && key.takes(*most));
+        assert!(rt; *least == 0 || !key.takes(*least - 1));
+        assert!(rt; !key.takes(key.most() + 1));
     }
 }
