@@ -1,7 +1,7 @@
 //! The lock.
 
 ghost use Rattle.std.specs.Prelude.{◌≡◌, ◌≢◌, ◌≤◌, ◌+◌, ◌<◌, ℕ, Some, slice_get, sum_by, vec_len};
-ghost use Rattle.std.specs.Prelude.{IfOk, IfErr, OnOk, OnErr, vec_capacity, ◌⊎◌};
+ghost use Rattle.std.specs.Prelude.{◌^◌, length, IfOk, IfErr, OnOk, OnErr, vec_capacity, ◌⊎◌};
 ghost use Rattle.ras_machine.specs.Soundness.{Sound};
 ghost use Rattle.books.specs.Books.{BookRun};
 ghost use Rattle.books.specs.Totals.{datagrams_of, lent_of, returned_by, turns_of};
@@ -182,6 +182,7 @@ impl<P: Pool, D: Hall, T: Ledger, U: Ledger> ZoneLock<P, D, T, U> {
         ensures sound { IfOk result (λ f. Sound f.zone.state) }
         ensures opened { IfOk result (λ f. f.first ≡ 0 → f.base ≡ D.opened) }
         ensures first { IfOk result (λ f. f.carried.datagrams + f.carried.turns ≡ f.first) }
+        ensures few { IfOk result (λ f. f.first + length f.entries ≤ 2 ^ 62) }
         ensures datagrams { IfOk result (λ f.
             f.carried.datagrams + datagrams_of f.entries
             ≡ sum_by (λ s. s.datagrams) seats.items) }
