@@ -1,0 +1,31 @@
+//! Clocks of tests.
+
+use ras_core::Moment;
+use std::alloc::Global;
+use std::sync::atomic::{AtomicU64, Ordering};
+use udp_server::Moments;
+
+/// A clock that stands still, and counts how often it is read.
+#[derive(Drop)]
+pub struct Still<'a> {
+    reads: Option<&'a AtomicU64>,
+}
+
+impl Moments for Still<'_> {
+    fn now(&mut self) -> Moment {
+        if let Some(reads) = self.reads {
+            reads.fetch_add(1, Ordering::SeqCst);
+        }
+        Moment::START
+    }
+}
+
+/// A clock for each of so many receiving ends, and one whose reads are counted for the timers.
+pub fn clocks<'a>(alloc: Global, ends: usize, reads: &'a AtomicU64) -> Option<Vec<Still<'a>>> {
+    let mut clocks = Vec::new(alloc);
+    for _end in 0..ends {
+        clocks.push(Still { reads: None }).ok()?;
+    }
+    clocks.push(Still { reads: Some(reads) }).ok()?;
+    Some(clocks)
+}

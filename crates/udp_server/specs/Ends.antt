@@ -1,0 +1,14 @@
+-- What the ends of a server give, and how their failed calls are counted.
+use Rattle.std.specs.Prelude.{◌≤◌, ◌+◌, ℕ, min}
+use Rattle.udp_server.specs.declared.datagrams.Received.{Received}
+use Rattle.udp_server.specs.declared.datagrams.Received.TheVariants.{Datagram, Quiet, Stopped}
+
+-- a datagram that was received lies within the buffer
+abbrev pub IsWithin : Received → Type 0
+IsWithin (Datagram source octets) = octets ≤ 4097
+IsWithin Quiet = Unit {0}
+IsWithin Stopped = Unit {0}
+
+-- the count after one failed call more: at the greatest number it stays there
+abbrev pub fault_count : ℕ → ℕ
+fault_count before = min (before + 1) 18446744073709551615

@@ -1,0 +1,5 @@
+pub mod Ends
+pub mod Faults
+pub mod Plans
+pub mod Rooms
+pub mod Served

@@ -1,0 +1,103 @@
+//! What the threads of a server tell one another: when they begin, how many workers have ended, and that
+//! a reply waits for the sender.
+
+use std::rt::Clock;
+use std::sync::{Condvar, Mutex, Wait};
+use std::thread::Parker;
+use std::time::Duration;
+
+/// Whether the workers may begin.
+#[derive(Clone, Copy, PartialEq, Eq)]
+enum Start {
+    Awaited,
+    Given,
+    Cancelled,
+}
+
+/// What the threads of a server tell one another.
+#[derive(Drop)]
+pub(crate) struct Board {
+    start: Mutex<Start>,
+    started: Condvar,
+    ended: Mutex<usize>,
+    ending: Condvar,
+    sender: Parker,
+}
+
+impl Board {
+    /// No worker may begin yet, and none has ended.
+    pub(crate) fn new() -> Board {
+        Board {
+            start: Mutex::new(Start::Awaited),
+            started: Condvar::new(),
+            ended: Mutex::new(0),
+            ending: Condvar::new(),
+            sender: Parker::new(),
+        }
+    }
+
+    /// Lets the workers begin.
+    pub(crate) fn start(&self, rt: &impl Wait) {
+        self.tell(rt, Start::Given);
+    }
+
+    /// Lets the workers end without having begun.
+    pub(crate) fn cancel(&self, rt: &impl Wait) {
+        self.tell(rt, Start::Cancelled);
+    }
+
+    fn tell(&self, rt: &impl Wait, start: Start) {
+        *self.start.lock(rt) = start;
+        self.started.notify_all();
+    }
+
+    /// Waits until the workers may begin, or are cancelled. Whether they may begin.
+    pub(crate) fn may_begin(&self, rt: &impl Wait) -> bool {
+        let start = self.started.wait_while(
+            rt,
+            self.start.lock(rt),
+            |start| matches!(*start, Start::Awaited),
+        );
+        matches!(*start, Start::Given)
+    }
+
+    /// Tells the sender that a reply waits.
+    pub(crate) fn wake_sender(&self) {
+        self.sender.unpark();
+    }
+
+    /// Waits for a reply, or for the end of a worker. It returns at once where there was one since it
+    /// returned last.
+    pub(crate) fn wait_for_reply(&self, rt: &impl Wait) {
+        self.sender.park(rt);
+    }
+
+    /// One more worker has ended: it hands nothing more to the sender.
+    pub(crate) fn end(&self, rt: &impl Wait) {
+        let mut ended = self.ended.lock(rt);
+        *ended = ended.saturating_add(1);
+        drop(ended);
+        self.ending.notify_all();
+        self.sender.unpark();
+    }
+
+    /// Whether so many workers have ended.
+    pub(crate) fn have_ended(&self, rt: &impl Wait, workers: usize) -> bool {
+        *self.ended.lock(rt) >= workers
+    }
+
+    /// Waits for a tick, or until so many workers have ended. Whether they have.
+    pub(crate) fn wait_for_tick<R: Wait + Clock>(
+        &self,
+        rt: &R,
+        workers: usize,
+        tick: Duration,
+    ) -> bool {
+        let ended = self.ended.lock(rt);
+        let (ended, waited) = self
+            .ending
+            .wait_timeout_while(rt, ended, tick, |ended| *ended < workers);
+        drop(ended);
+        !waited.timed_out()
+    }
+}

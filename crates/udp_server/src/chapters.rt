@@ -1,0 +1,77 @@
+//! The chapters of the history that end while a server runs.
+
+ghost use Rattle.std.specs.Prelude.{◌<◌, OnOk, vec_capacity, vec_len};
+
+use crate::gate::Gate;
+use crate::plan::Plan;
+use crate::worker::Shared;
+use books::Chapter;
+use pools::Pool;
+use std::alloc::{AllocError, Global};
+use std::sync::Wait;
+use std::sync::ledger::Ledger;
+use zone_lock::Hall;
+
+/// The latest chapters, and the place of the first entry behind them.
+#[derive(Drop)]
+pub(crate) struct Chapters {
+    latest: Vec<Chapter>,
+    first: usize,
+}
+
+impl Chapters {
+    /// No chapter has ended.
+    pub(crate) fn new(alloc: Global) -> Chapters {
+        Chapters {
+            latest: Vec::new(alloc),
+            first: 0,
+        }
+    }
+
+    /// Ends a chapter where one is due by the plan: a step was the entry at this place.
+    pub(crate) fn end_if_due<P: Pool, D: Hall, T: Ledger, U: Ledger, R: Wait, G: Gate>(
+        &mut self,
+        shared: &Shared<'_, P, D, T, U, R, G>,
+        place: usize,
+    ) -> Result<(), AllocError> {
+        let entries = place.saturating_sub(self.first).saturating_add(1);
+        if shared.plan.chapter == 0 || entries < shared.plan.chapter {
+            return Ok(());
+        }
+        self.make_room(shared.plan)?;
+        let chapter = shared.lock.cut(shared.rt)?;
+        self.first = chapter.first().saturating_add(chapter.entries().len());
+        self.keep(shared.plan, chapter);
+        Ok(())
+    }
+
+    /// Makes room for a chapter, where it is to be kept beside those that are there.
+    fn make_room(&mut self, plan: Plan) -> Result<(), AllocError>
+        ensures { OnOk result (vec_len self.new.latest < plan.latest
+            → vec_len self.new.latest < vec_capacity self.new.latest) }
+    {
+        if self.latest.len() < plan.latest {
+            self.latest.reserve(1)?;
+        }
+        Ok(())
+    }
+
+    /// Keeps a chapter, and lets the oldest one go where there are as many as are kept.
+    fn keep(&mut self, plan: Plan, chapter: Chapter)
+        requires { vec_len self.old.latest < plan.latest
+            → vec_len self.old.latest < vec_capacity self.old.latest }
+    {
+        if plan.latest == 0 {
+            return;
+        }
+        if self.latest.len() >= plan.latest {
+            let _ = self.latest.remove(0);
+        }
+        self.latest.push_reserved(chapter);
+    }
+
+    /// The latest chapters, in order.
+    pub(crate) fn into_latest(self) -> Vec<Chapter> {
+        self.latest
+    }
+}

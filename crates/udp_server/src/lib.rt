@@ -1,0 +1,25 @@
+//! The server of a zone behind a lock: a worker for each end that receives datagrams, one worker for the
+//! turns of the timers, and a sender. Each worker makes its steps under the lock and hands replies to the
+//! sender over a ring of its own.
+#![tactic(auto)]
+
+mod board;
+mod chapters;
+mod datagrams;
+mod expiry_worker;
+mod gate;
+mod moments;
+mod plan;
+mod receiver;
+mod report;
+mod sender;
+mod server;
+mod threads;
+mod worker;
+
+pub use datagrams::{Datagrams, DeviceFault, MOST_RECEIVED, Received};
+pub use gate::{Gate, Open, Stage};
+pub use moments::Moments;
+pub use plan::Plan;
+pub use report::{Report, ServeFault};
+pub use server::{serve, serve_zone};

@@ -1,0 +1,92 @@
+//! The workers that receive datagrams.
+
+use crate::datagrams::{Datagrams, DeviceFault, MOST_RECEIVED, Received};
+use crate::gate::Gate;
+use crate::moments::Moments;
+use crate::worker::{Shared, Stepped, Worked, Worker};
+use pools::Pool;
+use ras_core::Event;
+use ras_module::{Octets, Source};
+use std::alloc::{AllocError, Global};
+use std::sync::Wait;
+use std::sync::ledger::Ledger;
+use zone_config::Moment;
+use zone_lock::Hall;
+
+/// An end that receives, with what it received last, and how many receives in a row have failed.
+#[derive(Drop)]
+struct Receiver<N: Datagrams> {
+    end: N,
+    buffer: [u8; MOST_RECEIVED],
+    row: u64,
+}
+
+/// Receives datagrams and makes a step for each, until the end has stopped, too many receives in a row
+/// have failed, or no step may be made any more.
+pub(crate) fn work<
+    P: Pool,
+    D: Hall,
+    T: Ledger,
+    U: Ledger,
+    R: Wait,
+    N: Datagrams,
+    G: Gate,
+    C: Moments,
+>(shared: &Shared<'_, P, D, T, U, R, G>, end: N, worker: Worker<D, T, U, C>) -> Worked<D, T, U> {
+    let mut worker = worker;
+    let mut receiver = Receiver {
+        end,
+        buffer: [0; MOST_RECEIVED],
+        row: 0,
+    };
+    if shared.board.may_begin(shared.rt) {
+        for _ in shared.rt.forever() {
+            if !goes_on(shared, &mut receiver, &mut worker) {
+                break;
+            }
+        }
+    }
+    worker.end(shared, Vec::new(shared.alloc))
+}
+
+/// Waits for a datagram, and makes its step. Whether the worker goes on.
+fn goes_on<P: Pool, D: Hall, T: Ledger, U: Ledger, R: Wait, N: Datagrams, G: Gate, C: Moments>(
+    shared: &Shared<'_, P, D, T, U, R, G>,
+    receiver: &mut Receiver<N>,
+    worker: &mut Worker<D, T, U, C>,
+) -> bool {
+    match receiver.end.receive(&mut receiver.buffer) {
+        Ok(Received::Stopped) => false,
+        Ok(Received::Quiet) => {
+            receiver.row = 0;
+            true
+        }
+        Ok(Received::Datagram(source, length)) => {
+            receiver.row = 0;
+            let moment = worker.clock.now();
+            match event_of(shared.alloc, source, &receiver.buffer[..length], moment) {
+                Ok(event) => !matches!(worker.step(shared, event), Stepped::Closed),
+                Err(AllocError) => {
+                    worker.counts.refuse();
+                    true
+                }
+            }
+        }
+        Err(DeviceFault) => {
+            worker.counts.faults = worker.counts.faults.saturating_add(1);
+            receiver.row = receiver.row.saturating_add(1);
+            receiver.row < shared.plan.faults
+        }
+    }
+}
+
+/// The event of a datagram.
+fn event_of(
+    alloc: Global,
+    source: Source,
+    octets: &[u8],
+    moment: Moment,
+) -> Result<Event, AllocError> {
+    let octets = Octets::from_vec(Vec::from_slice(alloc, octets)?);
+    Ok(Event::Datagram(source, octets, moment))
+}

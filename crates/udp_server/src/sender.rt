@@ -1,0 +1,70 @@
+//! The sender.
+
+use crate::board::Board;
+use crate::datagrams::{Datagrams, DeviceFault};
+use reply_queues::Inlet;
+use std::sync::Wait;
+
+/// An end that sends, and how many replies were sent and how many sends have failed.
+#[derive(Drop)]
+struct Sender<N: Datagrams> {
+    end: N,
+    sent: Sent,
+}
+
+/// How many replies were sent, and how many sends have failed. A count at `u64::MAX` stays there.
+#[derive(Clone, Copy)]
+pub(crate) struct Sent {
+    pub(crate) replies: u64,
+    pub(crate) faults: u64,
+}
+
+/// Sends what the workers hand over, until so many of them have ended and their rings are empty.
+pub(crate) fn send_all<R: Wait, N: Datagrams>(
+    rt: &R,
+    board: &Board,
+    workers: usize,
+    inlets: Vec<Inlet>,
+    end: N,
+) -> Sent {
+    let mut inlets = inlets;
+    let mut sender = Sender {
+        end,
+        sent: Sent {
+            replies: 0,
+            faults: 0,
+        },
+    };
+    let mut is_last = false;
+    for _ in rt.forever() {
+        if sender.has_sent(&mut inlets) {
+            continue;
+        }
+        if is_last {
+            break;
+        }
+        // Who has ended hands nothing over any more, so one more look at the rings is the last one.
+        is_last = board.have_ended(rt, workers);
+        if !is_last {
+            board.wait_for_reply(rt);
+        }
+    }
+    sender.sent
+}
+
+impl<N: Datagrams> Sender<N> {
+    /// Sends the next reply of each ring. Whether there was any.
+    fn has_sent(&mut self, inlets: &mut [Inlet]) -> bool {
+        let mut is_any = false;
+        for inlet in inlets.iter_mut() {
+            if let Some(reply) = inlet.take() {
+                is_any = true;
+                match self.end.send(&reply) {
+                    Ok(()) => self.sent.replies = self.sent.replies.saturating_add(1),
+                    Err(DeviceFault) => self.sent.faults = self.sent.faults.saturating_add(1),
+                }
+            }
+        }
+        is_any
+    }
+}

@@ -1,0 +1,285 @@
+//! Running a server.
+
+ghost use Rattle.std.specs.Prelude.{◌≡◌, ◌≢◌, ◌≤◌, ◌+◌, ◌^◌, ◌↔◌, Err, IfOk, length, vec_len};
+ghost use Rattle.books.specs.Totals.{datagrams_of, turns_of};
+ghost use Rattle.udp_server.specs.Faults.{AreCounts};
+ghost use Rattle.udp_server.specs.Plans.{IsPlan};
+ghost use Rattle.udp_server.specs.Served.{IsServed};
+
+use crate::board::Board;
+use crate::datagrams::Datagrams;
+use crate::gate::Gate;
+use crate::moments::Moments;
+use crate::plan::Plan;
+use crate::report::{Report, ServeFault};
+use crate::sender::Sent;
+use crate::threads::{Crew, Ran, run};
+use crate::worker::{Counts, Shared, Worked, Worker};
+use books::{Chapter, Finished, Receipt, totals_of};
+use pools::Pool;
+use ras_core::Zone;
+use reply_queues::{Outlet, rings};
+use std::alloc::{AllocError, Global};
+use std::marker::Brand;
+use std::rt::Clock;
+use std::sync::Wait;
+use std::sync::ledger::Ledger;
+use std::thread::Threads;
+use zone_lock::{Blanks, Hall, OpenFault, Seat, ZoneLock};
+
+/// Serves the zone of a lock until each receiving end has stopped. It takes all seats of the lock: one
+/// for each receiving end, in order, and the last one for the turns of the timers; and a clock for each
+/// seat. What is refused is let go.
+pub fn serve<
+    P: Pool + Send,
+    D: Hall + Send + Sync,
+    T: Ledger + Send + Sync,
+    U: Ledger + Send + Sync,
+    R: Threads + Wait + Clock + Sync,
+    N: Datagrams + Send,
+    G: Gate + Sync,
+    C: Moments + Send,
+>(
+    rt: &R,
+    alloc: Global,
+    lock: ZoneLock<P, D, T, U>,
+    seats: Vec<Seat<D, T, U>>,
+    receivers: Vec<N>,
+    sender: N,
+    gate: &G,
+    clocks: Vec<C>,
+    plan: Plan,
+) -> Result<Report<P>, ServeFault>
+    requires seats { (vec_len seats ≡ D.all) × (vec_len seats ≤ 16) }
+    requires parts { (D.parts ≡ D.all) × (T.parts ≡ D.all) × (U.parts ≡ D.all) }
+    requires plan { IsPlan plan }
+    ensures served { IfOk result (λ r. IsServed D.opened r.finished r.datagrams r.turns) }
+    ensures wrong_counts { (result ≡ Err ServeFault.WrongCounts)
+        ↔ ¬ AreCounts (vec_len seats) (vec_len receivers) (vec_len clocks) }
+{
+    let count = seats.len();
+    if receivers.len() >= count || receivers.len() + 1 != count || clocks.len() != count {
+        return Err(ServeFault::WrongCounts);
+    }
+    let Ok((outlets, inlets)) = rings(alloc, count, plan.ring) else {
+        return Err(ServeFault::Memory);
+    };
+    let Ok(crew) = crew_of(alloc, seats, receivers, clocks, outlets) else {
+        return Err(ServeFault::Memory);
+    };
+    let board = Board::new();
+    let shared = Shared {
+        rt,
+        alloc,
+        lock: &lock,
+        board: &board,
+        gate,
+        plan,
+    };
+    match run(&shared, crew, inlets, sender) {
+        Ok(ran) => report_of(alloc, lock, ran),
+        Err(AllocError) => Err(ServeFault::Memory),
+    }
+}
+
+/// Who makes steps: each has its seat, its clock and its ring.
+fn crew_of<D: Hall, T: Ledger, U: Ledger, N: Datagrams, C: Moments>(
+    alloc: Global,
+    seats: Vec<Seat<D, T, U>>,
+    receivers: Vec<N>,
+    clocks: Vec<C>,
+    outlets: Vec<Outlet>,
+) -> Result<Crew<D, T, U, N, C>, AllocError> {
+    let mut workers = Vec::with_capacity(alloc, seats.len())?;
+    let parts = seats.into_iter().zip(clocks).zip(outlets);
+    for (number, ((seat, clock), outlet)) in parts.enumerate() {
+        let worker = Worker {
+            number,
+            seat,
+            clock,
+            outlet,
+            receipts: Vec::new(alloc),
+            counts: Counts::NONE,
+        };
+        workers.push(worker).map_err(AllocError::from)?;
+    }
+    let expiry = workers.pop().ok_or(AllocError)?;
+    Ok(Crew {
+        receivers,
+        workers,
+        expiry,
+    })
+}
+
+/// What all workers leave together.
+#[derive(Drop)]
+struct Left<D: Hall, T: Ledger, U: Ledger> {
+    seats: Vec<Seat<D, T, U>>,
+    receipts: Vec<Receipt>,
+    chapters: Vec<Chapter>,
+    counts: Counts,
+}
+
+fn left_by<D: Hall, T: Ledger, U: Ledger>(
+    alloc: Global,
+    worked: Vec<Worked<D, T, U>>,
+) -> Result<Left<D, T, U>, AllocError> {
+    let mut left = Left {
+        seats: Vec::with_capacity(alloc, worked.len())?,
+        receipts: Vec::new(alloc),
+        chapters: Vec::new(alloc),
+        counts: Counts::NONE,
+    };
+    for one in worked {
+        let Worked {
+            seat,
+            mut receipts,
+            mut chapters,
+            counts,
+        } = one;
+        left.seats.push(seat).map_err(AllocError::from)?;
+        left.receipts.append(&mut receipts)?;
+        left.chapters.append(&mut chapters)?;
+        left.counts = left.counts.and(counts);
+    }
+    Ok(left)
+}
+
+/// The report of what the threads left, with the zone that is taken out of its lock.
+fn report_of<P: Pool, D: Hall, T: Ledger, U: Ledger>(
+    alloc: Global,
+    lock: ZoneLock<P, D, T, U>,
+    ran: Ran<D, T, U>,
+) -> Result<Report<P>, ServeFault>
+    requires parts { (D.parts ≡ D.all) × (T.parts ≡ D.all) × (U.parts ≡ D.all) }
+    ensures served { IfOk result (λ r. IsServed D.opened r.finished r.datagrams r.turns) }
+    ensures counts { result ≢ Err ServeFault.WrongCounts }
+{
+    let Ran { worked, sent } = ran;
+    match left_by(alloc, worked) {
+        Ok(left) => report_with(lock, left, sent),
+        Err(AllocError) => Err(ServeFault::Memory),
+    }
+}
+
+fn report_with<P: Pool, D: Hall, T: Ledger, U: Ledger>(
+    lock: ZoneLock<P, D, T, U>,
+    left: Left<D, T, U>,
+    sent: Sent,
+) -> Result<Report<P>, ServeFault>
+    requires parts { (D.parts ≡ D.all) × (T.parts ≡ D.all) × (U.parts ≡ D.all) }
+    ensures served { IfOk result (λ r. IsServed D.opened r.finished r.datagrams r.turns) }
+    ensures counts { result ≢ Err ServeFault.WrongCounts }
+{
+    let Left {
+        seats,
+        receipts,
+        chapters,
+        counts,
+    } = left;
+    let Ok(finished) = lock.finish(seats) else {
+        return Err(ServeFault::NotFinished);
+    };
+    let (datagrams, turns) = counted(&finished);
+    Ok(Report {
+        datagrams,
+        turns,
+        sent: sent.replies,
+        dropped: counts.dropped,
+        refused: counts.refused,
+        receive_faults: counts.faults,
+        send_faults: sent.faults,
+        finished,
+        chapters,
+        receipts,
+    })
+}
+
+/// How many datagrams and how many turns a whole history has.
+fn counted<P: Pool>(finished: &Finished<P>) -> (u64, u64)
+    requires first { finished.now.carried.datagrams + finished.now.carried.turns
+        ≡ finished.now.first }
+    requires few { finished.now.first + length finished.now.entries ≤ 2 ^ 62 }
+    ensures datagrams { result.0
+        ≡ finished.now.carried.datagrams + datagrams_of finished.now.entries }
+    ensures turns { result.1 ≡ finished.now.carried.turns + turns_of finished.now.entries }
+{
+    let carried = finished.carried();
+    let since = totals_of(finished.entries());
+    (
+        carried.datagrams + since.datagrams,
+        carried.turns + since.turns,
+    )
+}
+
+/// Puts a zone behind a lock and serves it: a seat for each receiving end, and one for the turns of the
+/// timers.
+pub fn serve_zone<
+    P: Pool + Send,
+    R: Threads + Wait + Clock + Sync,
+    N: Datagrams + Send,
+    G: Gate + Sync,
+    C: Moments + Send,
+>(
+    rt: &R,
+    alloc: Global,
+    zone: Zone<P>,
+    receivers: Vec<N>,
+    sender: N,
+    gate: &G,
+    clocks: Vec<C>,
+    plan: Plan,
+) -> Result<Report<P>, ServeFault>
+    requires plan { IsPlan plan }
+    ensures served { IfOk result (λ r. IsServed zone.state r.finished r.datagrams r.turns) }
+{
+    if receivers.len() > 15 {
+        return Err(ServeFault::WrongCounts);
+    }
+    let seats = receivers.len() + 1;
+    let blanks = Blanks::new(seats);
+    open_and_serve::<P, Brand, Brand, Brand, R, N, G, C>(
+        rt, alloc, zone, seats, blanks, receivers, sender, gate, clocks, plan,
+    )
+}
+
+/// The ledgers are the caller's to pick.
+fn open_and_serve<
+    P: Pool + Send,
+    D: Hall + Send + Sync,
+    T: Ledger + Send + Sync,
+    U: Ledger + Send + Sync,
+    R: Threads + Wait + Clock + Sync,
+    N: Datagrams + Send,
+    G: Gate + Sync,
+    C: Moments + Send,
+>(
+    rt: &R,
+    alloc: Global,
+    zone: Zone<P>,
+    seats: usize,
+    blanks: Blanks,
+    receivers: Vec<N>,
+    sender: N,
+    gate: &G,
+    clocks: Vec<C>,
+    plan: Plan,
+) -> Result<Report<P>, ServeFault>
+    requires datagrams { (blanks.datagrams.name ≡ D.name)
+        × (blanks.datagrams.parts ≡ D.parts) × (D.parts ≡ seats) }
+    requires turns { (blanks.turns.name ≡ T.name)
+        × (blanks.turns.parts ≡ T.parts) × (T.parts ≡ seats) }
+    requires lent { (blanks.lent.name ≡ U.name)
+        × (blanks.lent.parts ≡ U.parts) × (U.parts ≡ seats) }
+    requires opened { (D.all ≡ seats) × (D.opened ≡ zone.state) }
+    requires plan { IsPlan plan }
+    ensures served { IfOk result (λ r. IsServed zone.state r.finished r.datagrams r.turns) }
+{
+    match ZoneLock::<P, D, T, U>::open(alloc, zone, seats, blanks) {
+        Ok((lock, seats)) => serve(
+            rt, alloc, lock, seats, receivers, sender, gate, clocks, plan,
+        ),
+        Err((_, OpenFault::BadSeats)) => Err(ServeFault::WrongCounts),
+        Err((_, OpenFault::Memory)) => Err(ServeFault::Memory),
+    }
+}

@@ -1,0 +1,238 @@
+//! One who makes steps of the zone, and hands the replies to the sender.
+
+ghost use Rattle.std.specs.Prelude.{◌≡◌, IfOk};
+ghost use Rattle.std.specs.Option.{ForSome};
+ghost use Rattle.ras_machine.specs.Steps.{HasFewOctets};
+ghost use Rattle.udp_server.specs.Rooms.{IsRoom};
+
+use crate::board::Board;
+use crate::gate::{Gate, Stage};
+use crate::moments::Moments;
+use crate::plan::Plan;
+use books::{Chapter, Receipt};
+use pools::Pool;
+use ras_core::{Event, Outcome, Prepared, StepFault, prepare};
+use reply_queues::Outlet;
+use std::alloc::{AllocError, Global};
+use std::sync::Wait;
+use std::sync::ledger::Ledger;
+use zone_events::{Datagram, Note};
+use zone_lock::{Hall, Seat, ZoneLock};
+
+/// The most octets of a reply.
+const MOST_SENT: usize = 20_000;
+
+/// What all threads of a server share.
+#[derive(Drop)]
+pub(crate) struct Shared<'a, P: Pool, D: Hall, T: Ledger, U: Ledger, R, G> {
+    pub(crate) rt: &'a R,
+    pub(crate) alloc: Global,
+    pub(crate) lock: &'a ZoneLock<P, D, T, U>,
+    pub(crate) board: &'a Board,
+    pub(crate) gate: &'a G,
+    pub(crate) plan: Plan,
+}
+
+/// What a worker counts. A count at `u64::MAX` stays there.
+#[derive(Clone, Copy)]
+pub(crate) struct Counts {
+    /// Replies that found no place in the ring.
+    pub(crate) dropped: u64,
+    /// Steps and chapters that weren't made for want of memory.
+    pub(crate) refused: u64,
+    /// Receives that failed.
+    pub(crate) faults: u64,
+}
+
+impl Counts {
+    pub(crate) const NONE: Counts = Counts {
+        dropped: 0,
+        refused: 0,
+        faults: 0,
+    };
+
+    /// One step or chapter more was refused.
+    pub(crate) fn refuse(&mut self) {
+        self.refused = self.refused.saturating_add(1);
+    }
+
+    /// What both count together.
+    pub(crate) fn and(self, more: Counts) -> Counts {
+        Counts {
+            dropped: self.dropped.saturating_add(more.dropped),
+            refused: self.refused.saturating_add(more.refused),
+            faults: self.faults.saturating_add(more.faults),
+        }
+    }
+}
+
+/// One who makes steps.
+#[derive(Drop)]
+pub(crate) struct Worker<D: Hall, T: Ledger, U: Ledger, C: Moments> {
+    pub(crate) number: usize,
+    pub(crate) seat: Seat<D, T, U>,
+    pub(crate) clock: C,
+    pub(crate) outlet: Outlet,
+    pub(crate) receipts: Vec<Receipt>,
+    pub(crate) counts: Counts,
+}
+
+/// What a worker leaves at its end.
+#[derive(Drop)]
+pub(crate) struct Worked<D: Hall, T: Ledger, U: Ledger> {
+    pub(crate) seat: Seat<D, T, U>,
+    pub(crate) receipts: Vec<Receipt>,
+    pub(crate) chapters: Vec<Chapter>,
+    pub(crate) counts: Counts,
+}
+
+/// What came of a worker's step.
+#[derive(Clone, Copy)]
+pub(crate) enum Stepped {
+    /// It is the entry at this place of the history; whether nothing was due.
+    Made { place: usize, is_idle: bool },
+    /// There was no memory for it.
+    Refused,
+    /// As many steps were made as there may be.
+    Closed,
+}
+
+impl<D: Hall, T: Ledger, U: Ledger, C: Moments> Worker<D, T, U, C> {
+    /// Makes the step of an event, and hands its reply to the sender. What is needed of memory is
+    /// there before the step.
+    pub(crate) fn step<P: Pool, R: Wait, G: Gate>(
+        &mut self,
+        shared: &Shared<'_, P, D, T, U, R, G>,
+        event: Event,
+    ) -> Stepped {
+        match self.ready(shared, event) {
+            Ok((prepared, buffer)) => self.apply(shared, prepared, buffer),
+            Err(AllocError) => {
+                self.counts.refuse();
+                Stepped::Refused
+            }
+        }
+    }
+
+    /// Reads the datagram of an event, and makes room for a receipt and for the copy of a reply where
+    /// receipts are kept.
+    fn ready<P: Pool, R: Wait, G: Gate>(
+        &mut self,
+        shared: &Shared<'_, P, D, T, U, R, G>,
+        event: Event,
+    ) -> Result<(Prepared, Option<Vec<u8>>), AllocError>
+        ensures { IfOk result (λ ready. ForSome ready.1 (λ buffer.
+            IsRoom buffer self.new.receipts)) }
+    {
+        let prepared = prepare(shared.alloc, event)?;
+        if !shared.plan.receipts {
+            return Ok((prepared, None));
+        }
+        self.receipts.reserve(1)?;
+        let buffer = Vec::with_capacity(shared.alloc, MOST_SENT)?;
+        Ok((prepared, Some(buffer)))
+    }
+
+    /// Makes a step that is prepared.
+    #[tactic(auto, using(crate::proofs::Steps::few_of))]
+    fn apply<P: Pool, R: Wait, G: Gate>(
+        &mut self,
+        shared: &Shared<'_, P, D, T, U, R, G>,
+        prepared: Prepared,
+        buffer: Option<Vec<u8>>,
+    ) -> Stepped
+        requires { ForSome buffer (λ buffer. IsRoom buffer self.old.receipts) }
+    {
+        shared.gate.pass(self.number, Stage::BeforeApply);
+        let receipt = match shared.lock.apply(shared.rt, &mut self.seat, prepared) {
+            Ok(receipt) => receipt,
+            Err(StepFault::Memory) => {
+                self.counts.refuse();
+                return Stepped::Refused;
+            }
+            Err(StepFault::Closed) => return Stepped::Closed,
+        };
+        shared.gate.pass(self.number, Stage::AfterApply);
+        let place = receipt.place;
+        let is_idle = matches!(receipt.outcome.note, Note::Idle);
+        if let Some(reply) = self.reply_of(receipt, buffer) {
+            self.post(shared, reply);
+        }
+        shared.gate.pass(self.number, Stage::AfterPost);
+        Stepped::Made { place, is_idle }
+    }
+
+    /// What is sent; the receipt is kept where there is a buffer for the copy of that.
+    fn reply_of(&mut self, receipt: Receipt, buffer: Option<Vec<u8>>) -> Option<Datagram>
+        requires few { HasFewOctets receipt.outcome.output }
+        requires room { ForSome buffer (λ buffer. IsRoom buffer self.old.receipts) }
+        ensures { result ≡ receipt.outcome.output }
+    {
+        let Some(buffer) = buffer else {
+            return output_of(receipt);
+        };
+        let reply = match &receipt.outcome.output {
+            Some(output) => Some(output.copy_into(buffer)),
+            None => None,
+        };
+        self.receipts.push_reserved(receipt);
+        reply
+    }
+
+    /// Hands a reply to the sender. One that finds no place in the ring is dropped.
+    fn post<P: Pool, R: Wait, G: Gate>(
+        &mut self,
+        shared: &Shared<'_, P, D, T, U, R, G>,
+        reply: Datagram,
+    ) {
+        if self.outlet.offer(reply).is_err() {
+            self.counts.dropped = self.counts.dropped.saturating_add(1);
+        }
+        shared.board.wake_sender();
+    }
+
+    /// Hands nothing more to the sender, and says so.
+    pub(crate) fn end<P: Pool, R: Wait, G: Gate>(
+        self,
+        shared: &Shared<'_, P, D, T, U, R, G>,
+        chapters: Vec<Chapter>,
+    ) -> Worked<D, T, U> {
+        let Worker {
+            number: _,
+            seat,
+            clock: _,
+            outlet,
+            receipts,
+            counts,
+        } = self;
+        let _ = outlet.end();
+        shared.board.end(shared.rt);
+        Worked {
+            seat,
+            receipts,
+            chapters,
+            counts,
+        }
+    }
+}
+
+/// What is sent by a step.
+fn output_of(receipt: Receipt) -> Option<Datagram>
+    ensures { result ≡ receipt.outcome.output }
+{
+    let Receipt {
+        seat: _,
+        call: _,
+        place: _,
+        event: _,
+        outcome,
+    } = receipt;
+    let Outcome {
+        answer: _,
+        output,
+        note: _,
+        dropped: _,
+        given: _,
+    } = outcome;
+    output
+}

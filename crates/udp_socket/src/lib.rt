@@ -1,0 +1,12 @@
+//! A UDP socket over IPv4, bound to the address of a zone, with the ends by which a server receives and
+//! sends over it.
+#![tactic(auto)]
+
+mod addresses;
+mod bound_socket;
+mod end;
+mod stop;
+
+pub use bound_socket::{BindFault, BoundSocket, bind_zone};
+pub use end::SocketEnd;
+pub use stop::Stop;
