@@ -7,6 +7,6 @@ use Rattle.udp_server.proofs.server.open_and_serve.Goals as goal
 pub returns-in-Ok : goal.returns-in-Ok
 returns-in-Ok g c = record {
   served = subst
-  (λ (s : State). IfOk c.serve.result (λ r. IsServed s r.finished r.datagrams r.turns))
-  c.requires.opened.1 c.serve.ensures.served;
+      (λ (s : State). IfOk c.serve.result (λ r. IsServed s r.finished r.datagrams r.turns))
+      c.requires.opened.1 c.serve.ensures.served;
 }
