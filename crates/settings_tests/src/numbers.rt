@@ -94,9 +94,11 @@ fn row_holds(alloc: Global, is_zone: bool, row: Row) -> Result<bool, AllocError>
         }
     }
     let beyond = format!(in alloc; "{}", most.saturating_add(1))?;
-    let below = if least == 0 { "-1" } else { "0" };
     let outside = Some(SettingsFault::OutOfRange(path));
-    for value in [below, "-1", beyond.as_str(), "9223372036854775807"] {
+    if least > 0 && fault_with(alloc, is_zone, name, "0")? != outside {
+        return Ok(false);
+    }
+    for value in ["-1", beyond.as_str(), "9223372036854775807"] {
         if fault_with(alloc, is_zone, name, value)? != outside {
             return Ok(false);
         }
