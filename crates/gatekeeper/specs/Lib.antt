@@ -1,2 +1,3 @@
-pub mod Checks
+pub mod Inputs
 pub mod Replays
+pub mod Serves

@@ -62,7 +62,7 @@ fn run_made<P: Pool, W: Write + Drop>(
 }
 
 /// The pools that are described, in order, each of its kind and with nothing lent.
-fn pools_of(alloc: Global, specs: &[PoolSpec]) -> Result<Vec<StandardPool>, AllocError>
+pub(crate) fn pools_of(alloc: Global, specs: &[PoolSpec]) -> Result<Vec<StandardPool>, AllocError>
     ensures { IfOk result (λ pools. pools.items ≡ map pool_of specs.now) }
 {
     let mut pools = Vec::new(alloc);

@@ -1,19 +1,26 @@
 //! The command line.
 
 use clap::error::ErrorKind;
-use clap::{Arg, ArgAction, ArgMatches, Command, Error};
+use clap::{Arg, ArgMatches, Command, Error, value_parser};
 use std::alloc::{AllocError, Global};
 
 /// What the words of the command line ask for.
 #[derive(Clone, Copy)]
-pub enum Choice<'a> {
+pub enum Choice {
     /// A replay of the script on standard input.
     Replay,
-    /// A check of the settings in the file of this name.
-    CheckSettings(&'a str),
+    /// A check of the settings on standard input.
+    CheckSettings,
+    /// Serving with the settings on standard input; each thread receives so often, if a number is given.
+    Serve(Option<u64>),
     /// Nothing more: help or a fault in the words was printed, and this is the exit status.
     Done(u8),
 }
+
+/// The option of `serve` that limits how often a thread receives, and how often at most.
+const RECEIVES: &str = "receives";
+
+const MOST_RECEIVES: i64 = 1_000_000;
 
 const ABOUT: &str = "\
 A gatekeeper for one H.323 zone. H.323 is the ITU's standard for calls over packet networks:
@@ -95,69 +102,108 @@ memory, 4 a standard stream failed. Status 1, 3 and 4 come with one line on stan
 `line N: not understood` names the first line that is none of the above, stands in the wrong
 place, or has a number out of its range.";
 
-const CHECK_ABOUT: &str = "Checks a file of settings, and prints what is wrong with it";
+const CHECK_ABOUT: &str = "Checks settings, and prints them or what is wrong with them";
 
 const CHECK_LONG_ABOUT: &str = "\
-Reads a file of settings, a TOML document of the tables [zone], [serve] and [[pool]]. Where it can
-be used as it stands, that is printed, with a warning for each key that isn't known: its line, and
-the known key that it most resembles. Such keys are passed over. examples/gatekeeper.toml has every
-key, with its meaning, its range and its default.";
+Reads settings on standard input, as `serve` reads them: a TOML document of the tables [zone], [serve]
+and [[pool]]. If they can be used as they stand, each key is printed with its value, and whether that
+is its default. A key that isn't known is passed over, with a warning on standard error that tells its
+line and the known key that it most resembles. examples/gatekeeper.toml has every key, with its
+meaning, its range and its default:
+  gatekeeper check-settings < examples/gatekeeper.toml";
 
 const CHECK_HELP: &str = "\
-The file is UTF-8, of at most 1,048,576 octets. It is refused as a whole, with one line on standard
-error, where it is no TOML document (`settings: 1 Syntax`, with the line and the column), or by the
-first key that fails, with its line where that is found:
+Settings are UTF-8, of at most 1,048,576 octets. They are refused as a whole, with one line on standard
+error, if they are no TOML document (`settings: 1 Syntax`, with the line and the column), or by the
+first key that fails:
   settings: 2 Missing KEY      the key is required, and isn't there
   settings: 3 WrongKind KEY    it is of another kind, as a text in place of a number
   settings: 4 OutOfRange KEY   it is out of its range, or is no address, network or kind of pool
   settings: 5 NoDefaultPool    there is no pool, or the last one has a network
 
 Exit status: 0 well-formed, with warnings or without, 1 the settings were refused, 2 wrong words on
-the command line, 3 out of memory, 4 the file can't be read or a standard stream failed.";
+the command line, 3 out of memory, 4 a standard stream failed.";
 
-fn matched<'a>(alloc: Global, words: &'a [String]) -> Result<ArgMatches<'a>, Error> {
-    let file = Arg::new(alloc, "FILE")
-        .required(true)
-        .action(ArgAction::Set)
-        .help("the file of settings");
-    let check = Command::new(alloc, "check-settings")
+const SERVE_ABOUT: &str = "Serves a zone over UDP";
+
+const SERVE_LONG_ABOUT: &str = "\
+Reads settings on standard input, binds the zone's address and answers the datagrams that arrive there,
+until it is asked to end. A line on standard error tells that it serves. docs/OPERATING.md leads from
+the settings to a first call:
+  gatekeeper serve < examples/gatekeeper.toml";
+
+const SERVE_HELP: &str = "\
+Settings are UTF-8, of at most 1,048,576 octets. They are refused as a whole, with one line on standard
+error, if they are no TOML document (`settings: 1 Syntax`, with the line and the column), or by the
+first key that fails:
+  settings: 2 Missing KEY      the key is required, and isn't there
+  settings: 3 WrongKind KEY    it is of another kind, as a text in place of a number
+  settings: 4 OutOfRange KEY   it is out of its range, or is no address, network or kind of pool
+  settings: 5 NoDefaultPool    there is no pool, or the last one has a network
+
+It ends in good order at SIGTERM or SIGINT, if it was started with these blocked, as `./gatekeeper`
+starts it, or once each receiving thread has received N times. Then it prints how many datagrams and
+turns of the timers there were; how many replies were sent, and how many were dropped, since too many
+of them waited; how many steps were refused for want of memory; and how many receives and sends failed.
+
+Exit status: 0 done, 1 the settings were refused, 2 wrong words on the command line, 3 out of memory,
+4 the address can't be bound, or a standard stream failed.";
+
+fn replay_command<'a>(alloc: Global) -> Command<'a> {
+    Command::new(alloc, "replay")
+        .about(REPLAY_ABOUT)
+        .long_about(REPLAY_LONG_ABOUT)
+        .after_help(REPLAY_HELP)
+}
+
+fn check_command<'a>(alloc: Global) -> Command<'a> {
+    Command::new(alloc, "check-settings")
         .about(CHECK_ABOUT)
         .long_about(CHECK_LONG_ABOUT)
         .after_help(CHECK_HELP)
-        .arg(file)?;
-    let replay = Command::new(alloc, "replay")
-        .about(REPLAY_ABOUT)
-        .long_about(REPLAY_LONG_ABOUT)
-        .after_help(REPLAY_HELP);
+}
+
+fn serve_command<'a>(alloc: Global) -> Result<Command<'a>, AllocError> {
+    let receives = Arg::new(alloc, RECEIVES)
+        .long(RECEIVES)
+        .value_name("N")
+        .value_parser(value_parser!(u64).range(1..=MOST_RECEIVES))
+        .help("how often each thread receives before the program ends, 1 to 1000000");
+    Command::new(alloc, "serve")
+        .about(SERVE_ABOUT)
+        .long_about(SERVE_LONG_ABOUT)
+        .after_help(SERVE_HELP)
+        .arg(receives)
+}
+
+fn matched<'a>(alloc: Global, words: &'a [String]) -> Result<ArgMatches<'a>, Error> {
     let command = Command::new(alloc, "gatekeeper")
         .version("0.1.0")
         .about(ABOUT)
         .after_help("`gatekeeper replay --help` shows what a script looks like.")
         .subcommand_required(true)
-        .subcommand(replay)?
-        .subcommand(check)?;
+        .subcommand(replay_command(alloc))?
+        .subcommand(check_command(alloc))?
+        .subcommand(serve_command(alloc)?)?;
     command.try_get_matches_from(words)
 }
 
-/// What was chosen: a check names its file, which is required.
-fn choice_of<'a>(matches: &ArgMatches<'a>) -> Choice<'a> {
-    let file = match matches.subcommand() {
-        Some(("check-settings", found)) => found.get_str("FILE"),
-        _ => None,
-    };
-    match file {
-        Some(path) => Choice::CheckSettings(path),
-        None => Choice::Replay,
+/// What was chosen.
+fn choice_of(matches: &ArgMatches<'_>) -> Choice {
+    match matches.subcommand() {
+        Some(("check-settings", _)) => Choice::CheckSettings,
+        Some(("serve", found)) => Choice::Serve(found.get_one::<u64>(RECEIVES)),
+        _ => Choice::Replay,
     }
 }
 
 /// Reads the words of the command line. Where they ask for help or can't be followed, `clap`'s text
 /// is printed.
-pub fn chosen<'a, R: Print + Eprint>(
+pub fn chosen<R: Print + Eprint>(
     rt: &R,
     alloc: Global,
-    words: &'a [String],
-) -> Result<Choice<'a>, AllocError> {
+    words: &[String],
+) -> Result<Choice, AllocError> {
     match matched(alloc, words) {
         Ok(matches) => Ok(choice_of(&matches)),
         Err(error) => {

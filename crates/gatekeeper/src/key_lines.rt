@@ -59,14 +59,6 @@ pub fn line_of(text: &str, path: &str, before: usize) -> Option<usize> {
     None
 }
 
-/// The line, from 1, on which the key of this path stands, where it stands on one alone.
-pub fn only_line_of(text: &str, path: &str) -> Option<usize> {
-    match line_of(text, path, 1) {
-        Some(_) => None,
-        None => line_of(text, path, 0),
-    }
-}
-
 /// The line, from 1, in which the octet behind these stands.
 pub fn line_behind(octets: &[u8]) -> usize {
     let mut line = 1usize;

@@ -2,32 +2,46 @@
 #![tactic(auto)]
 
 ghost use Rattle.std.specs.Prelude.{◌≡◌};
-ghost use Rattle.gatekeeper.specs.Checks.{check_status};
+ghost use Rattle.gatekeeper.specs.Inputs.{input_status};
 ghost use Rattle.gatekeeper.specs.Replays.{status_of};
 
 mod boxed_pools;
 mod cli;
 mod key_lines;
 mod replay;
+mod report;
+mod serve;
 mod settings_check;
+mod settings_input;
+mod stop_signal;
+mod stopwatch;
 
 use cli::{Choice, chosen};
+use log::Log;
 use replay::{ReplayFault, replay};
 use script::Output;
-use settings_check::{CheckFault, check_settings};
+use serve::serve;
+use settings_check::write_checked;
+use settings_input::{InputFault, read_input};
 use std::alloc::{AllocError, Global};
 use std::io::BufWriter;
+use std::net::Net;
 use std::process::ExitCode;
-use std::rt::{Env, Files};
-use std::{env, fs, io};
+use std::rt::{Clock, Env};
+use std::sync::Wait;
+use std::thread::Threads;
+use std::{env, io};
+use stop_signal::StopSignal;
+use udp_socket::Stop;
 
 /// The exit status where there is no memory.
 const NO_MEMORY: u8 = 3;
 
 fn main(rt: HostRuntime) -> ExitCode {
     let alloc = rt.alloc();
+    let stop = StopSignal::new(&rt, alloc);
     let status = match words(&rt, alloc) {
-        Ok(words) => run(&rt, alloc, words.as_slice()),
+        Ok(words) => run(&rt, alloc, &stop, words.as_slice()),
         Err(AllocError) => out_of_memory(&rt),
     };
     ExitCode::from(status)
@@ -41,10 +55,16 @@ fn words<R: Env + AllocGlobal>(rt: &R, alloc: Global) -> Result<Vec<String>, All
     words.collect(alloc)
 }
 
-fn run<R: Files + Input + Print + Eprint>(rt: &R, alloc: Global, words: &[String]) -> u8 {
+fn run<R: Input + Print + Eprint + Threads + Wait + Clock + Net + Log + Sync, S: Stop + Sync>(
+    rt: &R,
+    alloc: Global,
+    stop: &S,
+    words: &[String],
+) -> u8 {
     match chosen(rt, alloc, words) {
         Ok(Choice::Replay) => replay_input(rt, alloc),
-        Ok(Choice::CheckSettings(path)) => check_file(rt, alloc, path),
+        Ok(Choice::CheckSettings) => check_input(rt, alloc),
+        Ok(Choice::Serve(receives)) => serve_input(rt, alloc, receives, stop),
         Ok(Choice::Done(status)) => status,
         Err(AllocError) => out_of_memory(rt),
     }
@@ -78,25 +98,48 @@ fn refuse(rt: &impl Eprint, fault: &ReplayFault) -> u8
     fault.status()
 }
 
-/// Checks the settings of a file, and prints what is found to standard output.
-fn check_file<R: Files + Print + Eprint>(rt: &R, alloc: Global, path: &str) -> u8 {
-    let Ok(file) = fs::open(rt, path) else {
-        return refuse_settings(rt, &CheckFault::Unread);
+/// Checks the settings on standard input, and prints them, with a warning for each key that is passed
+/// over.
+fn check_input<R: Input + Print + Eprint>(rt: &R, alloc: Global) -> u8 {
+    let read = match read_input(alloc, rt.reader()) {
+        Ok(read) => read,
+        Err(fault) => return refuse_settings(rt, &fault),
     };
     let Ok(buffer) = BufWriter::new(alloc, io::writer(rt)) else {
         return out_of_memory(rt);
     };
     let mut out = Output::new(buffer);
-    match check_settings(alloc, file, &mut out) {
-        Ok(()) => 0,
-        Err(fault) => refuse_settings(rt, &fault),
+    if write_checked(&read.settings, &mut out).is_err() {
+        return refuse_settings(rt, &InputFault::Stream);
     }
+    for key in &read.passed_over {
+        let _ = eprintln!(rt; "warning: {key}");
+    }
+    0
 }
 
-/// Tells in one line on standard error why settings don't pass.
-fn refuse_settings(rt: &impl Eprint, fault: &CheckFault) -> u8
-    ensures { result ≡ check_status fault.now }
+/// Tells in one line on standard error why settings aren't read.
+fn refuse_settings(rt: &impl Eprint, fault: &InputFault) -> u8
+    ensures { result ≡ input_status fault.now }
 {
     let _ = eprintln!(rt; "{fault}");
     fault.status()
+}
+
+/// Serves with the settings on standard input.
+fn serve_input<
+    R: Input + Print + Eprint + Threads + Wait + Clock + Net + Log + Sync,
+    S: Stop + Sync,
+>(rt: &R, alloc: Global, receives: Option<u64>, stop: &S) -> u8 {
+    let Ok(buffer) = BufWriter::new(alloc, io::writer(rt)) else {
+        return out_of_memory(rt);
+    };
+    let mut out = Output::new(buffer);
+    match serve(rt, alloc, rt.reader(), receives, stop, &mut out) {
+        Ok(()) => 0,
+        Err(fault) => {
+            let _ = eprintln!(rt; "{fault}");
+            fault.status()
+        }
+    }
 }

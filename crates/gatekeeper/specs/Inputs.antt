@@ -1,0 +1,48 @@
+-- What a reading of settings from an input answers, and the exit status of each of its faults.
+use Rattle.std.specs.Prelude.{ℕ, ◌≡◌, ◌≤◌, ◌<◌, List, length, Some, IsUtf8}
+use Rattle.std.specs.Prelude.{Result, Ok, Err}
+use Rattle.settings.specs.declared.fault.SettingsFault.{SettingsFault}
+use Rattle.settings.specs.declared.fault.SettingsFault.TheVariants as settings
+use Rattle.settings.specs.Settings.{settings_of, IsAnswer}
+use Rattle.gatekeeper.specs.declared.settings_input.InputFault.{InputFault}
+use Rattle.gatekeeper.specs.declared.settings_input.InputFault.TheVariants.{Stream, TooLong}
+use Rattle.gatekeeper.specs.declared.settings_input.InputFault.TheVariants.{NotText, Refused}
+use Rattle.gatekeeper.specs.declared.settings_input.InputFault.TheVariants.{Memory}
+use Rattle.gatekeeper.specs.declared.settings_input.ReadInput.{ReadInput}
+
+-- 1: the settings are refused; 3: no memory; 4: a read failed
+abbrev pub input_status : InputFault → ℕ
+input_status Stream = 4
+input_status TooLong = 1
+input_status (NotText line) = 1
+input_status (Refused fault) = 1
+input_status Memory = 3
+
+-- a reading of the octets as such ends so: that they are too many is told where they are
+abbrev pub IsReadFault : List ℕ → InputFault → Type 0
+IsReadFault octets Stream = Unit {0}
+IsReadFault octets TooLong = 1048576 < length octets
+IsReadFault octets Memory = Unit {0}
+IsReadFault octets fault = ⊥
+
+-- how a fault of the settings is told; want of memory apart
+abbrev pub IsRefusal : SettingsFault → InputFault → Type 0
+IsRefusal settings.Memory told = told ≡ Memory
+IsRefusal fault told = told ≡ Refused fault
+
+-- a text gives its settings, or is refused by the fault that `read_settings` answers
+abbrev pub IsTextRead : List ℕ → Result ReadInput InputFault → Type 0
+IsTextRead text (Ok read) = settings_of text ≡ Some (Ok read.settings)
+IsTextRead text (Err (Refused fault)) = IsAnswer (settings_of text) (Err fault)
+IsTextRead text (Err Memory) = Unit {0}
+IsTextRead text (Err fault) = ⊥
+
+-- the octets are no more than are read, are UTF-8, and give settings as a text; or else the fault
+-- says which of this fails
+abbrev pub IsInputRead : List ℕ → Result ReadInput InputFault → Type 0
+IsInputRead octets (Err TooLong) = 1048576 < length octets
+IsInputRead octets (Err (NotText line)) = IsUtf8 octets → ⊥
+IsInputRead octets (Err Stream) = Unit {0}
+IsInputRead octets (Err Memory) = Unit {0}
+IsInputRead octets answer =
+    (length octets ≤ 1048576) × IsUtf8 octets × IsTextRead octets answer

@@ -1,0 +1,298 @@
+//! Serving a zone over UDP.
+
+ghost use Rattle.std.specs.Prelude.{◌≡◌, ◌≤◌};
+ghost use Rattle.settings.specs.Ranges.{AreServeNumbers};
+ghost use Rattle.udp_server.specs.Plans.{IsPlan};
+ghost use Rattle.gatekeeper.specs.Serves.{serve_status};
+
+use crate::boxed_pools::pools_of;
+use crate::report::{has_faults, print_report};
+use crate::settings_input::{InputFault, PassedOver, ReadInput, read_input};
+use crate::stopwatch::Stopwatch;
+use log::{Log, info, warn};
+use pools::{Pool, PoolSet};
+use ras_core::{Config, NewFault, Zone};
+use ras_module::Name;
+use script::Output;
+use settings::Settings;
+use std::alloc::{AllocError, Global};
+use std::fmt;
+use std::io::{Read, Write};
+use std::net::Net;
+use std::rt::Clock;
+use std::sync::Wait;
+use std::thread::Threads;
+use std::time::Instant;
+use thiserror::Error;
+use udp_server::{Open, Plan, Report, ServeFault, serve_zone};
+use udp_socket::{BindFault, BoundSocket, SocketEnd, Stop, bind_zone};
+
+/// With how many entries a chapter of the history ends.
+const CHAPTER: usize = 4_096;
+
+/// Why there is no report.
+#[derive(Clone, Copy, Debug, PartialEq, Eq, Error)]
+pub enum ServingFault {
+    /// The settings aren't read.
+    #[error(transparent)]
+    Settings(InputFault),
+    /// The address of the zone isn't bound.
+    #[error(transparent)]
+    Bind(BindFault),
+    /// Memory is refused.
+    #[error("out of memory")]
+    Memory,
+    /// The pools aren't those of the settings.
+    #[error("wrong pools")]
+    WrongPools,
+    /// The server didn't give its zone back.
+    #[error("not finished")]
+    NotFinished,
+    /// Standard output failed.
+    #[error("stream failed")]
+    Stream,
+}
+
+impl ServingFault {
+    /// The exit status: 1 if the settings are refused, 3 if there is no memory, and 4 if the socket
+    /// can't be made or a stream failed.
+    pub fn status(&self) -> u8
+        ensures { result ≡ serve_status self.now }
+    {
+        match self {
+            ServingFault::Settings(fault) => fault.status(),
+            ServingFault::Bind(_) | ServingFault::Stream => 4,
+            ServingFault::Memory => 3,
+            ServingFault::WrongPools | ServingFault::NotFinished => 1,
+        }
+    }
+}
+
+impl From<AllocError> for ServingFault {
+    fn from(_: AllocError) -> ServingFault {
+        ServingFault::Memory
+    }
+}
+
+impl From<ServeFault> for ServingFault {
+    fn from(fault: ServeFault) -> ServingFault {
+        match fault {
+            ServeFault::Memory => ServingFault::Memory,
+            ServeFault::WrongCounts | ServeFault::NotFinished => ServingFault::NotFinished,
+        }
+    }
+}
+
+/// A name as people read it.
+#[derive(Drop)]
+struct Shown<'a>(&'a Name);
+
+impl fmt::Display for Shown<'_> {
+    fn fmt<W: fmt::Write>(&self, f: &mut fmt::Formatter<W>) -> fmt::Result {
+        for code in self.0.as_slice() {
+            let character = char::from_u32(u32::from(*code));
+            write!(f, "{}", character.unwrap_or(char::REPLACEMENT_CHARACTER))?;
+        }
+        Ok(())
+    }
+}
+
+/// What is set for the server besides its zone: how many threads receive, how often each of them
+/// receives, if that is limited, and the plan.
+#[derive(Clone, Copy)]
+struct Service {
+    receivers: usize,
+    receives: Option<u64>,
+    plan: Plan,
+}
+
+impl Service {
+    fn of(settings: &Settings, receives: Option<u64>) -> Service
+        requires { AreServeNumbers settings.now.receivers settings.now.ring settings.now.faults
+            settings.now.tick settings.now.buffer }
+        ensures receivers { result.receivers ≤ 15 }
+        ensures plan { IsPlan result.plan }
+    {
+        Service {
+            receivers: settings.receivers,
+            receives,
+            plan: Plan {
+                ring: settings.ring,
+                faults: settings.faults,
+                tick: settings.tick,
+                chapter: CHAPTER,
+                latest: 0,
+                receipts: false,
+            },
+        }
+    }
+}
+
+/// Warns of the keys that are passed over.
+fn warn_of<R: Log>(rt: &R, passed_over: &[PassedOver]) {
+    for key in passed_over {
+        warn!(rt; target: "settings", "{key}");
+    }
+}
+
+/// Asks for the buffer that is set, and warns if less is granted.
+fn ask_for_buffer<R: Log>(rt: &R, socket: &BoundSocket, octets: u64) {
+    if octets == 0 {
+        return;
+    }
+    match socket.reserve_buffer(octets) {
+        Some(granted) if granted >= octets => {}
+        Some(granted) => warn!(rt; target: "serve",
+            "the system holds {granted} octets of datagrams, not the {octets} of serve.buffer"),
+        None => warn!(rt; target: "serve", "the system holds less than serve.buffer"),
+    }
+}
+
+/// The zone that is set, with its pools.
+fn zone_of<P: Pool>(alloc: Global, config: Config, pools: Vec<P>) -> Result<Zone<P>, ServingFault> {
+    let Ok(set) = PoolSet::new(pools) else {
+        return Err(ServingFault::WrongPools);
+    };
+    match Zone::new(alloc, config, set) {
+        Ok(zone) => Ok(zone),
+        Err((_, NewFault::WrongPools)) => Err(ServingFault::WrongPools),
+        Err((_, NewFault::Memory)) => Err(ServingFault::Memory),
+    }
+}
+
+/// So many clocks that began at this moment.
+fn clocks_of<'a, R: Clock>(
+    rt: &'a R,
+    alloc: Global,
+    start: Instant,
+    count: usize,
+) -> Result<Vec<Stopwatch<'a, R>>, AllocError> {
+    let mut clocks = Vec::with_capacity(alloc, count)?;
+    for _clock in 0..count {
+        clocks.push_reserved(Stopwatch::new(rt, start));
+    }
+    Ok(clocks)
+}
+
+/// So many ends of a socket.
+fn ends_of<'a, S: Stop>(
+    alloc: Global,
+    socket: &'a BoundSocket,
+    service: Service,
+    stop: &'a S,
+) -> Result<Vec<SocketEnd<'a, S>>, AllocError> {
+    let mut ends = Vec::with_capacity(alloc, service.receivers)?;
+    for _end in 0..service.receivers {
+        ends.push(socket.end(service.receives, stop))
+            .map_err(AllocError::from)?;
+    }
+    Ok(ends)
+}
+
+/// Serves a zone over a socket until its ends have stopped, or are told to.
+fn serve_socket<P: Pool + Send, R: Threads + Wait + Clock + Sync, S: Stop + Sync>(
+    rt: &R,
+    alloc: Global,
+    zone: Zone<P>,
+    socket: &BoundSocket,
+    service: Service,
+    stop: &S,
+) -> Result<Report<P>, ServingFault>
+    requires receivers { service.receivers ≤ 15 }
+    requires plan { IsPlan service.plan }
+{
+    let Ok(start) = Instant::now(rt) else {
+        return Err(ServingFault::NotFinished);
+    };
+    let ends = ends_of(alloc, socket, service, stop)?;
+    let clocks = clocks_of(rt, alloc, start, service.receivers + 1)?;
+    let sender = socket.end(None, stop);
+    let report = serve_zone(rt, alloc, zone, ends, sender, &Open, clocks, service.plan)?;
+    Ok(report)
+}
+
+/// Serves the zone that is set with pools that were made for it, and prints the report.
+fn serve_made<
+    P: Pool + Send,
+    R: Threads + Wait + Clock + Net + Log + Sync,
+    S: Stop + Sync,
+    W: Write + Drop,
+>(
+    rt: &R,
+    alloc: Global,
+    config: Config,
+    pools: Vec<P>,
+    service: Service,
+    buffer: u64,
+    stop: &S,
+    out: &mut Output<W>,
+) -> Result<(), ServingFault>
+    requires receivers { service.receivers ≤ 15 }
+    requires plan { IsPlan service.plan }
+{
+    let parts = config.parts();
+    let (name, address) = (parts.identifier, parts.address);
+    let zone = zone_of(alloc, config, pools)?;
+    let socket = match bind_zone(rt, address) {
+        Ok(socket) => socket,
+        Err(fault) => return Err(ServingFault::Bind(fault)),
+    };
+    ask_for_buffer(rt, &socket, buffer);
+    let [a, b, c, d] = address.ip;
+    let port = address.port;
+    info!(rt; target: "serve", "serving zone {} on {a}.{b}.{c}.{d}:{port}, {} receivers",
+        Shown(&name), service.receivers);
+    let report = serve_socket(rt, alloc, zone, &socket, service, stop)?;
+    if has_faults(&report) {
+        warn!(rt; target: "serve", dropped = report.dropped, refused = report.refused,
+            receive_faults = report.receive_faults, send_faults = report.send_faults;
+            "not everything was done");
+    }
+    match print_report(&report, out) {
+        Ok(()) => Ok(()),
+        Err(_) => Err(ServingFault::Stream),
+    }
+}
+
+/// Reads settings, makes their pools, each in a box, and serves their zone: each receiving thread until
+/// it received so often, if a number is given, and until it is told to stop. Then the report
+/// is printed.
+pub fn serve<
+    I: Read + Drop,
+    R: Threads + Wait + Clock + Net + Log + Sync,
+    S: Stop + Sync,
+    W: Write + Drop,
+>(
+    rt: &R,
+    alloc: Global,
+    input: I,
+    receives: Option<u64>,
+    stop: &S,
+    out: &mut Output<W>,
+) -> Result<(), ServingFault> {
+    let ReadInput {
+        settings,
+        passed_over,
+    } = match read_input(alloc, input) {
+        Ok(read) => read,
+        Err(InputFault::Memory) => return Err(ServingFault::Memory),
+        Err(fault) => return Err(ServingFault::Settings(fault)),
+    };
+    warn_of(rt, &passed_over);
+    let service = Service::of(&settings, receives);
+    let Settings {
+        config,
+        pools,
+        receivers: _,
+        ring: _,
+        faults: _,
+        tick: _,
+        buffer,
+    } = settings;
+    let mut boxes: Vec<Box<dyn Pool + Send>> = Vec::new(alloc);
+    for pool in pools_of(alloc, pools.as_slice())? {
+        let boxed: Box<dyn Pool + Send> = Box::new(alloc, pool).map_err(AllocError::from)?;
+        boxes.push(boxed).map_err(AllocError::from)?;
+    }
+    serve_made(rt, alloc, config, boxes, service, buffer, stop, out)
+}

@@ -1,0 +1,168 @@
+//! Reading settings from an input.
+
+ghost use Rattle.std.specs.Prelude.{◌≡◌, ◌≤◌, length, IfErr, IfOk, IfSome};
+ghost use Rattle.settings.specs.Settings.{AreSettings};
+ghost use Rattle.gatekeeper.specs.Inputs.{input_status, IsReadFault, IsRefusal, IsInputRead};
+ghost use Rattle.gatekeeper.specs.Inputs.{IsTextRead};
+
+use crate::key_lines::{line_behind, line_of};
+use settings::{Settings, SettingsFault, UnknownKey, read_settings, unknown_keys};
+use std::alloc::{AllocError, Global};
+use std::fmt;
+use std::io::{ErrorKind, Read};
+use thiserror::Error;
+
+/// The octets that settings have at most.
+const MOST: usize = 1_048_576;
+
+/// Why an input gives no settings.
+#[derive(Clone, Copy, Debug, PartialEq, Eq, Error)]
+pub enum InputFault {
+    /// A read of it failed.
+    #[error("stream failed")]
+    Stream,
+    /// It has more octets than are read.
+    #[error("input too long")]
+    TooLong,
+    /// It isn't UTF-8, from this line on.
+    #[error("settings: 1 Syntax line {0}: no UTF-8")]
+    NotText(usize),
+    /// It gives no settings.
+    #[error("settings: {0}")]
+    Refused(SettingsFault),
+    /// Memory is refused.
+    #[error("out of memory")]
+    Memory,
+}
+
+impl InputFault {
+    /// The exit status: 1 if the settings are refused, 3 if there is no memory, and 4 if a read failed.
+    pub fn status(&self) -> u8
+        ensures { result ≡ input_status self.now }
+    {
+        match self {
+            InputFault::TooLong | InputFault::NotText(_) | InputFault::Refused(_) => 1,
+            InputFault::Memory => 3,
+            InputFault::Stream => 4,
+        }
+    }
+}
+
+/// A key that is passed over, since it isn't known.
+#[derive(Drop)]
+pub struct PassedOver {
+    key: UnknownKey,
+    line: Option<usize>,
+}
+
+impl fmt::Display for PassedOver {
+    fn fmt<W: fmt::Write>(&self, f: &mut fmt::Formatter<W>) -> fmt::Result {
+        if let Some(line) = self.line {
+            write!(f, "line {line}: ")?;
+        }
+        write!(f, "unknown key {}", self.key.path)?;
+        match self.key.nearest {
+            Some(nearest) => write!(f, ", nearest {nearest}"),
+            None => Ok(()),
+        }
+    }
+}
+
+/// Settings that were read, and the keys that were passed over.
+#[derive(Drop)]
+pub struct ReadInput {
+    pub settings: Settings,
+    pub passed_over: Vec<PassedOver>,
+}
+
+/// The octets of an input, to its end. At most one octet past the greatest size is read.
+fn read_octets<R: Read + Drop>(alloc: Global, input: R) -> Result<Vec<u8>, InputFault>
+    ensures ok { IfSome (R.remaining input) (λ octets. IfOk result (λ read.
+        (read.items ≡ octets) × (length octets ≤ 1048576))) }
+    ensures err { IfSome (R.remaining input) (λ octets. IfErr result (IsReadFault octets)) }
+{
+    let mut front = input.take(MOST as u64 + 1);
+    let mut octets = Vec::new(alloc);
+    match front.read_to_end(&mut octets) {
+        Ok(_) if octets.len() > MOST => Err(InputFault::TooLong),
+        Ok(_) => Ok(octets),
+        Err(error) if error.kind() == ErrorKind::OutOfMemory => Err(InputFault::Memory),
+        Err(_) => Err(InputFault::Stream),
+    }
+}
+
+/// The fault of a text that gives no settings.
+fn refusal(fault: SettingsFault) -> InputFault
+    ensures { IsRefusal fault result }
+{
+    if matches!(fault, SettingsFault::Memory) {
+        return InputFault::Memory;
+    }
+    InputFault::Refused(fault)
+}
+
+/// How many of these keys have this path.
+fn count_of(keys: &[PassedOver], path: &str) -> usize {
+    let mut count = 0usize;
+    for passed in keys {
+        if passed.key.path.as_str() == path {
+            count = count.saturating_add(1);
+        }
+    }
+    count
+}
+
+/// The keys that are passed over, each with the line on which it stands.
+fn passed_over(
+    alloc: Global,
+    text: &str,
+    unknown: Vec<UnknownKey>,
+) -> Result<Vec<PassedOver>, AllocError> {
+    let mut all = Vec::with_capacity(alloc, unknown.len())?;
+    for key in unknown {
+        let path = key.path.as_str();
+        let line = line_of(text, path, count_of(&all, path));
+        all.push(PassedOver { key, line })
+            .map_err(AllocError::from)?;
+    }
+    Ok(all)
+}
+
+/// The settings of a text.
+fn read_text(alloc: Global, text: &str) -> Result<ReadInput, InputFault>
+    ensures answer { IsTextRead text.now result }
+    ensures ranges { IfOk result (λ read. AreSettings read.settings) }
+{
+    let settings = match read_settings(alloc, text) {
+        Ok(settings) => settings,
+        Err(fault) => return Err(refusal(fault)),
+    };
+    // A text that gives settings is a document, so that memory alone can be refused here.
+    let Ok(unknown) = unknown_keys(alloc, text) else {
+        return Err(InputFault::Memory);
+    };
+    match passed_over(alloc, text, unknown) {
+        Ok(passed_over) => Ok(ReadInput {
+            settings,
+            passed_over,
+        }),
+        Err(AllocError) => Err(InputFault::Memory),
+    }
+}
+
+/// Reads settings from an input, which is read whole.
+pub fn read_input<R: Read + Drop>(alloc: Global, input: R) -> Result<ReadInput, InputFault>
+    ensures answer { IfSome (R.remaining input) (λ octets. IsInputRead octets result) }
+    ensures ranges { IfOk result (λ read. AreSettings read.settings) }
+{
+    match read_octets(alloc, input) {
+        Ok(octets) => match str::from_utf8(&octets) {
+            Ok(text) => read_text(alloc, text),
+            Err(error) => {
+                let before = &octets[..error.valid_up_to()];
+                Err(InputFault::NotText(line_behind(before)))
+            }
+        },
+        Err(fault) => Err(fault),
+    }
+}

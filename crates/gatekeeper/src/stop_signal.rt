@@ -1,0 +1,92 @@
+//! Signals that ask the program to end. It is started with SIGTERM and SIGINT blocked, as `./gatekeeper
+//! serve` starts it; a signal that came then waits, and the system tells so.
+
+use std::alloc::Global;
+use std::fs;
+use std::rt::{Clock, Files};
+use std::sync::atomic::{AtomicBool, AtomicU64, Ordering};
+use std::time::Instant;
+use udp_socket::Stop;
+
+/// What the system tells of this program.
+const STATUS: &str = "/proc/self/status";
+
+/// The signals SIGINT, number 2, and SIGTERM, number 15, in a set of signals, of which the lowest bit is
+/// number 1.
+const ASKING: u64 = 1 << 1 | 1 << 14;
+
+/// How long it is from one look at the signals to the next, in milliseconds.
+const PAUSE: u64 = 100;
+
+/// Whether one of these signals waits, by what the system tells of the program.
+fn is_asked(status: &str) -> bool {
+    for line in status.lines() {
+        if let Some(signals) = line.strip_prefix("ShdPnd:") {
+            return match u64::from_str_radix(signals.trim(), 16) {
+                Ok(signals) => signals & ASKING != 0,
+                Err(_) => false,
+            };
+        }
+    }
+    false
+}
+
+/// A look at the signals now and then.
+#[derive(Drop)]
+pub struct StopSignal<'a, R> {
+    rt: &'a R,
+    alloc: Global,
+    start: Option<Instant>,
+    /// In which millisecond the next look is due.
+    next: AtomicU64,
+    was_asked: AtomicBool,
+}
+
+impl<'a, R: Clock + Files> StopSignal<'a, R> {
+    /// A look that is due at once.
+    pub fn new(rt: &'a R, alloc: Global) -> Self {
+        StopSignal {
+            rt,
+            alloc,
+            start: Instant::now(rt).ok(),
+            next: AtomicU64::new(0),
+            was_asked: AtomicBool::new(false),
+        }
+    }
+
+    /// The milliseconds since the start. If the clock can't be read, each look is due.
+    fn now(&self) -> u64 {
+        let Some(start) = self.start else {
+            return u64::MAX;
+        };
+        match start.elapsed(self.rt) {
+            Ok(passed) => u64::try_from(passed.as_millis()).unwrap_or(u64::MAX),
+            Err(_) => u64::MAX,
+        }
+    }
+
+    fn looks(&self) -> bool {
+        match fs::read_to_string(&(self.rt, self.alloc), STATUS) {
+            Ok(status) => is_asked(status.as_str()),
+            Err(_) => false,
+        }
+    }
+}
+
+impl<R: Clock + Files> Stop for StopSignal<'_, R> {
+    fn is_over(&self) -> bool {
+        if self.was_asked.load(Ordering::SeqCst) {
+            return true;
+        }
+        let now = self.now();
+        if now < self.next.load(Ordering::SeqCst) {
+            return false;
+        }
+        self.next.store(now.saturating_add(PAUSE), Ordering::SeqCst);
+        let is_over = self.looks();
+        if is_over {
+            self.was_asked.store(true, Ordering::SeqCst);
+        }
+        is_over
+    }
+}
