@@ -32,7 +32,7 @@ pub trait Datagrams: Drop {
     ghost faults: { Self → ℕ };
 
     /// Waits for a datagram for some time.
-    fn receive(&mut self, buffer: &mut [u8; 4_097]) -> Result<Received, DeviceFault>
+    fn receive(&mut self, buffer: &mut [u8; MOST_RECEIVED]) -> Result<Received, DeviceFault>
         ensures within { IfOk result IsWithin }
         ensures ok { OnOk result (faults self.new ≡ faults self.old) }
         ensures err { OnErr result (faults self.new ≡ fault_count (faults self.old)) };

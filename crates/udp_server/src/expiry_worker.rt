@@ -3,7 +3,7 @@
 use crate::chapters::Chapters;
 use crate::gate::Gate;
 use crate::moments::Moments;
-use crate::worker::{Shared, Stepped, Worked, Worker};
+use crate::worker::{Shared, StepResult, Worker, WorkerRecord};
 use pools::Pool;
 use ras_core::Event;
 use std::rt::Clock;
@@ -21,7 +21,7 @@ pub(crate) fn expire<P: Pool, D: Hall, T: Ledger, U: Ledger, R: Wait + Clock, G:
     shared: &Shared<'_, P, D, T, U, R, G>,
     others: usize,
     worker: Worker<D, T, U, C>,
-) -> Worked<D, T, U> {
+) -> WorkerRecord<D, T, U> {
     let mut worker = worker;
     let mut chapters = Chapters::new(shared.alloc);
     if shared.board.may_begin(shared.rt) {
@@ -45,7 +45,7 @@ fn goes_on<P: Pool, D: Hall, T: Ledger, U: Ledger, R: Wait, G: Gate, C: Moments>
     for _ in 0..MOST_TURNS {
         let moment = worker.clock.now();
         match worker.step(shared, Event::Turn(moment)) {
-            Stepped::Made { place, is_idle } => {
+            StepResult::Made { place, is_idle } => {
                 if chapters.end_if_due(shared, place).is_err() {
                     worker.counts.refuse();
                 }
@@ -53,8 +53,8 @@ fn goes_on<P: Pool, D: Hall, T: Ledger, U: Ledger, R: Wait, G: Gate, C: Moments>
                     return true;
                 }
             }
-            Stepped::Refused => return true,
-            Stepped::Closed => return false,
+            StepResult::Refused => return true,
+            StepResult::Closed => return false,
         }
     }
     true

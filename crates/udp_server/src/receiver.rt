@@ -3,7 +3,7 @@
 use crate::datagrams::{Datagrams, DeviceFault, MOST_RECEIVED, Received};
 use crate::gate::Gate;
 use crate::moments::Moments;
-use crate::worker::{Shared, Stepped, Worked, Worker};
+use crate::worker::{Shared, StepResult, Worker, WorkerRecord};
 use pools::Pool;
 use ras_core::Event;
 use ras_module::{Octets, Source};
@@ -18,7 +18,7 @@ use zone_lock::Hall;
 struct Receiver<N: Datagrams> {
     end: N,
     buffer: [u8; MOST_RECEIVED],
-    row: u64,
+    failed_in_a_row: u64,
 }
 
 /// Receives datagrams and makes a step for each, until the end has stopped, too many receives in a row
@@ -32,12 +32,16 @@ pub(crate) fn work<
     N: Datagrams,
     G: Gate,
     C: Moments,
->(shared: &Shared<'_, P, D, T, U, R, G>, end: N, worker: Worker<D, T, U, C>) -> Worked<D, T, U> {
+>(
+    shared: &Shared<'_, P, D, T, U, R, G>,
+    end: N,
+    worker: Worker<D, T, U, C>,
+) -> WorkerRecord<D, T, U> {
     let mut worker = worker;
     let mut receiver = Receiver {
         end,
         buffer: [0; MOST_RECEIVED],
-        row: 0,
+        failed_in_a_row: 0,
     };
     if shared.board.may_begin(shared.rt) {
         for _ in shared.rt.forever() {
@@ -58,14 +62,14 @@ fn goes_on<P: Pool, D: Hall, T: Ledger, U: Ledger, R: Wait, N: Datagrams, G: Gat
     match receiver.end.receive(&mut receiver.buffer) {
         Ok(Received::Stopped) => false,
         Ok(Received::Quiet) => {
-            receiver.row = 0;
+            receiver.failed_in_a_row = 0;
             true
         }
         Ok(Received::Datagram(source, length)) => {
-            receiver.row = 0;
+            receiver.failed_in_a_row = 0;
             let moment = worker.clock.now();
             match event_of(shared.alloc, source, &receiver.buffer[..length], moment) {
-                Ok(event) => !matches!(worker.step(shared, event), Stepped::Closed),
+                Ok(event) => !matches!(worker.step(shared, event), StepResult::Closed),
                 Err(AllocError) => {
                     worker.counts.refuse();
                     true
@@ -74,8 +78,8 @@ fn goes_on<P: Pool, D: Hall, T: Ledger, U: Ledger, R: Wait, N: Datagrams, G: Gat
         }
         Err(DeviceFault) => {
             worker.counts.faults = worker.counts.faults.saturating_add(1);
-            receiver.row = receiver.row.saturating_add(1);
-            receiver.row < shared.plan.faults
+            receiver.failed_in_a_row = receiver.failed_in_a_row.saturating_add(1);
+            receiver.failed_in_a_row < shared.plan.faults
         }
     }
 }

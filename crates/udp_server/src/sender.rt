@@ -9,12 +9,12 @@ use std::sync::Wait;
 #[derive(Drop)]
 struct Sender<N: Datagrams> {
     end: N,
-    sent: Sent,
+    sent: SendCounts,
 }
 
 /// How many replies were sent, and how many sends have failed. A count at `u64::MAX` stays there.
 #[derive(Clone, Copy)]
-pub(crate) struct Sent {
+pub(crate) struct SendCounts {
     pub(crate) replies: u64,
     pub(crate) faults: u64,
 }
@@ -26,11 +26,11 @@ pub(crate) fn send_all<R: Wait, N: Datagrams>(
     workers: usize,
     inlets: Vec<Inlet>,
     end: N,
-) -> Sent {
+) -> SendCounts {
     let mut inlets = inlets;
     let mut sender = Sender {
         end,
-        sent: Sent {
+        sent: SendCounts {
             replies: 0,
             faults: 0,
         },

@@ -2,7 +2,7 @@
 
 ghost use Rattle.std.specs.Prelude.{◌≡◌, ◌≢◌, ◌≤◌, ◌+◌, ◌^◌, ◌↔◌, Err, IfOk, length, vec_len};
 ghost use Rattle.books.specs.Totals.{datagrams_of, turns_of};
-ghost use Rattle.udp_server.specs.Faults.{AreCounts};
+ghost use Rattle.udp_server.specs.Faults.{AreCounts, AreCountsOfEnds};
 ghost use Rattle.udp_server.specs.Plans.{IsPlan};
 ghost use Rattle.udp_server.specs.Served.{IsServed};
 
@@ -12,9 +12,9 @@ use crate::gate::Gate;
 use crate::moments::Moments;
 use crate::plan::Plan;
 use crate::report::{Report, ServeFault};
-use crate::sender::Sent;
-use crate::threads::{Crew, Ran, run};
-use crate::worker::{Counts, Shared, Worked, Worker};
+use crate::sender::SendCounts;
+use crate::threads::{Crew, CrewRecord, run};
+use crate::worker::{Counts, Shared, Worker, WorkerRecord};
 use books::{Chapter, Finished, Receipt, totals_of};
 use pools::Pool;
 use ras_core::Zone;
@@ -77,7 +77,7 @@ pub fn serve<
         plan,
     };
     match run(&shared, crew, inlets, sender) {
-        Ok(ran) => report_of(alloc, lock, ran),
+        Ok(record) => report_of(alloc, lock, record),
         Err(AllocError) => Err(ServeFault::Memory),
     }
 }
@@ -113,70 +113,70 @@ fn crew_of<D: Hall, T: Ledger, U: Ledger, N: Datagrams, C: Moments>(
 
 /// What all workers leave together.
 #[derive(Drop)]
-struct Left<D: Hall, T: Ledger, U: Ledger> {
+struct JointRecord<D: Hall, T: Ledger, U: Ledger> {
     seats: Vec<Seat<D, T, U>>,
     receipts: Vec<Receipt>,
     chapters: Vec<Chapter>,
     counts: Counts,
 }
 
-fn left_by<D: Hall, T: Ledger, U: Ledger>(
+fn join_records<D: Hall, T: Ledger, U: Ledger>(
     alloc: Global,
-    worked: Vec<Worked<D, T, U>>,
-) -> Result<Left<D, T, U>, AllocError> {
-    let mut left = Left {
-        seats: Vec::with_capacity(alloc, worked.len())?,
+    workers: Vec<WorkerRecord<D, T, U>>,
+) -> Result<JointRecord<D, T, U>, AllocError> {
+    let mut joint = JointRecord {
+        seats: Vec::with_capacity(alloc, workers.len())?,
         receipts: Vec::new(alloc),
         chapters: Vec::new(alloc),
         counts: Counts::NONE,
     };
-    for one in worked {
-        let Worked {
+    for record in workers {
+        let WorkerRecord {
             seat,
             mut receipts,
             mut chapters,
             counts,
-        } = one;
-        left.seats.push(seat).map_err(AllocError::from)?;
-        left.receipts.append(&mut receipts)?;
-        left.chapters.append(&mut chapters)?;
-        left.counts = left.counts.and(counts);
+        } = record;
+        joint.seats.push(seat).map_err(AllocError::from)?;
+        joint.receipts.append(&mut receipts)?;
+        joint.chapters.append(&mut chapters)?;
+        joint.counts = joint.counts.and(counts);
     }
-    Ok(left)
+    Ok(joint)
 }
 
 /// The report of what the threads left, with the zone that is taken out of its lock.
 fn report_of<P: Pool, D: Hall, T: Ledger, U: Ledger>(
     alloc: Global,
     lock: ZoneLock<P, D, T, U>,
-    ran: Ran<D, T, U>,
+    record: CrewRecord<D, T, U>,
 ) -> Result<Report<P>, ServeFault>
     requires parts { (D.parts ≡ D.all) × (T.parts ≡ D.all) × (U.parts ≡ D.all) }
     ensures served { IfOk result (λ r. IsServed D.opened r.finished r.datagrams r.turns) }
     ensures counts { result ≢ Err ServeFault.WrongCounts }
 {
-    let Ran { worked, sent } = ran;
-    match left_by(alloc, worked) {
-        Ok(left) => report_with(lock, left, sent),
+    let CrewRecord { workers, sent } = record;
+    match join_records(alloc, workers) {
+        Ok(joint) => report_with(lock, joint, sent),
         Err(AllocError) => Err(ServeFault::Memory),
     }
 }
 
 fn report_with<P: Pool, D: Hall, T: Ledger, U: Ledger>(
     lock: ZoneLock<P, D, T, U>,
-    left: Left<D, T, U>,
-    sent: Sent,
+    joint: JointRecord<D, T, U>,
+    sent: SendCounts,
 ) -> Result<Report<P>, ServeFault>
     requires parts { (D.parts ≡ D.all) × (T.parts ≡ D.all) × (U.parts ≡ D.all) }
     ensures served { IfOk result (λ r. IsServed D.opened r.finished r.datagrams r.turns) }
     ensures counts { result ≢ Err ServeFault.WrongCounts }
 {
-    let Left {
+    let JointRecord {
         seats,
         receipts,
         chapters,
         counts,
-    } = left;
+    } = joint;
     let Ok(finished) = lock.finish(seats) else {
         return Err(ServeFault::NotFinished);
     };
@@ -212,8 +212,8 @@ fn counted<P: Pool>(finished: &Finished<P>) -> (u64, u64)
     )
 }
 
-/// Puts a zone behind a lock and serves it: a seat for each receiving end, and one for the turns of the
-/// timers.
+/// Puts a zone behind a lock and serves it: a seat for each receiving end, of which there are at most 15,
+/// and one for the turns of the timers.
 pub fn serve_zone<
     P: Pool + Send,
     R: Threads + Wait + Clock + Sync,
@@ -232,8 +232,10 @@ pub fn serve_zone<
 ) -> Result<Report<P>, ServeFault>
     requires plan { IsPlan plan }
     ensures served { IfOk result (λ r. IsServed zone.state r.finished r.datagrams r.turns) }
+    ensures wrong_counts { (result ≡ Err ServeFault.WrongCounts)
+        ↔ ¬ AreCountsOfEnds (vec_len receivers) (vec_len clocks) }
 {
-    if receivers.len() > 15 {
+    if receivers.len() > 15 || clocks.len() != receivers.len() + 1 {
         return Err(ServeFault::WrongCounts);
     }
     let seats = receivers.len() + 1;
@@ -272,8 +274,11 @@ fn open_and_serve<
     requires lent { (blanks.lent.name ≡ U.name)
         × (blanks.lent.parts ≡ U.parts) × (U.parts ≡ seats) }
     requires opened { (D.all ≡ seats) × (D.opened ≡ zone.state) }
+    requires seats { (1 ≤ seats) × (seats ≤ 16) }
+    requires counts { AreCounts seats (vec_len receivers) (vec_len clocks) }
     requires plan { IsPlan plan }
     ensures served { IfOk result (λ r. IsServed zone.state r.finished r.datagrams r.turns) }
+    ensures counts { result ≢ Err ServeFault.WrongCounts }
 {
     match ZoneLock::<P, D, T, U>::open(alloc, zone, seats, blanks) {
         Ok((lock, seats)) => serve(

@@ -7,8 +7,8 @@ use crate::expiry_worker::expire;
 use crate::gate::Gate;
 use crate::moments::Moments;
 use crate::receiver::work;
-use crate::sender::{Sent, send_all};
-use crate::worker::{Shared, Worked, Worker};
+use crate::sender::{SendCounts, send_all};
+use crate::worker::{Shared, Worker, WorkerRecord};
 use pools::Pool;
 use reply_queues::Inlet;
 use std::alloc::AllocError;
@@ -29,9 +29,9 @@ pub(crate) struct Crew<D: Hall, T: Ledger, U: Ledger, N: Datagrams, C: Moments> 
 
 /// What the threads leave: what each worker leaves, in order, and what was sent.
 #[derive(Drop)]
-pub(crate) struct Ran<D: Hall, T: Ledger, U: Ledger> {
-    pub(crate) worked: Vec<Worked<D, T, U>>,
-    pub(crate) sent: Sent,
+pub(crate) struct CrewRecord<D: Hall, T: Ledger, U: Ledger> {
+    pub(crate) workers: Vec<WorkerRecord<D, T, U>>,
+    pub(crate) sent: SendCounts,
 }
 
 /// Runs the threads, the sender in this one, and joins them.
@@ -49,23 +49,23 @@ pub(crate) fn run<
     crew: Crew<D, T, U, N, C>,
     inlets: Vec<Inlet>,
     sender: N,
-) -> Result<Ran<D, T, U>, AllocError> {
+) -> Result<CrewRecord<D, T, U>, AllocError> {
     let room = crew.workers.len();
     let handles = Vec::with_capacity(shared.alloc, room)?;
-    let worked = Vec::with_capacity(shared.alloc, room.saturating_add(1))?;
-    let ran = thread::scope(
+    let workers = Vec::with_capacity(shared.alloc, room.saturating_add(1))?;
+    let record = thread::scope(
         thread::scope_env(),
         shared.rt,
-        |scope| -> Option<Ran<D, T, U>>
+        |scope| -> Option<CrewRecord<D, T, U>>
             requires { IsSend P.row × IsSend D.row × IsSend T.row × IsSend U.row × IsSend N.row
                 × IsSend C.row }
-        { run_in(scope, shared, crew, inlets, sender, handles, worked) },
+        { run_in(scope, shared, crew, inlets, sender, handles, workers) },
     );
-    ran.ok_or(AllocError)
+    record.ok_or(AllocError)
 }
 
 /// Runs the threads in a scope. None if one of them can't be made; those that were made then end
-/// without having begun.
+/// without having begun. The lists have room for what is put there.
 fn run_in<
     's,
     E,
@@ -83,16 +83,16 @@ fn run_in<
     crew: Crew<D, T, U, N, C>,
     inlets: Vec<Inlet>,
     sender: N,
-    handles: Vec<JoinHandle<Worked<D, T, U>>>,
-    worked: Vec<Worked<D, T, U>>,
-) -> Option<Ran<D, T, U>> {
+    handles: Vec<JoinHandle<WorkerRecord<D, T, U>>>,
+    records: Vec<WorkerRecord<D, T, U>>,
+) -> Option<CrewRecord<D, T, U>> {
     let Crew {
         receivers,
         workers,
         expiry,
     } = crew;
     let others = workers.len();
-    let (mut handles, mut worked) = (handles, worked);
+    let (mut handles, mut records) = (handles, records);
     for (end, worker) in receivers.into_iter().zip(workers) {
         match start_worker(scope, shared, end, worker) {
             Some(handle) => {
@@ -112,10 +112,13 @@ fn run_in<
     let all = others.saturating_add(1);
     let sent = send_all(shared.rt, shared.board, all, inlets, sender);
     for handle in handles {
-        let _ = worked.push(handle.join(shared.rt));
+        let _ = records.push(handle.join(shared.rt));
     }
-    let _ = worked.push(last.join(shared.rt));
-    Some(Ran { worked, sent })
+    let _ = records.push(last.join(shared.rt));
+    Some(CrewRecord {
+        workers: records,
+        sent,
+    })
 }
 
 /// Starts the thread of a receiving end. None if no thread can be made.
@@ -135,7 +138,7 @@ fn start_worker<
     shared: &'s Shared<'s, P, D, T, U, R, G>,
     end: N,
     worker: Worker<D, T, U, C>,
-) -> Option<JoinHandle<Worked<D, T, U>>> {
+) -> Option<JoinHandle<WorkerRecord<D, T, U>>> {
     scope.spawn(move || work(shared, end, worker)).ok()
 }
 
@@ -155,6 +158,6 @@ fn start_expiry<
     shared: &'s Shared<'s, P, D, T, U, R, G>,
     others: usize,
     worker: Worker<D, T, U, C>,
-) -> Option<JoinHandle<Worked<D, T, U>>> {
+) -> Option<JoinHandle<WorkerRecord<D, T, U>>> {
     scope.spawn(move || expire(shared, others, worker)).ok()
 }

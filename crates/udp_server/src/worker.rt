@@ -79,7 +79,7 @@ pub(crate) struct Worker<D: Hall, T: Ledger, U: Ledger, C: Moments> {
 
 /// What a worker leaves at its end.
 #[derive(Drop)]
-pub(crate) struct Worked<D: Hall, T: Ledger, U: Ledger> {
+pub(crate) struct WorkerRecord<D: Hall, T: Ledger, U: Ledger> {
     pub(crate) seat: Seat<D, T, U>,
     pub(crate) receipts: Vec<Receipt>,
     pub(crate) chapters: Vec<Chapter>,
@@ -88,7 +88,7 @@ pub(crate) struct Worked<D: Hall, T: Ledger, U: Ledger> {
 
 /// What came of a worker's step.
 #[derive(Clone, Copy)]
-pub(crate) enum Stepped {
+pub(crate) enum StepResult {
     /// It is the entry at this place of the history; whether nothing was due.
     Made { place: usize, is_idle: bool },
     /// There was no memory for it.
@@ -104,12 +104,12 @@ impl<D: Hall, T: Ledger, U: Ledger, C: Moments> Worker<D, T, U, C> {
         &mut self,
         shared: &Shared<'_, P, D, T, U, R, G>,
         event: Event,
-    ) -> Stepped {
+    ) -> StepResult {
         match self.ready(shared, event) {
             Ok((prepared, buffer)) => self.apply(shared, prepared, buffer),
             Err(AllocError) => {
                 self.counts.refuse();
-                Stepped::Refused
+                StepResult::Refused
             }
         }
     }
@@ -140,7 +140,7 @@ impl<D: Hall, T: Ledger, U: Ledger, C: Moments> Worker<D, T, U, C> {
         shared: &Shared<'_, P, D, T, U, R, G>,
         prepared: Prepared,
         buffer: Option<Vec<u8>>,
-    ) -> Stepped
+    ) -> StepResult
         requires { ForSome buffer (λ buffer. IsRoom buffer self.old.receipts) }
     {
         shared.gate.pass(self.number, Stage::BeforeApply);
@@ -148,9 +148,9 @@ impl<D: Hall, T: Ledger, U: Ledger, C: Moments> Worker<D, T, U, C> {
             Ok(receipt) => receipt,
             Err(StepFault::Memory) => {
                 self.counts.refuse();
-                return Stepped::Refused;
+                return StepResult::Refused;
             }
-            Err(StepFault::Closed) => return Stepped::Closed,
+            Err(StepFault::Closed) => return StepResult::Closed,
         };
         shared.gate.pass(self.number, Stage::AfterApply);
         let place = receipt.place;
@@ -159,7 +159,7 @@ impl<D: Hall, T: Ledger, U: Ledger, C: Moments> Worker<D, T, U, C> {
             self.post(shared, reply);
         }
         shared.gate.pass(self.number, Stage::AfterPost);
-        Stepped::Made { place, is_idle }
+        StepResult::Made { place, is_idle }
     }
 
     /// What is sent; the receipt is kept where there is a buffer for the copy of that.
@@ -196,7 +196,7 @@ impl<D: Hall, T: Ledger, U: Ledger, C: Moments> Worker<D, T, U, C> {
         self,
         shared: &Shared<'_, P, D, T, U, R, G>,
         chapters: Vec<Chapter>,
-    ) -> Worked<D, T, U> {
+    ) -> WorkerRecord<D, T, U> {
         let Worker {
             number: _,
             seat,
@@ -207,7 +207,7 @@ impl<D: Hall, T: Ledger, U: Ledger, C: Moments> Worker<D, T, U, C> {
         } = self;
         let _ = outlet.end();
         shared.board.end(shared.rt);
-        Worked {
+        WorkerRecord {
             seat,
             receipts,
             chapters,
