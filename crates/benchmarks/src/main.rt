@@ -3,6 +3,7 @@
 
 mod replays;
 mod requests;
+mod servers;
 mod snapshots;
 mod zones;
 
@@ -10,11 +11,13 @@ use anyhow::{Context, Result, bail};
 use snapshots::Sizes;
 use std::alloc::Global;
 use std::env;
-use std::rt::Env;
+use std::rt::{Env, Files};
+use std::sync::Wait;
+use std::thread::Threads;
 use std::time::Clock;
 
-const USAGE: &str =
-    "usage: benchmarks replays [ENDPOINTS STEPS] | snapshot ENDPOINTS CALLS REPLIES";
+const USAGE: &str = "usage: benchmarks replays [ENDPOINTS STEPS] | serve DATAGRAMS | \
+    snapshot ENDPOINTS CALLS REPLIES";
 
 /// Measures what the command line names, and prints what it finds. Without a word it does nothing.
 fn main(rt: HostRuntime) -> Result<()> {
@@ -23,7 +26,11 @@ fn main(rt: HostRuntime) -> Result<()> {
     chosen(&rt, alloc, words.as_slice())
 }
 
-fn chosen(rt: &(impl Clock + Print), alloc: Global, words: &[String]) -> Result<()> {
+fn chosen<R: Threads + Wait + Clock + Files + Print + Sync>(
+    rt: &R,
+    alloc: Global,
+    words: &[String],
+) -> Result<()> {
     match words {
         [] | [_] => Ok(()),
         [_, name] if name.as_str() == "replays" => replays::measure(rt, alloc, 1_000, 100_000),
@@ -31,6 +38,10 @@ fn chosen(rt: &(impl Clock + Print), alloc: Global, words: &[String]) -> Result<
             let endpoints = endpoints.parse::<usize>().context("ENDPOINTS")?;
             let steps = steps.parse::<usize>().context("STEPS")?;
             replays::measure(rt, alloc, endpoints, steps)
+        }
+        [_, name, datagrams] if name.as_str() == "serve" => {
+            let datagrams = datagrams.parse::<u64>().context("DATAGRAMS")?;
+            servers::measure(rt, alloc, datagrams)
         }
         [_, name, endpoints, calls, replies] if name.as_str() == "snapshot" => {
             let endpoints = endpoints.parse::<usize>().context("ENDPOINTS")?;

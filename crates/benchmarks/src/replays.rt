@@ -1,7 +1,7 @@
 //! How long it takes to do recorded steps again, beside how long the steps took.
 
 use crate::requests::{Endpoint, admission, disengage, keep_alive};
-use crate::zones::{datagram, register_all, zone_of};
+use crate::zones::{MOST_KEPT, datagram, register_all, zone_of};
 use anyhow::{Context, Result, bail, ensure};
 use book_replay::replays;
 use books::{Book, Entry};
@@ -217,7 +217,7 @@ pub fn measure(
     endpoints: usize,
     steps: usize,
 ) -> Result<()> {
-    let mut zone = zone_of(alloc)?;
+    let mut zone = zone_of(alloc, MOST_KEPT)?;
     let measured = measure_zone(rt, alloc, &mut zone, endpoints, steps);
     drop(zone);
     measured

@@ -3,17 +3,16 @@
 
 ghost use Rattle.std.specs.Prelude.{◌<◌};
 
-use ras_module::Octets;
+use ras_module::{EndpointId, Octets};
 use std::alloc::{AllocError, Global};
-use vectors::requests::{ARQ, DRQ, KEEP_ALIVE, RRQ_101};
+use vectors::requests::{ARQ, DRQ, GRQ, KEEP_ALIVE, RRQ_101};
 
 /// An endpoint that is registered.
 #[derive(Clone, Copy)]
 pub struct Endpoint {
     /// Its number, from 0, which has five digits at most. Its address and its digits come of it.
     pub number: u16,
-    /// Its identifier, of four characters.
-    pub identifier: [u8; 8],
+    pub identifier: EndpointId,
 }
 
 /// The address of the endpoint with this number.
@@ -36,6 +35,20 @@ fn alias_of(number: u16) -> [u8; 5] {
     [0x02, 0x00, first, second, digit_of(number) * 16]
 }
 
+/// The characters of an identifier, each in two octets.
+fn characters_of(alloc: Global, identifier: &EndpointId) -> Result<Vec<u8>, AllocError> {
+    let mut octets = Vec::new(alloc);
+    for code in identifier.as_slice() {
+        octets.extend_from_slice(&code.to_be_bytes())?;
+    }
+    Ok(octets)
+}
+
+/// The number of its characters, of 1 to 128, as seven bits encode it: one less (X.691 10.5).
+fn count_of(identifier: &EndpointId) -> u8 {
+    (identifier.as_slice().len() as u8).saturating_sub(1)
+}
+
 /// The parts, one behind the other.
 fn joined(alloc: Global, parts: &[&[u8]]) -> Result<Octets, AllocError> {
     let mut octets = Vec::new(alloc);
@@ -43,6 +56,13 @@ fn joined(alloc: Global, parts: &[&[u8]]) -> Result<Octets, AllocError> {
         octets.extend_from_slice(part)?;
     }
     Ok(Octets::from_vec(octets))
+}
+
+/// A GatekeeperRequest.
+pub fn discovery(seq: u16) -> [u8; 20] {
+    let mut octets = GRQ;
+    octets[2..4].copy_from_slice(&seq.to_be_bytes());
+    octets
 }
 
 /// A RegistrationRequest of the endpoint with this number.
@@ -65,6 +85,11 @@ pub fn registration(alloc: Global, number: u16) -> Result<Octets, AllocError> {
 /// A RegistrationRequest with keepAlive.
 pub fn keep_alive(alloc: Global, endpoint: &Endpoint, seq: u16) -> Result<Octets, AllocError> {
     let address = address_of(endpoint.number);
+    let identifier = characters_of(alloc, &endpoint.identifier)?;
+    // The identifier stands in an open type, behind seven bits of its own and one that pads them.
+    let length = u8::try_from(identifier.len())
+        .unwrap_or(u8::MAX)
+        .saturating_add(1);
     joined(
         alloc,
         &[
@@ -74,8 +99,9 @@ pub fn keep_alive(alloc: Global, endpoint: &Endpoint, seq: u16) -> Result<Octets
             &address,
             &KEEP_ALIVE[18..22],
             &address,
-            &KEEP_ALIVE[26..40],
-            &endpoint.identifier,
+            &KEEP_ALIVE[26..38],
+            &[length, count_of(&endpoint.identifier) << 1],
+            &identifier,
         ],
     )
 }
@@ -89,13 +115,16 @@ pub fn admission(
     called: u16,
     call: u64,
 ) -> Result<Octets, AllocError> {
+    let identifier = characters_of(alloc, &endpoint.identifier)?;
+    // Three bits of the type of call, then seven of the identifier, and six that pad them.
+    let count = u16::from(count_of(&endpoint.identifier)) << 6;
     joined(
         alloc,
         &[
             &ARQ[..2],
             &seq.to_be_bytes(),
-            &ARQ[4..6],
-            &endpoint.identifier,
+            &count.to_be_bytes(),
+            &identifier,
             &ARQ[14..15],
             &alias_of(called),
             &ARQ[19..28],
@@ -114,13 +143,14 @@ pub fn disengage(
     seq: u16,
     call: u64,
 ) -> Result<Octets, AllocError> {
+    let identifier = characters_of(alloc, &endpoint.identifier)?;
     joined(
         alloc,
         &[
             &DRQ[..1],
             &seq.to_be_bytes(),
-            &DRQ[3..4],
-            &endpoint.identifier,
+            &[count_of(&endpoint.identifier) << 1],
+            &identifier,
             &call.to_be_bytes(),
             &DRQ[20..34],
             &call.to_be_bytes(),

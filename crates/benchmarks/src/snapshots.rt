@@ -1,7 +1,7 @@
 //! How long a copy of a zone's state takes, which is what a cut of its history holds the lock for.
 
 use crate::requests::{Endpoint, admission, keep_alive};
-use crate::zones::{datagram, register_all, zone_of};
+use crate::zones::{MOST_KEPT, datagram, register_all, zone_of};
 use anyhow::{Context, Result, ensure};
 use pools::FixedPool;
 use ras_core::{Moment, Note, Zone};
@@ -96,7 +96,7 @@ fn fill_and_print(
 
 /// Fills the tables of a zone, copies its state, and prints how long each copy takes.
 pub fn measure(rt: &(impl Clock + Print), alloc: Global, sizes: Sizes) -> Result<()> {
-    let mut zone = zone_of(alloc)?;
+    let mut zone = zone_of(alloc, MOST_KEPT)?;
     let measured = fill_and_print(rt, alloc, &mut zone, sizes);
     drop(zone);
     measured

@@ -4,7 +4,7 @@ use crate::requests::{Endpoint, address_of, registration};
 use anyhow::{Context, Result, bail, ensure};
 use pools::{FixedPool, PoolSet};
 use ras_core::{Config, ConfigParts, Event, Moment, Networks, Zone};
-use ras_module::{Address, EndpointId, Name, Octets, Source};
+use ras_module::{Address, Name, Octets, Source};
 use std::alloc::Global;
 
 /// A datagram of the endpoint with this number.
@@ -16,8 +16,12 @@ pub fn datagram(number: u16, octets: Octets, moment: Moment) -> Event {
     Event::Datagram(from, octets, moment)
 }
 
-/// A zone without endpoints over one pool, whose tables are as large as they may be.
-pub fn zone_of(alloc: Global) -> Result<Zone<FixedPool>> {
+/// How many replies a zone may keep at most.
+pub const MOST_KEPT: u64 = 65_536;
+
+/// A zone without endpoints over one pool, which keeps so many replies and whose other tables are as
+/// large as they may be.
+pub fn zone_of(alloc: Global, kept: u64) -> Result<Zone<FixedPool>> {
     let identifier = Name::new(&[103, 107]).context("a name")?;
     let address = Address {
         ip: [10, 0, 0, 1],
@@ -30,7 +34,7 @@ pub fn zone_of(alloc: Global) -> Result<Zone<FixedPool>> {
     parts.time_to_live = 3_600;
     parts.endpoints = 20_000;
     parts.calls = 20_000;
-    parts.kept = 65_536;
+    parts.kept = kept;
     let config = Config::new(parts)?;
     let mut pools = Vec::new(alloc);
     pools.push(FixedPool::new(1_000_000_000))?;
@@ -43,25 +47,12 @@ pub fn zone_of(alloc: Global) -> Result<Zone<FixedPool>> {
     }
 }
 
-/// The octets of an identifier of four characters.
-fn octets_of(identifier: &EndpointId) -> Result<[u8; 8]> {
-    let [a, b, c, d] = identifier.as_slice() else {
-        bail!("an identifier hasn't four characters");
-    };
-    let ([a, e], [b, f]) = (a.to_be_bytes(), b.to_be_bytes());
-    let ([c, g], [d, h]) = (c.to_be_bytes(), d.to_be_bytes());
-    Ok([a, e, b, f, c, g, d, h])
-}
-
 /// The endpoint with this number registers.
 fn register(alloc: Global, zone: &mut Zone<FixedPool>, number: u16) -> Result<Endpoint> {
     let octets = registration(alloc, number)?;
     let outcome = zone.step(datagram(number, octets, Moment::START))?;
-    let given = outcome.given.context("an endpoint isn't registered")?;
-    Ok(Endpoint {
-        number,
-        identifier: octets_of(&given)?,
-    })
+    let identifier = outcome.given.context("an endpoint isn't registered")?;
+    Ok(Endpoint { number, identifier })
 }
 
 /// So many endpoints register.

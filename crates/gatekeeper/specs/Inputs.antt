@@ -4,6 +4,7 @@ use Rattle.std.specs.Prelude.{Result, Ok, Err}
 use Rattle.settings.specs.declared.fault.SettingsFault.{SettingsFault}
 use Rattle.settings.specs.declared.fault.SettingsFault.TheVariants as settings
 use Rattle.settings.specs.Settings.{settings_of, IsAnswer}
+use Rattle.settings.specs.declared.settings.Settings.{Settings}
 use Rattle.gatekeeper.specs.declared.settings_input.InputFault.{InputFault}
 use Rattle.gatekeeper.specs.declared.settings_input.InputFault.TheVariants.{Stream, TooLong}
 use Rattle.gatekeeper.specs.declared.settings_input.InputFault.TheVariants.{NotText, Refused}
@@ -46,3 +47,10 @@ IsInputRead octets (Err Stream) = Unit {0}
 IsInputRead octets (Err Memory) = Unit {0}
 IsInputRead octets answer =
     (length octets ≤ 1048576) × IsUtf8 octets × IsTextRead octets answer
+
+-- the octets are settings: no more than are read, UTF-8, and a text that gives settings
+pub record GivesSettings (octets : List ℕ) : Type 0 where
+  pub few : length octets ≤ 1048576
+  pub text : IsUtf8 octets
+  pub values : Settings
+  pub given : settings_of octets ≡ Some (Ok values)

@@ -1,10 +1,10 @@
 -- The exit status of each fault of serving.
 use Rattle.std.specs.Prelude.{ℕ}
 use Rattle.gatekeeper.specs.Inputs.{input_status}
-use Rattle.gatekeeper.specs.declared.serve.ServingFault.{ServingFault}
-use Rattle.gatekeeper.specs.declared.serve.ServingFault.TheVariants.{Settings, Bind, Memory}
-use Rattle.gatekeeper.specs.declared.serve.ServingFault.TheVariants.{WrongPools, NotFinished}
-use Rattle.gatekeeper.specs.declared.serve.ServingFault.TheVariants.{Stream}
+use Rattle.gatekeeper.specs.declared.serving_fault.ServingFault.{ServingFault}
+use Rattle.gatekeeper.specs.declared.serving_fault.ServingFault.TheVariants.{Settings, Bind}
+use Rattle.gatekeeper.specs.declared.serving_fault.ServingFault.TheVariants.{Memory, WrongPools}
+use Rattle.gatekeeper.specs.declared.serving_fault.ServingFault.TheVariants.{NotFinished, Stream}
 
 -- 1: the settings are refused, or the zone didn't come back; 3: no memory; 4: the socket couldn't be
 -- made, or a stream failed

@@ -7,10 +7,12 @@ ghost use Rattle.gatekeeper.specs.Replays.{status_of};
 
 mod boxed_pools;
 mod cli;
+mod elapsed;
 mod key_lines;
 mod replay;
 mod report;
 mod serve;
+mod serving_fault;
 mod settings_check;
 mod settings_input;
 mod stop_signal;
@@ -21,8 +23,8 @@ use log::Log;
 use replay::{ReplayFault, replay};
 use script::Output;
 use serve::serve;
-use settings_check::write_checked;
-use settings_input::{InputFault, read_input};
+use settings_check::check_settings;
+use settings_input::InputFault;
 use std::alloc::{AllocError, Global};
 use std::io::BufWriter;
 use std::net::Net;
@@ -39,6 +41,7 @@ const NO_MEMORY: u8 = 3;
 
 fn main(rt: HostRuntime) -> ExitCode {
     let alloc = rt.alloc();
+    // It reads a file of the system's, which only what has the whole runtime may hand to threads.
     let stop = StopSignal::new(&rt, alloc);
     let status = match words(&rt, alloc) {
         Ok(words) => run(&rt, alloc, &stop, words.as_slice()),
@@ -101,21 +104,19 @@ fn refuse(rt: &impl Eprint, fault: &ReplayFault) -> u8
 /// Checks the settings on standard input, and prints them, with a warning for each key that is passed
 /// over.
 fn check_input<R: Input + Print + Eprint>(rt: &R, alloc: Global) -> u8 {
-    let read = match read_input(alloc, rt.reader()) {
-        Ok(read) => read,
-        Err(fault) => return refuse_settings(rt, &fault),
-    };
     let Ok(buffer) = BufWriter::new(alloc, io::writer(rt)) else {
         return out_of_memory(rt);
     };
     let mut out = Output::new(buffer);
-    if write_checked(&read.settings, &mut out).is_err() {
-        return refuse_settings(rt, &InputFault::Stream);
+    match check_settings(alloc, rt.reader(), &mut out) {
+        Ok(passed_over) => {
+            for key in &passed_over {
+                let _ = eprintln!(rt; "warning: {key}");
+            }
+            0
+        }
+        Err(fault) => refuse_settings(rt, &fault),
     }
-    for key in &read.passed_over {
-        let _ = eprintln!(rt; "warning: {key}");
-    }
-    0
 }
 
 /// Tells in one line on standard error why settings aren't read.

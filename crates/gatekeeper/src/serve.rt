@@ -1,13 +1,13 @@
 //! Serving a zone over UDP.
 
-ghost use Rattle.std.specs.Prelude.{◌≡◌, ◌≤◌};
+ghost use Rattle.std.specs.Prelude.{◌≤◌};
 ghost use Rattle.settings.specs.Ranges.{AreServeNumbers};
 ghost use Rattle.udp_server.specs.Plans.{IsPlan};
-ghost use Rattle.gatekeeper.specs.Serves.{serve_status};
 
 use crate::boxed_pools::pools_of;
 use crate::report::{has_faults, print_report};
-use crate::settings_input::{InputFault, PassedOver, ReadInput, read_input};
+use crate::serving_fault::ServingFault;
+use crate::settings_input::{PassedOver, ReadInput, read_input};
 use crate::stopwatch::Stopwatch;
 use log::{Log, info, warn};
 use pools::{Pool, PoolSet};
@@ -23,65 +23,11 @@ use std::rt::Clock;
 use std::sync::Wait;
 use std::thread::Threads;
 use std::time::Instant;
-use thiserror::Error;
-use udp_server::{Open, Plan, Report, ServeFault, serve_zone};
-use udp_socket::{BindFault, BoundSocket, SocketEnd, Stop, bind_zone};
+use udp_server::{Open, Plan, Report, serve_zone};
+use udp_socket::{BoundSocket, SocketEnd, Stop, bind_zone};
 
 /// With how many entries a chapter of the history ends.
 const CHAPTER: usize = 4_096;
-
-/// Why there is no report.
-#[derive(Clone, Copy, Debug, PartialEq, Eq, Error)]
-pub enum ServingFault {
-    /// The settings aren't read.
-    #[error(transparent)]
-    Settings(InputFault),
-    /// The address of the zone isn't bound.
-    #[error(transparent)]
-    Bind(BindFault),
-    /// Memory is refused.
-    #[error("out of memory")]
-    Memory,
-    /// The pools aren't those of the settings.
-    #[error("wrong pools")]
-    WrongPools,
-    /// The server didn't give its zone back.
-    #[error("not finished")]
-    NotFinished,
-    /// Standard output failed.
-    #[error("stream failed")]
-    Stream,
-}
-
-impl ServingFault {
-    /// The exit status: 1 if the settings are refused, 3 if there is no memory, and 4 if the socket
-    /// can't be made or a stream failed.
-    pub fn status(&self) -> u8
-        ensures { result ≡ serve_status self.now }
-    {
-        match self {
-            ServingFault::Settings(fault) => fault.status(),
-            ServingFault::Bind(_) | ServingFault::Stream => 4,
-            ServingFault::Memory => 3,
-            ServingFault::WrongPools | ServingFault::NotFinished => 1,
-        }
-    }
-}
-
-impl From<AllocError> for ServingFault {
-    fn from(_: AllocError) -> ServingFault {
-        ServingFault::Memory
-    }
-}
-
-impl From<ServeFault> for ServingFault {
-    fn from(fault: ServeFault) -> ServingFault {
-        match fault {
-            ServeFault::Memory => ServingFault::Memory,
-            ServeFault::WrongCounts | ServeFault::NotFinished => ServingFault::NotFinished,
-        }
-    }
-}
 
 /// A name as people read it.
 #[derive(Drop)]
@@ -164,7 +110,7 @@ fn zone_of<P: Pool>(alloc: Global, config: Config, pools: Vec<P>) -> Result<Zone
 fn clocks_of<'a, R: Clock>(
     rt: &'a R,
     alloc: Global,
-    start: Instant,
+    start: Option<Instant>,
     count: usize,
 ) -> Result<Vec<Stopwatch<'a, R>>, AllocError> {
     let mut clocks = Vec::with_capacity(alloc, count)?;
@@ -201,9 +147,7 @@ fn serve_socket<P: Pool + Send, R: Threads + Wait + Clock + Sync, S: Stop + Sync
     requires receivers { service.receivers ≤ 15 }
     requires plan { IsPlan service.plan }
 {
-    let Ok(start) = Instant::now(rt) else {
-        return Err(ServingFault::NotFinished);
-    };
+    let start = Instant::now(rt).ok();
     let ends = ends_of(alloc, socket, service, stop)?;
     let clocks = clocks_of(rt, alloc, start, service.receivers + 1)?;
     let sender = socket.end(None, stop);
@@ -275,7 +219,6 @@ pub fn serve<
         passed_over,
     } = match read_input(alloc, input) {
         Ok(read) => read,
-        Err(InputFault::Memory) => return Err(ServingFault::Memory),
         Err(fault) => return Err(ServingFault::Settings(fault)),
     };
     warn_of(rt, &passed_over);

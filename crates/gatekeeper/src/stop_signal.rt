@@ -1,6 +1,7 @@
 //! Signals that ask the program to end. It is started with SIGTERM and SIGINT blocked, as `./gatekeeper
 //! serve` starts it; a signal that came then waits, and the system tells so.
 
+use crate::elapsed::milliseconds_since;
 use std::alloc::Global;
 use std::fs;
 use std::rt::{Clock, Files};
@@ -54,17 +55,6 @@ impl<'a, R: Clock + Files> StopSignal<'a, R> {
         }
     }
 
-    /// The milliseconds since the start. If the clock can't be read, each look is due.
-    fn now(&self) -> u64 {
-        let Some(start) = self.start else {
-            return u64::MAX;
-        };
-        match start.elapsed(self.rt) {
-            Ok(passed) => u64::try_from(passed.as_millis()).unwrap_or(u64::MAX),
-            Err(_) => u64::MAX,
-        }
-    }
-
     fn looks(&self) -> bool {
         match fs::read_to_string(&(self.rt, self.alloc), STATUS) {
             Ok(status) => is_asked(status.as_str()),
@@ -78,7 +68,8 @@ impl<R: Clock + Files> Stop for StopSignal<'_, R> {
         if self.was_asked.load(Ordering::SeqCst) {
             return true;
         }
-        let now = self.now();
+        // If the clock can't be read, each look is due.
+        let now = milliseconds_since(self.rt, self.start).unwrap_or(u64::MAX);
         if now < self.next.load(Ordering::SeqCst) {
             return false;
         }

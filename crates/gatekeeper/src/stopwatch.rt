@@ -1,5 +1,6 @@
 //! The clock of a server.
 
+use crate::elapsed::milliseconds_since;
 use std::rt::Clock;
 use std::time::Instant;
 use udp_server::Moments;
@@ -9,13 +10,13 @@ use zone_config::Moment;
 #[derive(Drop)]
 pub struct Stopwatch<'a, R> {
     rt: &'a R,
-    start: Instant,
+    start: Option<Instant>,
     last: Moment,
 }
 
 impl<'a, R: Clock> Stopwatch<'a, R> {
-    /// A clock that began at this moment.
-    pub fn new(rt: &'a R, start: Instant) -> Self {
+    /// A clock that began at this moment; None if the system's clock couldn't be read then.
+    pub fn new(rt: &'a R, start: Option<Instant>) -> Self {
         Stopwatch {
             rt,
             start,
@@ -26,8 +27,7 @@ impl<'a, R: Clock> Stopwatch<'a, R> {
 
 impl<R: Clock> Moments for Stopwatch<'_, R> {
     fn now(&mut self) -> Moment {
-        if let Ok(passed) = self.start.elapsed(self.rt) {
-            let milliseconds = u64::try_from(passed.as_millis()).unwrap_or(u64::MAX);
+        if let Some(milliseconds) = milliseconds_since(self.rt, self.start) {
             if let Some(moment) = Moment::new(milliseconds) {
                 self.last = moment;
             }

@@ -10,6 +10,8 @@ mod counts;
 #[cfg(test)]
 mod ends;
 #[cfg(test)]
+mod failing;
+#[cfg(test)]
 mod fixtures;
 #[cfg(test)]
 mod loopback;

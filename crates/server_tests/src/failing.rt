@@ -1,0 +1,315 @@
+//! Each receive and each send fails once, in turn.
+
+ghost use Rattle.std.specs.Prelude.{◌≡◌};
+ghost use Rattle.udp_server.specs.Ends.{fault_count};
+
+use crate::clocks::clocks;
+use crate::fixtures::{ENDPOINT, PLAN, zone};
+use book_audit::audit;
+use pools::{FixedPool, Pool};
+use std::alloc::Global;
+use std::rt::Clock;
+use std::sync::Wait;
+use std::sync::atomic::{AtomicBool, AtomicU64, Ordering};
+use std::thread;
+use std::thread::Threads;
+use std::time::Duration;
+use udp_server::{Datagrams, DeviceFault, Gate, Open, Received, Report, Stage, serve_zone};
+use vectors::requests::{GRQ, GRQ_OF_XX};
+use zone_events::Datagram;
+
+/// A number of a call that none has.
+const NEVER: u64 = u64::MAX;
+
+/// For how many milliseconds a worker is held at most.
+const PATIENCE: usize = 10_000;
+
+/// What is known of an end: which of its calls fails, counted from 0, how many it was asked for and how
+/// many of them have failed, and whether it has told that it stopped.
+#[derive(Drop)]
+struct Record {
+    fails_at: u64,
+    calls: AtomicU64,
+    failed: AtomicU64,
+    has_stopped: AtomicBool,
+}
+
+impl Record {
+    fn new(fails_at: u64) -> Self {
+        Record {
+            fails_at,
+            calls: AtomicU64::new(0),
+            failed: AtomicU64::new(0),
+            has_stopped: AtomicBool::new(false),
+        }
+    }
+
+    /// Counts one call more. Whether it fails.
+    fn fails(&self) -> bool {
+        self.calls.fetch_add(1, Ordering::SeqCst) == self.fails_at
+    }
+
+    fn failed(&self) -> u64 {
+        self.failed.load(Ordering::SeqCst)
+    }
+}
+
+/// A discovery that is confirmed, or one that is rejected.
+#[derive(Clone, Copy)]
+enum Discovery {
+    Confirmed,
+    Rejected,
+}
+
+/// An end that gives these datagrams and then has stopped.
+#[derive(Drop)]
+struct Failing<'a> {
+    record: &'a Record,
+    discoveries: &'static [Discovery],
+    next: usize,
+    faults: u64,
+}
+
+impl<'a> Failing<'a> {
+    fn new(record: &'a Record, discoveries: &'static [Discovery]) -> Self {
+        Failing {
+            record,
+            discoveries,
+            next: 0,
+            faults: 0,
+        }
+    }
+
+    fn fault(&mut self) -> DeviceFault
+        ensures { self.new.faults ≡ fault_count self.old.faults }
+    {
+        self.faults = self.faults.saturating_add(1);
+        self.record.failed.fetch_add(1, Ordering::SeqCst);
+        DeviceFault
+    }
+}
+
+impl Datagrams for Failing<'_> {
+    ghost faults = { λ end. end.faults };
+
+    fn receive(&mut self, buffer: &mut [u8; 4_097]) -> Result<Received, DeviceFault> {
+        if self.record.fails() {
+            return Err(self.fault());
+        }
+        let discovery = self.discoveries.get(self.next).copied();
+        self.next = self.next.saturating_add(1);
+        let octets = match discovery {
+            Some(Discovery::Confirmed) => {
+                buffer[..GRQ.len()].copy_from_slice(&GRQ);
+                GRQ.len()
+            }
+            Some(Discovery::Rejected) => {
+                buffer[..GRQ_OF_XX.len()].copy_from_slice(&GRQ_OF_XX);
+                GRQ_OF_XX.len()
+            }
+            None => {
+                self.record.has_stopped.store(true, Ordering::SeqCst);
+                return Ok(Received::Stopped);
+            }
+        };
+        Ok(Received::Datagram(ENDPOINT, octets))
+    }
+
+    fn send(&mut self, _datagram: &Datagram) -> Result<(), DeviceFault> {
+        if self.record.fails() {
+            return Err(self.fault());
+        }
+        Ok(())
+    }
+
+    fn failures(&self) -> u64 {
+        self.faults
+    }
+}
+
+/// What a server over one such end leaves.
+fn served<R: Threads + Wait + Clock + Sync>(
+    rt: &R,
+    alloc: Global,
+    receiver: &Record,
+    sender: &Record,
+    discoveries: &'static [Discovery],
+) -> Option<Report<FixedPool>> {
+    let reads = AtomicU64::new(0);
+    let zone = zone(alloc)?;
+    let mut receivers = Vec::new(alloc);
+    receivers.push(Failing::new(receiver, discoveries)).ok()?;
+    let clocks = clocks(alloc, 1, &reads)?;
+    let sender = Failing::new(sender, &[]);
+    serve_zone(rt, alloc, zone, receivers, sender, &Open, clocks, PLAN).ok()
+}
+
+/// How many entries have an output.
+fn outputs<P: Pool>(report: &Report<P>) -> u64 {
+    let entries = report.finished.entries().iter();
+    entries
+        .filter(|entry| entry.outcome.output.is_some())
+        .count() as u64
+}
+
+/// Whether each output was sent, dropped or lost by a failed send, so many calls have failed, and the
+/// receipts pass their audit.
+fn agrees<P: Pool>(report: &Report<P>, failed: u64) -> bool {
+    let tried = report.sent.saturating_add(report.send_faults);
+    tried.saturating_add(report.dropped) == outputs(report)
+        && report.receive_faults.saturating_add(report.send_faults) == failed
+        && audit(&report.chapters, &report.finished, &report.receipts).is_ok()
+}
+
+/// Two requests, the first of them twice: it is answered by its kept reply then.
+const REPEATED: [Discovery; 3] = [
+    Discovery::Confirmed,
+    Discovery::Rejected,
+    Discovery::Confirmed,
+];
+
+/// Whether a run agrees in which these calls fail, and whether one has failed.
+fn agrees_if_failing<R: Threads + Wait + Clock + Sync>(
+    rt: &R,
+    alloc: Global,
+    receive: u64,
+    send: u64,
+) -> Option<(bool, bool)> {
+    let (receiver, sender) = (Record::new(receive), Record::new(send));
+    let report = served(rt, alloc, &receiver, &sender, &REPEATED)?;
+    let failed = receiver.failed().saturating_add(sender.failed());
+    Some((agrees(&report, failed), failed > 0))
+}
+
+/// In how many runs a receive has failed, each time another one, until none does; None if one of the
+/// runs doesn't agree.
+fn failing_receives<R: Threads + Wait + Clock + Sync>(rt: &R, alloc: Global) -> Option<u64> {
+    for receive in 0..100 {
+        match agrees_if_failing(rt, alloc, receive, NEVER)? {
+            (true, true) => {}
+            (true, false) => return Some(receive),
+            (false, _) => return None,
+        }
+    }
+    None
+}
+
+/// The same of sends.
+fn failing_sends<R: Threads + Wait + Clock + Sync>(rt: &R, alloc: Global) -> Option<u64> {
+    for send in 0..100 {
+        match agrees_if_failing(rt, alloc, NEVER, send)? {
+            (true, true) => {}
+            (true, false) => return Some(send),
+            (false, _) => return None,
+        }
+    }
+    None
+}
+
+#[test]
+fn each_receive_fails_in_turn(rt: HostRuntime) {
+    // Three give a datagram, and the fourth one tells that the end has stopped.
+    let failed = failing_receives(&rt, rt.alloc());
+    assert!(rt; failed == Some(4));
+}
+
+#[test]
+fn each_send_fails_in_turn(rt: HostRuntime) {
+    let failed = failing_sends(&rt, rt.alloc());
+    assert!(rt; failed == Some(3));
+}
+
+/// The counts of a report but for its turns.
+fn counts<P: Pool>(report: &Report<P>) -> (u64, u64, u64, u64, u64, u64) {
+    (
+        report.datagrams,
+        report.sent,
+        report.dropped,
+        report.refused,
+        report.receive_faults,
+        report.send_faults,
+    )
+}
+
+/// The counts of a run in which the second receive fails, between two datagrams.
+fn between<R: Threads + Wait + Clock + Sync>(
+    rt: &R,
+    alloc: Global,
+) -> Option<(u64, u64, u64, u64, u64, u64)> {
+    const TWO: [Discovery; 2] = [Discovery::Confirmed, Discovery::Rejected];
+    let (receiver, sender) = (Record::new(1), Record::new(NEVER));
+    let report = served(rt, alloc, &receiver, &sender, &TWO)?;
+    Some(counts(&report))
+}
+
+#[test]
+fn a_failed_receive_loses_no_datagram(rt: HostRuntime) {
+    let counts = between(&rt, rt.alloc());
+    assert!(rt; counts == Some((2, 2, 0, 0, 1, 0)));
+}
+
+/// The counts of a run in which the first send fails, and its request comes again.
+fn resent<R: Threads + Wait + Clock + Sync>(
+    rt: &R,
+    alloc: Global,
+) -> Option<(u64, u64, u64, u64, u64, u64)> {
+    const TWICE: [Discovery; 2] = [Discovery::Confirmed, Discovery::Confirmed];
+    let (receiver, sender) = (Record::new(NEVER), Record::new(0));
+    let report = served(rt, alloc, &receiver, &sender, &TWICE)?;
+    Some(counts(&report))
+}
+
+#[test]
+fn a_repeat_is_answered_after_a_failed_send(rt: HostRuntime) {
+    let counts = resent(&rt, rt.alloc());
+    assert!(rt; counts == Some((2, 1, 0, 0, 0, 1)));
+}
+
+/// A gate that holds the first worker before its step until an end has stopped.
+#[derive(Drop)]
+struct UntilStopped<'a, R> {
+    rt: &'a R,
+    record: &'a Record,
+}
+
+impl<R: Clock> Gate for UntilStopped<'_, R> {
+    fn pass(&self, worker: usize, stage: Stage) {
+        if worker != 0 || stage != Stage::BeforeApply {
+            return;
+        }
+        for _ in 0..PATIENCE {
+            if self.record.has_stopped.load(Ordering::SeqCst) {
+                return;
+            }
+            thread::sleep(self.rt, Duration::from_millis(1));
+        }
+    }
+}
+
+/// The counts of a run of two ends, of which the second one stops before the first one's step.
+fn outlasting<R: Threads + Wait + Clock + Sync>(
+    rt: &R,
+    alloc: Global,
+) -> Option<(u64, u64, u64, u64, u64, u64)> {
+    const ONE: [Discovery; 1] = [Discovery::Confirmed];
+    let reads = AtomicU64::new(0);
+    let (first, second, sender) = (Record::new(NEVER), Record::new(NEVER), Record::new(NEVER));
+    let zone = zone(alloc)?;
+    let mut receivers = Vec::new(alloc);
+    receivers.push(Failing::new(&first, &ONE)).ok()?;
+    receivers.push(Failing::new(&second, &[])).ok()?;
+    let clocks = clocks(alloc, 2, &reads)?;
+    let gate = UntilStopped {
+        rt,
+        record: &second,
+    };
+    let sender = Failing::new(&sender, &[]);
+    let report = serve_zone(rt, alloc, zone, receivers, sender, &gate, clocks, PLAN).ok()?;
+    Some(counts(&report))
+}
+
+#[test]
+fn a_worker_goes_on_after_another_has_stopped(rt: HostRuntime) {
+    let counts = outlasting(&rt, rt.alloc());
+    assert!(rt; counts == Some((1, 1, 0, 0, 0, 0)));
+}
