@@ -7,6 +7,8 @@ mod calls;
 #[cfg(test)]
 mod copies;
 #[cfg(test)]
+mod deadlines;
+#[cfg(test)]
 mod due_items;
 #[cfg(test)]
 mod endpoints;

@@ -1,0 +1,22 @@
+-- Moments by which things are due: at most one for each place.
+use Rattle.std.specs.Prelude.{◌≡◌, ◌≤◌, ℕ, Some}
+use Rattle.std.specs.Ordering.{nat_cmp}
+use Rattle.std.specs.FinMap.{FinMap, get, remove}
+use Rattle.keyed.specs.Maps.{put_if}
+
+-- the moment of each place that has one
+abbrev pub Moments : Type 0
+Moments = FinMap nat_cmp ℕ
+
+-- with the number below which places can have one with no further memory
+pub record DeadlineTable : Type 0 where
+  pub moments : Moments
+  pub room : ℕ
+
+-- the moment of one place, if it has one, is another's
+abbrev pub renamed : Moments → ℕ → ℕ → Moments
+renamed moments from to = put_if (remove (remove moments from) to) to (get moments from)
+
+-- no moment is before this one
+abbrev pub IsLeast : Moments → ℕ → Type 0
+IsLeast moments least = (place moment : ℕ) → get moments place ≡ Some moment → least ≤ moment
