@@ -7,7 +7,7 @@ mod calls;
 #[cfg(test)]
 mod copies;
 #[cfg(test)]
-mod deadlines;
+mod due_moments;
 #[cfg(test)]
 mod due_items;
 #[cfg(test)]
