@@ -7,9 +7,9 @@ mod calls;
 #[cfg(test)]
 mod copies;
 #[cfg(test)]
-mod due_moments;
-#[cfg(test)]
 mod due_items;
+#[cfg(test)]
+mod due_moments;
 #[cfg(test)]
 mod endpoints;
 #[cfg(test)]
