@@ -2,6 +2,8 @@
 #![tactic(auto)]
 
 mod fault;
+mod holder;
+mod key;
 mod table;
 
 pub use fault::SetFault;
