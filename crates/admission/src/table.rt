@@ -15,10 +15,9 @@ use crate::call::Call;
 use crate::call_list::{CallList, rising};
 use crate::copies::copies_of;
 use crate::fault::CallFault;
-use crate::in_use::InUse;
 use crate::leg::Leg;
 use crate::legs::Legs;
-use crate::sums::{call_in, legs_with, units_of_pool};
+use crate::sums::{call_in, legs_with, units_in, units_of_pool};
 use indexmap::IndexMap;
 use ras_module::{CallKey, EndpointId};
 use std::alloc::{AllocError, Global};
@@ -36,8 +35,6 @@ pub struct Left {
 pub struct Calls {
     calls: IndexMap<CallKey, Call>,
     most: usize,
-    // what the calls use, changed with them
-    in_use: InUse,
 }
 
 impl Model for Calls {
@@ -46,7 +43,6 @@ impl Model for Calls {
     ghost use Rattle.indexmap.specs.IndexMap.{spare};
     ghost use Rattle.admission.specs.Calls.{CallTable, open_calls_of};
     ghost use Rattle.admission.specs.inside.Stored.{AreStored};
-    ghost use Rattle.admission.specs.inside.Counted.{AreCounted};
 
     ghost Value = { CallTable };
 
@@ -58,7 +54,7 @@ impl Model for Calls {
       room = spare t.calls;
     } };
 
-    ghost invariant = { λ t. AreCounted t.calls t.most t.in_use };
+    ghost invariant = { λ t. AreStored t.calls t.most };
 }
 
 impl Calls {
@@ -73,7 +69,6 @@ impl Calls {
         Calls {
             calls: IndexMap::new(alloc),
             most,
-            in_use: InUse::none(),
         }
     }
 
@@ -86,7 +81,6 @@ impl Calls {
         Ok(Calls {
             calls,
             most: self.most,
-            in_use: self.in_use,
         })
     }
 
@@ -157,7 +151,7 @@ impl Calls {
         ensures sum { result ≡ in_use self.now.calls }
         ensures bound { result < 2 ^ 47 }
     {
-        self.in_use.total
+        units_in(&self.calls)
     }
 
     /// The units of the calls of one pool.
@@ -165,10 +159,7 @@ impl Calls {
         ensures sum { result ≡ in_use_of self.now.calls pool }
         ensures bound { result < 2 ^ 47 }
     {
-        match self.in_use.of_pool(pool) {
-            Some(units) => *units,
-            None => units_of_pool(&self.calls, pool),
-        }
+        units_of_pool(&self.calls, pool)
     }
 
     /// Copies, by rising key.
@@ -211,10 +202,7 @@ impl Calls {
             legs: Legs::one(leg),
         };
         match self.calls.insert(key, call) {
-            Ok(_) => {
-                self.in_use.add(pool, units);
-                Ok(())
-            }
+            Ok(_) => Ok(()),
             Err(_) => Err(CallFault::Memory),
         }
     }
@@ -253,13 +241,10 @@ impl Calls {
         ensures memory { result ≢ Err CallFault.Memory }
         ensures err { OnErr result (self.new ≡ self.old) }
     {
-        let Some(call) = self.get(key) else {
+        let Some(_call) = self.get(key) else {
             return Err(CallFault::NoCall);
         };
-        let (pool, before) = (call.pool, call.units);
         write_units(&mut self.calls, key, units);
-        self.in_use.take(pool, before);
-        self.in_use.add(pool, units);
         Ok(())
     }
 
@@ -287,12 +272,9 @@ impl Calls {
             write_without(&mut self.calls, key, endpoint);
             return Ok(Left { ended: None });
         }
-        let (pool, units) = (call.pool, call.units);
+        let ended = Some((call.pool, call.units));
         self.calls.swap_remove(key);
-        self.in_use.take(pool, units);
-        Ok(Left {
-            ended: Some((pool, units)),
-        })
+        Ok(Left { ended })
     }
 }
 

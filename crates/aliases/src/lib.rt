@@ -2,8 +2,6 @@
 #![tactic(auto)]
 
 mod fault;
-mod holder;
-mod key;
 mod table;
 
 pub use fault::SetFault;

@@ -3,12 +3,10 @@
 #![tactic(auto)]
 
 mod copies;
-mod due_moments;
 mod entry;
 mod fault;
 mod key;
 mod list;
-mod rows;
 mod searches;
 mod table;
 

@@ -3,11 +3,9 @@
 
 mod fault;
 mod fresh;
-mod keys;
 mod list;
 mod number;
 mod registration;
-mod searches;
 mod table;
 
 pub use fault::AddFault;

@@ -1,15 +1,23 @@
-use Rattle.std.proofs.Common.{rules, ◌≡◌, ◌≤◌, nat_eq, ℕ, ◌+◌, ◌-◌, ◌*◌, ◌<◌, length, ◌/◌, ◌%◌, Bool, true, false, nat_lt, List, [], ◌∷◌, ◌++◌, slice_index_or, slice_set, bit_and, bit_or, Fits, w8, w32, w64, Bor, MutBor}
-use Rattle.std.specs.List.{list_any}
-use Rattle.std.specs.Cmp.Lexicographic.{pointwise}
-use Rattle.std.specs.FinMap as map
-use Rattle.ras_module.specs.Texts.{IsText}
-use Rattle.registrations.specs.Registry.{IsUnused}
+use Rattle.std.proofs.Common.{below_more, ◌+◌, ◌∙◌, sym, arith}
+use Rattle.registrations.proofs.Covering.{number_used, not_all, not_among}
+use Rattle.registrations.proofs.Rows.{none_named}
 use Rattle.registrations.proofs.fresh.unused_from.Goals as goal
+use Rattle.std.proofs.lemmas.Bool.{or_parts}
 
--- src/fresh.rt:21:5
-pub loop-tries-preserved : goal.loop-tries-preserved
-loop-tries-preserved c = ?
+pub loop-n-preserved : goal.loop-n-preserved
+loop-n-preserved c = below_more _ _ c.loop-n.invariant (number_used c.args.items.now
+    c.args.taken.now c.numbered-id.result (c.args.start + c.loop-n.n) c.numbered-id.ensures.number
+    (sym c.is_used.ensures.used ∙ c.if-not-is_used.false))
 
--- src/fresh.rt:28:5
+pub returns-then-not-is_used : goal.returns-then-not-is_used
+returns-then-not-is_used c =
+    let fresh = or_parts _ _ (sym c.is_used.ensures.used ∙ c.if-not-is_used.true) in
+    record {
+      not_live = none_named c.args.items.now c.numbered-id.result fresh.0;
+      not_taken = not_among c.args.taken.now c.numbered-id.result fresh.1;
+      text = c.is_used.ensures.text;
+    }
+
 pub unreachable-requires : goal.unreachable-requires
-unreachable-requires c = ?
+unreachable-requires c = not_all c.args.items.now c.args.taken.now c.args.start
+    (λ k below. c.loop-n.invariant k (omega arith))

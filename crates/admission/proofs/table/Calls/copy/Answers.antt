@@ -3,5 +3,5 @@ use Rattle.admission.proofs.table.Calls.copy.Goals as goal
 
 pub invariant_of-result : goal.invariant_of-result
 invariant_of-result c =
-    AreStored-same c.self.inside.calls c.in_ok-calls.calls c.self.inside.most c.self.invariant.stored
+    AreStored-same c.self.inside.calls c.in_ok-calls.calls c.self.inside.most c.self.invariant
     c.in_ok-calls.ensures

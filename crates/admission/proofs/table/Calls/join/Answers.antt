@@ -26,7 +26,7 @@ pub invariant_of-self : goal.invariant_of-self
 invariant_of-self c =
     AreStored-rewrite c.self.inside.calls c.write_leg.new.calls c.args.key c.self.inside.most
     c.args.self.now c.self.view_is (with_leg c.args.leg) c.write_leg.ensures c.in-Some.call.now
-    c.in-Some.ensures.found c.self.invariant.stored
+    c.in-Some.ensures.found c.self.invariant
     (IsCall-join c.in-Some.call.now c.args.leg
     (one_leg c.in-Some.call.now.legs c.are_two.result c.are_two.ensures.legs
     c.are_two.ensures.two c.if-are_two.false)

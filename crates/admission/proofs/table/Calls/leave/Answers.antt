@@ -21,7 +21,7 @@ invariant_of-self c =
     AreStored-rewrite c.self.inside.calls c.write_without.new.calls c.args.key.now
     c.self.inside.most c.args.self.now c.self.view_is
     (with_legs_but c.args.endpoint.now) c.write_without.ensures
-    c.in-Some.call.now c.in-Some.ensures.found c.self.invariant.stored
+    c.in-Some.call.now c.in-Some.ensures.found c.self.invariant
     (IsCall-leave c.in-Some.call.now c.args.endpoint.now
     (sym c.has_other.ensures ∙ c.if-has_other.true))
 
@@ -49,7 +49,7 @@ invariant_of-self-2 c =
     let shorter = shorter_by_one c.swap_remove.result (length c.swap_remove.new.self.entries)
     (length c.self.inside.calls.entries) c.in-Some.call.now c.swap_remove.ensures.len
     (c.swap_remove.ensures.value ∙ (get_call c.self.inside.calls c.args.key.now ∙ there)) in
-    AreStored-end c.self.inside.calls c.swap_remove.new.self c.self.inside.most c.self.invariant.stored
+    AreStored-end c.self.inside.calls c.swap_remove.new.self c.self.inside.most c.self.invariant
     c.args.key.now c.swap_remove.ensures.unique c.swap_remove.ensures.updates shorter
 
 pub returns-clause-ok : goal.returns-clause-ok

@@ -23,11 +23,11 @@ invariant_of-self c =
             legs = legs;
           })) (sym c.one.ensures)
           (IsCall-open c.args.pool c.args.units c.args.leg c.ranges.units.fits) in
-          AreStored-open old c.insert.new.self c.self.inside.most c.self.invariant.stored c.args.key
+          AreStored-open old c.insert.new.self c.self.inside.most c.self.invariant c.args.key
           w.in-Ok.ensures.unique _ w.in-Ok.ensures.updates longer
           (λ e. c.if-len-self.false (c.len.ensures.len ∙ e)) is
       | in-Err w ↦ AreStored-same old c.insert.new.self c.self.inside.most
-          c.self.invariant.stored w.in-Err.ensures.err
+          c.self.invariant w.in-Err.ensures.err
     ]
 
 pub returns-clause-ok : goal.returns-clause-ok
@@ -46,7 +46,7 @@ returns-clause-ok c =
 is_full : (c : goal.Then-len-self) → map.len c.args.self.now.calls ≡ c.args.self.now.most
 is_full c =
     len_stored c.self.inside.calls c.self.inside.most c.args.self.now
-    c.self.invariant.stored c.self.view_is
+    c.self.invariant c.self.view_is
     ∙ (sym c.len.ensures.len ∙ (c.if-len-self.true ∙ ap (λ t. t.most) c.self.view_is))
 
 pub returns-then-len-self-clause-full : goal.returns-then-len-self-clause-full
@@ -63,6 +63,6 @@ returns-clause-full c = (
   ],
   λ h. absurd (c.if-len-self.false (c.len.ensures.len
       ∙ (sym (len_stored c.self.inside.calls c.self.inside.most c.args.self.now
-      c.self.invariant.stored c.self.view_is)
+      c.self.invariant c.self.view_is)
       ∙ (h ∙ sym (ap (λ t. t.most) c.self.view_is))))),
 )

@@ -4,7 +4,7 @@ use Rattle.admission.proofs.table.Calls.reserve.Goals as goal
 
 pub invariant_of-self : goal.invariant_of-self
 invariant_of-self c = AreStored-same c.self.inside.calls c.reserve.new.self c.self.inside.most
-    c.self.invariant.stored c.reserve.ensures.entries
+    c.self.invariant c.reserve.ensures.entries
 
 pub returns-clause-sound : goal.returns-clause-sound
 returns-clause-sound c =

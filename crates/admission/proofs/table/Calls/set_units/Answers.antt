@@ -7,7 +7,7 @@ pub invariant_of-self : goal.invariant_of-self
 invariant_of-self c =
     AreStored-rewrite c.self.inside.calls c.write_units.new.calls c.args.key.now c.self.inside.most
     c.args.self.now c.self.view_is (with_units c.args.units) c.write_units.ensures
-    c.in-Some._call.now c.in-Some.ensures.found c.self.invariant.stored
+    c.in-Some._call.now c.in-Some.ensures.found c.self.invariant
     (IsCall-set_units c.in-Some._call.now c.args.units c.ranges.units.fits)
 
 pub returns-clause-ok : goal.returns-clause-ok

@@ -1,30 +1,36 @@
-use Rattle.std.proofs.Common.{rules, ◌≡◌, ◌≢◌, ◌≤◌, ◌<◌, ◌+◌, ◌++◌, ◌∷◌, [], ◌↔◌, ℕ, List, Option, None, Some, Err, IsOk, IsSome, IfSome, IsTrue, IfOk, OnOk, OnErr, nat_eq, slice_get, ◌-◌, ◌*◌, length, ◌/◌, ◌%◌, Bool, true, false, nat_lt, slice_index_or, slice_set, bit_and, bit_or, Fits, w8, w32, w64, Bor, MutBor}
-use Rattle.std.specs.Option.{option_copied, IsSomeAnd}
-use Rattle.std.specs.Cmp.Lexicographic.{pointwise}
-use Rattle.std.specs.FinMap as map
-use Rattle.slab.specs.Slab as slots
-use Rattle.indexmap.specs.IndexMap as index
-use Rattle.keyed.specs.Maps.{update}
-use Rattle.registrations.specs.inside.Stored.{IsIn, AreAllIn}
-use Rattle.registrations.specs.Registry.{at_address, IsUnused, IsListOf, IsConsistent, IsNumbered, IsSound, Stays, Updates, Becomes, Adds, with_identifier, with_deadline, after_rewrite, after_hear, after_ask, after_calm}
+use Rattle.std.proofs.Common.{◌<◌, subst, sym, refl, arith}
+use Rattle.std.specs.Prelude.{Option}
+use Rattle.std.specs.Option.{IsSomeAnd}
+use Rattle.std.specs.FinMap as fin
+use Rattle.registrations.specs.declared.registration.Registration.{Registration}
+use Rattle.registrations.specs.Registry.{Registry, after_ask}
+use Rattle.registrations.proofs.Rows.{Updates-changed, IsTable-changed, its_row}
 use Rattle.registrations.proofs.table.Registrations.asked.Goals as goal
 
--- src/table.rt:343:13
-pub live_place-place-requires : goal.live_place-place-requires
-live_place-place-requires c = ?
-
--- src/table.rt:344:24
-pub index_mut-row-requires : goal.index_mut-row-requires
-index_mut-row-requires c = ?
-
--- src/table.rt:346:9
 pub overflow_add-row : goal.overflow_add-row
-overflow_add-row c = ?
+overflow_add-row c =
+    let i = c.self.inside in
+    let old = c.index_mut-row.result.now in
+    let row =
+    its_row i.items.items i.most i.lowest c.args.id.now c.live_place-place.result old
+    (after_ask c.args.now) c.self.invariant (rw c.deref.ensures.value at c.live_place-place.ensures)
+    c.index_mut-row.ensures.value refl in
+    let few : old.tries < 16 = subst (λ (w : Option Registration). IsSomeAnd w (λ r. r.tries < 16))
+    row.found (subst (λ (t : Registry). IsSomeAnd (fin.get t.live c.args.id.now)
+    (λ r. r.tries < 16)) (sym c.self.view_is) c.requires) in
+    omega arith
 
--- src/table.rt:339:5
 pub invariant_of-self : goal.invariant_of-self
-invariant_of-self c = ?
+invariant_of-self c =
+    let i = c.self.inside in
+    IsTable-changed i.items.items i.most i.lowest c.args.id.now c.live_place-place.result
+    c.index_mut-row.result.now (after_ask c.args.now) c.self.invariant
+    (rw c.deref.ensures.value at c.live_place-place.ensures) c.index_mut-row.ensures.value refl refl
 
--- src/table.rt:339:5
 pub returns : goal.returns
-returns c = ?
+returns c =
+    let i = c.self.inside in
+    Updates-changed i.items.items i.most i.lowest c.args.id.now c.live_place-place.result
+    c.index_mut-row.result.now (after_ask c.args.now) c.self.invariant
+    (rw c.deref.ensures.value at c.live_place-place.ensures) c.index_mut-row.ensures.value refl
+    refl _ _ _ c.self.view_is refl refl refl refl refl

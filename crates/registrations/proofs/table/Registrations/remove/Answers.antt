@@ -1,34 +1,69 @@
-use Rattle.std.proofs.Common.{rules, ◌≡◌, ◌≢◌, ◌≤◌, ◌<◌, ◌+◌, ◌++◌, ◌∷◌, [], ◌↔◌, ℕ, List, Option, None, Some, Err, IsOk, IsSome, IfSome, IsTrue, IfOk, OnOk, OnErr, nat_eq, slice_get, ◌-◌, ◌*◌, length, ◌/◌, ◌%◌, Bool, true, false, nat_lt, slice_index_or, slice_set, bit_and, bit_or, Fits, w8, w32, w64, Bor, MutBor}
-use Rattle.std.specs.Option.{option_copied, IsSomeAnd}
-use Rattle.std.specs.Cmp.Lexicographic.{pointwise}
+use Rattle.std.proofs.Common.{ap, sym, refl, ◌∙◌, arith, subst}
 use Rattle.std.specs.FinMap as map
-use Rattle.slab.specs.Slab as slots
-use Rattle.indexmap.specs.IndexMap as index
-use Rattle.keyed.specs.Maps.{update}
-use Rattle.registrations.specs.inside.Stored.{IsIn, AreAllIn}
-use Rattle.registrations.specs.Registry.{at_address, IsUnused, IsListOf, IsConsistent, IsNumbered, IsSound, Stays, Updates, Becomes, Adds, with_identifier, with_deadline, after_rewrite, after_hear, after_ask, after_calm}
+use Rattle.std.proofs.lemmas.Cmp.{nat_list_cmp_total}
+use Rattle.std.proofs.lemmas.Map.Lookups.{exact_bytes}
+use Rattle.keyed.proofs.Maps.{remove_absent}
+use Rattle.keyed.proofs.Searches.{place_below}
+use Rattle.registrations.specs.Registry.{IsSound, live_of, identifier_of}
+use Rattle.registrations.proofs.Rows.{IsSound-rows}
+use Rattle.registrations.proofs.Rows.{IsTable-remove, IsRowOf-place, live_remove, length-remove}
 use Rattle.registrations.proofs.table.Registrations.remove.Goals as goal
 
--- src/table.rt:298:21
-pub returns-in_err-place-clause-found : goal.returns-in_err-place-clause-found
-returns-in_err-place-clause-found c = ?
-
--- src/table.rt:298:21
 pub returns-in_err-place-clause-removed : goal.returns-in_err-place-clause-removed
-returns-in_err-place-clause-removed c = ?
+returns-in_err-place-clause-removed c =
+    let i = c.self.inside in
+    let none = sym (ap (λ t. map.get t.live c.args.id.now) c.self.view_is)
+    ∙ rw c.deref.ensures.value at c.in_err-place.ensures in
+    record {
+      rows = remove_absent nat_list_cmp_total exact_bytes c.args.self.now.live c.args.id.now
+          none;
+      most = refl;
+      room = omega arith;
+      sound = subst IsSound c.self.view_is
+          (IsSound-rows i.items.items i.most i.lowest c.self.invariant _ refl refl);
+    }
 
--- src/table.rt:299:13
-pub remove-registration-requires : goal.remove-registration-requires
-remove-registration-requires c = ?
+pub remove-requires : goal.remove-requires
+remove-requires c =
+    omega (
+      arith,
+      place_below identifier_of c.args.id.now c.deref.result.now
+          c.in_ok-place.place c.in_ok-place.ensures,
+      c.deref.ensures.len,
+    )
 
--- src/table.rt:294:5
-pub invariant_of-self-2 : goal.invariant_of-self-2
-invariant_of-self-2 c = ?
+pub invariant_of-self : goal.invariant_of-self
+invariant_of-self c =
+    let i = c.self.inside in
+    rw c.remove.ensures.items (IsTable-remove i.items.items i.most i.lowest c.min-self-inside.result
+    c.in_ok-place.place c.self.invariant
+    (length-remove i.items.items c.in_ok-place.place) (omega (arith, c.min-self-inside.ensures)))
 
--- src/table.rt:294:5
 pub returns-clause-found : goal.returns-clause-found
-returns-clause-found c = ?
+returns-clause-found c =
+    let i = c.self.inside in
+    let place = rw c.deref.ensures.value at c.in_ok-place.ensures in
+    sym (IsRowOf-place i.items.items i.most i.lowest c.args.self.now.live c.args.id.now
+    c.in_ok-place.place c.remove.result c.self.invariant
+    (ap (λ t. t.live) c.self.view_is) place c.remove.ensures.value).found
 
--- src/table.rt:294:5
 pub returns-clause-removed : goal.returns-clause-removed
-returns-clause-removed c = ?
+returns-clause-removed c =
+    let i = c.self.inside in
+    let live = ap (λ t. t.live) c.self.view_is in
+    let place = rw c.deref.ensures.value at c.in_ok-place.ensures in
+    let row = IsRowOf-place i.items.items i.most i.lowest c.args.self.now.live c.args.id.now
+    c.in_ok-place.place c.remove.result c.self.invariant live place c.remove.ensures.value in
+    record {
+      rows = ap live_of c.remove.ensures.items ∙ live_remove i.items.items i.most i.lowest
+          c.args.self.now.live c.args.id.now c.in_ok-place.place c.remove.result
+          c.self.invariant live row;
+      most = ap (λ t. t.most) c.self.view_is;
+      room = omega (
+        arith,
+        ap (λ t. t.room) c.self.view_is,
+        c.remove.ensures.capacity,
+        c.remove.ensures.len,
+      );
+      sound = IsSound-rows _ i.most c.min-self-inside.result (invariant_of-self c) _ refl refl;
+    }
