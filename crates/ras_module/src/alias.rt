@@ -5,7 +5,7 @@ use crate::dialled_digits::DialledDigits;
 
 /// A name by which an endpoint may be called: the two kinds of AliasAddress (H.225.0) that are
 /// served. Two aliases are equal where their kinds and their characters are.
-#[derive(Clone, Copy, PartialEq, Eq)]
+#[derive(Clone, Copy, PartialEq, Eq, Hash)]
 pub enum Alias {
     Digits(DialledDigits),
     H323Id(H323Id),
