@@ -3,3 +3,4 @@ pub mod StoredCalls
 pub mod Leaving
 pub mod Soundness
 pub mod Deciding
+pub mod KeptSums

@@ -6,6 +6,7 @@ mod call;
 mod call_list;
 mod copies;
 mod fault;
+mod in_use;
 mod leg;
 mod legs;
 mod sums;

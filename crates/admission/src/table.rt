@@ -15,9 +15,10 @@ use crate::call::Call;
 use crate::call_list::{CallList, rising};
 use crate::copies::copies_of;
 use crate::fault::CallFault;
+use crate::in_use::InUse;
 use crate::leg::Leg;
 use crate::legs::Legs;
-use crate::sums::{call_in, legs_with, units_in, units_of_pool};
+use crate::sums::{call_in, legs_with, units_of_pool};
 use indexmap::IndexMap;
 use ras_module::{CallKey, EndpointId};
 use std::alloc::{AllocError, Global};
@@ -35,6 +36,8 @@ pub struct Left {
 pub struct Calls {
     calls: IndexMap<CallKey, Call>,
     most: usize,
+    // what the calls use, changed with them
+    in_use: InUse,
 }
 
 impl Model for Calls {
@@ -43,6 +46,7 @@ impl Model for Calls {
     ghost use Rattle.indexmap.specs.IndexMap.{spare};
     ghost use Rattle.admission.specs.Calls.{CallTable, open_calls_of};
     ghost use Rattle.admission.specs.inside.Stored.{AreStored};
+    ghost use Rattle.admission.specs.inside.Counted.{AreCounted};
 
     ghost Value = { CallTable };
 
@@ -54,7 +58,7 @@ impl Model for Calls {
       room = spare t.calls;
     } };
 
-    ghost invariant = { λ t. AreStored t.calls t.most };
+    ghost invariant = { λ t. AreCounted t.calls t.most t.in_use };
 }
 
 impl Calls {
@@ -69,6 +73,7 @@ impl Calls {
         Calls {
             calls: IndexMap::new(alloc),
             most,
+            in_use: InUse::none(),
         }
     }
 
@@ -81,6 +86,7 @@ impl Calls {
         Ok(Calls {
             calls,
             most: self.most,
+            in_use: self.in_use,
         })
     }
 
@@ -151,7 +157,7 @@ impl Calls {
         ensures sum { result ≡ in_use self.now.calls }
         ensures bound { result < 2 ^ 47 }
     {
-        units_in(&self.calls)
+        self.in_use.total
     }
 
     /// The units of the calls of one pool.
@@ -159,7 +165,10 @@ impl Calls {
         ensures sum { result ≡ in_use_of self.now.calls pool }
         ensures bound { result < 2 ^ 47 }
     {
-        units_of_pool(&self.calls, pool)
+        match self.in_use.of_pool(pool) {
+            Some(units) => *units,
+            None => units_of_pool(&self.calls, pool),
+        }
     }
 
     /// Copies, by rising key.
@@ -202,7 +211,10 @@ impl Calls {
             legs: Legs::one(leg),
         };
         match self.calls.insert(key, call) {
-            Ok(_) => Ok(()),
+            Ok(_) => {
+                self.in_use.add(pool, units);
+                Ok(())
+            }
             Err(_) => Err(CallFault::Memory),
         }
     }
@@ -241,10 +253,13 @@ impl Calls {
         ensures memory { result ≢ Err CallFault.Memory }
         ensures err { OnErr result (self.new ≡ self.old) }
     {
-        let Some(_call) = self.get(key) else {
+        let Some(call) = self.get(key) else {
             return Err(CallFault::NoCall);
         };
+        let (pool, before) = (call.pool, call.units);
         write_units(&mut self.calls, key, units);
+        self.in_use.take(pool, before);
+        self.in_use.add(pool, units);
         Ok(())
     }
 
@@ -272,9 +287,12 @@ impl Calls {
             write_without(&mut self.calls, key, endpoint);
             return Ok(Left { ended: None });
         }
-        let ended = Some((call.pool, call.units));
+        let (pool, units) = (call.pool, call.units);
         self.calls.swap_remove(key);
-        Ok(Left { ended })
+        self.in_use.take(pool, units);
+        Ok(Left {
+            ended: Some((pool, units)),
+        })
     }
 }
 

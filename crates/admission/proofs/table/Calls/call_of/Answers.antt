@@ -10,4 +10,4 @@ returns c =
     subst (λ (w : Option CallKey). MatchOption w (IsInNoCall c.args.self.now.calls
     c.args.endpoint.now) (λ key. IsSome (leg_at c.args.self.now.calls key c.args.endpoint.now)))
     (sym c.call_in.ensures) (call_found c.self.inside.calls c.self.inside.most c.args.self.now
-    c.self.invariant c.self.view_is c.args.endpoint.now)
+    c.self.invariant.stored c.self.view_is c.args.endpoint.now)
