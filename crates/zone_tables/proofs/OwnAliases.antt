@@ -27,10 +27,10 @@ module _ (live : Live) (held : Held) (id : List ℕ) (agree : Agree live held) w
   own_go r there = without_all held r.aliases id
       (λ alias own. (let by = own_alias alias (fin.get held alias) refl own in
       subst (λ (x : Registration). Contains x.aliases alias)
-      (same_some by.0 r (sym by.1.0 ∙ there)) by.1.1))
+      (same_some by.0 r (sym by.1 ∙ there)) by.2))
 
   -- and who isn't registered holds none
   pub none_go : fin.get live id ≡ None → held ≡ without_holder held id
   none_go none = without_all held [] id
       (λ alias own. (let by = own_alias alias (fin.get held alias) refl own in
-      some_none (sym by.1.0 ∙ none)))
+      some_none (sym by.1 ∙ none)))
