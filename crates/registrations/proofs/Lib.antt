@@ -1,7 +1,12 @@
 pub mod Digits
 pub mod Covering
+pub mod Indexes
+pub mod Order
 pub mod Rows
+pub mod Same
+pub mod Stored
 pub mod Consistent
 pub mod Agreement
 pub mod Unused
+pub mod Walks
 pub mod Deciding
