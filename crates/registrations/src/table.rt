@@ -1,8 +1,8 @@
 //! The table of the registrations.
 
 ghost use Rattle.std.specs.Prelude.{◌≡◌, ◌≢◌, ◌≤◌, ◌<◌, ◌+◌, ◌++◌, ◌∷◌, [], ◌↔◌, ℕ, List, Option};
-ghost use Rattle.std.specs.Prelude.{None, Some, Err, IsOk, IsSome, IfSome, IsTrue, IfOk, OnOk, OnErr};
-ghost use Rattle.std.specs.Prelude.{nat_eq, slice_get};
+ghost use Rattle.std.specs.Prelude.{None, Some, Err, IsOk, IsSome, IfSome, IsTrue, IfOk, OnOk};
+ghost use Rattle.std.specs.Prelude.{OnErr, nat_eq, slice_get};
 ghost use Rattle.std.specs.Option.{option_copied, IsSomeAnd};
 ghost use Rattle.std.specs.Cmp.Lexicographic.{pointwise};
 ghost use Rattle.std.specs.FinMap as map;
@@ -36,8 +36,8 @@ pub struct Registrations {
     by_identifier: IndexMap<EndpointId, usize>,
     by_address: IndexMap<Address, usize>,
     most: usize,
-    // where the search for an unused identifier begins, so that it need not pass those in use: behind
-    // each number that was, and at 1 again behind the last one of all
+    // where the search for an unused identifier begins, so that it need not pass those in use:
+    // behind each number that was, and at 1 again behind the last one of all
     next_number: u64,
 }
 
@@ -162,8 +162,8 @@ impl Registrations {
         self.rows.get(*place)
     }
 
-    /// A registration whose time to live is over: its deadline is not after `now`. None where there is
-    /// none.
+    /// A registration whose time to live is over: its deadline is not after `now`. None where there
+    /// is none.
     pub fn over(&self, now: u64) -> Option<&Registration>
         ensures over { IfSome result (λ r. r.now.deadline ≤ now) }
         ensures live { IfSome result (λ r. map.get self.now.live r.now.identifier ≡ Some r.now) }
@@ -173,8 +173,8 @@ impl Registrations {
         row_over(&self.rows, now)
     }
 
-    /// One registration for each `i` below `len`, and each of them once while the table stands as it
-    /// is.
+    /// One registration for each `i` below `len`, and each of them once while the table stands as
+    /// it is.
     pub fn nth(&self, i: usize) -> Option<&Registration>
         ensures nth { option_copied result ≡ slice_get self.now.order i }
         ensures some { IsSome result ↔ (i < map.len self.now.live) }
@@ -231,8 +231,8 @@ impl Registrations {
     }
 
     /// Registers an endpoint under an unused identifier, which is written into the registration.
-    /// Nothing is added where the table is full, and for want of memory, which is never where there is
-    /// room.
+    /// Nothing is added where the table is full, and for want of memory, which is never where there
+    /// is room.
     pub fn add(
         &mut self,
         registration: Registration,
