@@ -3,10 +3,12 @@
 #![tactic(auto)]
 
 mod copies;
+mod due_moments;
 mod entry;
 mod fault;
 mod key;
 mod list;
+mod rows;
 mod searches;
 mod table;
 

@@ -1,3 +1,6 @@
+use Rattle.std.proofs.Common.{ap, ◌∙◌}
+use Rattle.std.specs.List.{list_any}
+use Rattle.kept_replies.specs.inside.Stored.{is_named_by}
 use Rattle.kept_replies.proofs.Named.{any_named}
 use Rattle.kept_replies.proofs.table.Kept.is_named.Goals as goal
 
@@ -5,4 +8,5 @@ pub returns : goal.returns
 returns c =
     let i = c.self.inside in
     any_named i.rows i.most c.args.self.now c.self.invariant c.self.view_is c.args.id.now
-    c.is_named_in.result c.is_named_in.ensures
+    c.is_named_in.result
+    (c.is_named_in.ensures ∙ ap (list_any (λ row. is_named_by c.args.id.now row.1)) c.as_map.ensures)

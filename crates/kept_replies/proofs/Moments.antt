@@ -1,0 +1,125 @@
+-- Moments that are written, and moments that have come.
+use Rattle.std.proofs.Common.{◌≡◌, ℕ, ◌≤◌, ◌<◌, Bool, true, false, List, refl, sym, ◌∙◌, ap, subst}
+use Rattle.std.proofs.Common.{Option, Some, None, arith}
+use Rattle.std.specs.Prelude.{slice_get, min, nat_le, MatchOption}
+use Rattle.std.specs.Option.{IsSomeAnd, option_and_then, option_map}
+use Rattle.std.specs.FinMap as fin
+use Rattle.std.specs.FinMap.{nat_cmp-IsAntisymmetric}
+use Rattle.std.specs.Cmp.{nat_cmp_total}
+use borrow.Author.Tests.{le-leb, lt-leb}
+use Rattle.keyed.specs.Maps.{Changed}
+use Rattle.keyed.proofs.Decide.{some_none}
+use Rattle.keyed.proofs.Maps.{Changed-insert, Changed-remove}
+use Rattle.deadlines.specs.Deadlines.{Moments}
+use Rattle.kept_replies.specs.Kept.{birth_of, is_over_in, is_retry_in, left_in, postponed_in}
+use Rattle.kept_replies.specs.inside.Due.{DueTable, AreDueAt, NoneCame, Came, Writes}
+use Rattle.kept_replies.specs.inside.Due.{end_in, retry_in}
+use Rattle.kept_replies.specs.inside.Stored.{NoRowPasses, RowPasses}
+use Rattle.kept_replies.specs.declared.entry.KeptEntry.{KeptEntry}
+use Rattle.kept_replies.specs.declared.entry.KeptState.{KeptState}
+use Rattle.kept_replies.specs.declared.entry.KeptState.TheVariants.{Done, Pending}
+use Rattle.kept_replies.specs.declared.key.KeptKey.{KeptKey}
+
+abbrev pub due_of : Moments → Moments → ℕ → ℕ → DueTable
+due_of ends retries a b = record { ends = ends; retries = retries; room = min a b }
+
+inserted : (m n : Moments) (place moment : ℕ) → n ≡ fin.insert m place moment
+    → Changed (fin.get m) (fin.get n) place (Some moment)
+inserted m n place moment is =
+    subst (λ (x : Moments). Changed (fin.get m) (fin.get x) place (Some moment)) (sym is)
+    (Changed-insert nat_cmp_total nat_cmp-IsAntisymmetric m place moment)
+
+removed : (m n : Moments) (place : ℕ) → n ≡ fin.remove m place
+    → Changed (fin.get m) (fin.get n) place None
+removed m n place is =
+    subst (λ (x : Moments). Changed (fin.get m) (fin.get x) place None) (sym is)
+    (Changed-remove nat_cmp_total nat_cmp-IsAntisymmetric m place)
+
+module _ (e r e' r' : Moments) (a b a' b' : ℕ) (t : DueTable) (view : due_of e r a b ≡ t)
+    (place moment : ℕ) (p : a' ≡ a) (q : b' ≡ b) where
+  one_room : min a' b' ≡ min a b
+  one_room = λ i. min (p i) (q i)
+
+  pub Writes-end : e' ≡ fin.insert e place moment → r' ≡ fin.remove r place
+      → Writes t (due_of e' r' a' b') place (Some moment) None
+  Writes-end x y =
+      subst (λ (u : DueTable). Writes u (due_of e' r' a' b') place (Some moment) None) view
+      (record { ends = inserted e e' place moment x; retries = removed r r' place y; room = one_room })
+
+  pub Writes-retry : e' ≡ fin.remove e place → r' ≡ fin.insert r place moment
+      → Writes t (due_of e' r' a' b') place None (Some moment)
+  Writes-retry x y =
+      subst (λ (u : DueTable). Writes u (due_of e' r' a' b') place None (Some moment)) view
+      (record { ends = removed e e' place x; retries = inserted r r' place moment y; room = one_room })
+
+-- a request that waits once more has no end
+pub Writes-postponed : (old new : DueTable) (place moment : ℕ) (s : KeptState) → 2 ≤ left_in s
+    → Writes old new place None (Some moment)
+    → Writes old new place (end_in (postponed_in moment s)) (retry_in (postponed_in moment s))
+Writes-postponed old new place moment (Done reply until) h w = absurd (omega (arith, h))
+Writes-postponed old new place moment (Pending request reply retry left) h w = w
+
+-- no moment stands among none
+pub none_among : (m : Moments) (now : ℕ) → m ≡ fin.empty → NoneCame now m
+none_among m now is place moment there =
+    some_none (sym there ∙ (ap (λ (x : Moments). fin.get x place) is ∙ fin.get-empty _ place))
+
+pub end_test : (now : ℕ) (s : KeptState)
+    → MatchOption (end_in s) (is_over_in now s ≡ false) (λ m. is_over_in now s ≡ nat_le m now)
+end_test now (Done reply until) = refl
+end_test now (Pending request reply retry left) = refl
+
+pub retry_test : (now : ℕ) (s : KeptState)
+    → MatchOption (retry_in s) (is_retry_in now s ≡ false) (λ m. is_retry_in now s ≡ nat_le m now)
+retry_test now (Done reply until) = refl
+retry_test now (Pending request reply retry left) = refl
+
+abbrev Row : Type 0
+Row = KeptKey × KeptEntry
+
+module _ (now : ℕ) (moment : Row → Option ℕ) (test : KeptEntry → Bool)
+    (tested : (row : Row) → MatchOption (moment row) (test row.1 ≡ false)
+    (λ m. test row.1 ≡ nat_le m now))
+    (rows : List Row) (m : Moments) (h : AreDueAt moment rows m) where
+  -- where no moment has come, no row passes
+  pub none_due : NoneCame now m → NoRowPasses test rows
+  none_due none i row there = cases (moment row) refl (tested row) where
+    cases : (w : Option ℕ) → moment row ≡ w
+        → MatchOption w (test row.1 ≡ false) (λ m. test row.1 ≡ nat_le m now)
+        → test row.1 ≡ false
+    cases None is t = t
+    cases (Some k) is t =
+        (let after : now < k =
+        none i k (h.due i ∙ (ap (option_and_then moment) there ∙ is)) in
+        t ∙ lt-leb k now after)
+
+  passing : (row : Row) (w : Option ℕ) → moment row ≡ w → IsSomeAnd w (λ k. k ≤ now)
+      → test row.1 ≡ true
+  passing row None is came = absurd came
+  passing row (Some k) is came =
+      subst (λ (w : Option ℕ). MatchOption w (test row.1 ≡ false) (λ m. test row.1 ≡ nat_le m now))
+      is (tested row) ∙ le-leb k now came
+
+  -- the row at a place whose moment has come passes
+  pub due_passes : (place : ℕ) (found : Option ℕ)
+      → found ≡ option_map birth_of (slice_get rows place) → Came now m place
+      → MatchOption found (NoRowPasses test rows) (RowPasses test rows)
+  due_passes place found is came = cases (slice_get rows place) refl where
+    at : IsSomeAnd (option_and_then moment (slice_get rows place)) (λ k. k ≤ now)
+    at = subst (λ (w : Option ℕ). IsSomeAnd w (λ k. k ≤ now)) (h.due place) came
+
+    cases : (w : Option Row) → slice_get rows place ≡ w
+        → MatchOption found (NoRowPasses test rows) (RowPasses test rows)
+    cases None none =
+        absurd (subst (λ (w : Option Row). IsSomeAnd (option_and_then moment w) (λ k. k ≤ now)) none at)
+    cases (Some row) there =
+        subst (λ (w : Option ℕ). MatchOption w (NoRowPasses test rows) (RowPasses test rows))
+        (sym (is ∙ ap (option_map birth_of) there))
+        (record {
+          place = place;
+          row = row;
+          there = there;
+          passes = passing row (moment row) refl
+              (subst (λ (w : Option Row). IsSomeAnd (option_and_then moment w) (λ k. k ≤ now)) there at);
+          is_born = refl;
+        })

@@ -1,0 +1,50 @@
+use Rattle.std.proofs.Common.{ap, sym, arith, ◌∙◌}
+use Rattle.std.specs.Prelude.{length}
+use Rattle.std.specs.HashMap as hash
+use Rattle.indexmap.specs.IndexMap.{spare}
+use Rattle.kept_replies.specs.Keys.{same_key}
+use Rattle.kept_replies.proofs.SeenRows.{Seen, AreRows-rewritten, AreRows-appended, there_is}
+use Rattle.kept_replies.proofs.SeenRows.{there_is_none, one_fits}
+use Rattle.kept_replies.proofs.rows.KeptRows.put.Goals as goal
+
+pub invariant_of-self : goal.invariant_of-self
+invariant_of-self c =
+    let i = c.self.inside in
+    let was = there_is (hash.get same_key i.rows c.args.key) c.in-Some.ensures.found in
+    AreRows-rewritten i.rows c.replace_entry.new.rows i.due c.write.new.self c.self.invariant
+    (λ other. c.args.entry) c.args.key c.in-Some.place c.replace_entry.ensures
+    c.in-Some.ensures.index was.0 was.1 c.write.ensures
+
+pub write-requires-in-None : goal.write-requires-in-None
+write-requires-in-None c =
+    let i = c.self.inside in
+    let key = c.args.key in
+    let none = sym (ap (λ (u : Seen). hash.get same_key u key) c.self.view_is)
+    ∙ there_is_none (hash.get same_key i.rows key) c.in-None.ensures.found in
+    omega (
+      arith,
+      c.requires none,
+      ap (λ (u : Seen). spare u) c.self.view_is,
+      c.len.ensures.len,
+    )
+
+pub add_entry-requires-clause-room : goal.add_entry-requires-clause-room
+add_entry-requires-clause-room c =
+    let i = c.self.inside in
+    let key = c.args.key in
+    let none = sym (ap (λ (u : Seen). hash.get same_key u key) c.self.view_is)
+    ∙ there_is_none (hash.get same_key i.rows key) c.in-None.ensures.found in
+    omega (arith, c.requires none, ap (λ (u : Seen). spare u) c.self.view_is)
+
+pub invariant_of-self-in-None : goal.invariant_of-self-in-None
+invariant_of-self-in-None c =
+    let i = c.self.inside in
+    let key = c.args.key in
+    let none = sym (ap (λ (u : Seen). hash.get same_key u key) c.self.view_is)
+    ∙ there_is_none (hash.get same_key i.rows key) c.in-None.ensures.found in
+    AreRows-appended i.rows c.add_entry.new.rows i.due c.write-in-None.new.self c.self.invariant
+    (key, c.args.entry) c.add_entry.ensures.appends c.len.result c.len.ensures.len
+    c.write-in-None.ensures
+    (one_fits (hash.get same_key i.rows key) (length c.add_entry.new.rows.entries)
+    (length i.rows.entries) i.due.room c.add_entry.ensures.puts.longer
+    (omega (arith, c.requires none, ap (λ (u : Seen). spare u) c.self.view_is)))
