@@ -139,8 +139,8 @@ module _ {S : Type 0} (rows : IndexMap KeptKey KeptEntry S) (most : ℕ) (t : Ke
       → MatchOption found (NoRowPasses test rows.entries) (RowPasses test rows.entries)
       → MatchOption found (NonePasses test t.kept) (Passes test t.kept)
   search_born test found h =
-      subst (λ (u : KeptTable). MatchOption found (NonePasses test u.kept) (Passes test u.kept)) view
-      (cases found h) where
+      subst (λ (u : KeptTable). MatchOption found (NonePasses test u.kept) (Passes test u.kept))
+      view (cases found h) where
         cases : (w : Option ℕ)
             → MatchOption w (NoRowPasses test rows.entries) (RowPasses test rows.entries)
             → MatchOption w (NonePasses test (rows_of rows)) (Passes test (rows_of rows))

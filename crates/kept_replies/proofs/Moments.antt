@@ -44,13 +44,21 @@ module _ (e r e' r' : Moments) (a b a' b' : ℕ) (t : DueTable) (view : due_of e
       → Writes t (due_of e' r' a' b') place (Some moment) None
   Writes-end x y =
       subst (λ (u : DueTable). Writes u (due_of e' r' a' b') place (Some moment) None) view
-      (record { ends = inserted e e' place moment x; retries = removed r r' place y; room = one_room })
+      (record {
+        ends = inserted e e' place moment x;
+        retries = removed r r' place y;
+        room = one_room;
+      })
 
   pub Writes-retry : e' ≡ fin.remove e place → r' ≡ fin.insert r place moment
       → Writes t (due_of e' r' a' b') place None (Some moment)
   Writes-retry x y =
       subst (λ (u : DueTable). Writes u (due_of e' r' a' b') place None (Some moment)) view
-      (record { ends = removed e e' place x; retries = inserted r r' place moment y; room = one_room })
+      (record {
+        ends = removed e e' place x;
+        retries = inserted r r' place moment y;
+        room = one_room;
+      })
 
 -- a request that waits once more has no end
 pub Writes-postponed : (old new : DueTable) (place moment : ℕ) (s : KeptState) → 2 ≤ left_in s
@@ -105,13 +113,16 @@ module _ (now : ℕ) (moment : Row → Option ℕ) (test : KeptEntry → Bool)
       → found ≡ option_map birth_of (slice_get rows place) → Came now m place
       → MatchOption found (NoRowPasses test rows) (RowPasses test rows)
   due_passes place found is came = cases (slice_get rows place) refl where
-    at : IsSomeAnd (option_and_then moment (slice_get rows place)) (λ k. k ≤ now)
+    came_at : Option Row → Type 0
+    came_at w = IsSomeAnd (option_and_then moment w) (λ k. k ≤ now)
+
+    at : came_at (slice_get rows place)
     at = subst (λ (w : Option ℕ). IsSomeAnd w (λ k. k ≤ now)) (h.due place) came
 
     cases : (w : Option Row) → slice_get rows place ≡ w
         → MatchOption found (NoRowPasses test rows) (RowPasses test rows)
     cases None none =
-        absurd (subst (λ (w : Option Row). IsSomeAnd (option_and_then moment w) (λ k. k ≤ now)) none at)
+        absurd (subst came_at none at)
     cases (Some row) there =
         subst (λ (w : Option ℕ). MatchOption w (NoRowPasses test rows) (RowPasses test rows))
         (sym (is ∙ ap (option_map birth_of) there))
@@ -120,6 +131,6 @@ module _ (now : ℕ) (moment : Row → Option ℕ) (test : KeptEntry → Bool)
           row = row;
           there = there;
           passes = passing row (moment row) refl
-              (subst (λ (w : Option Row). IsSomeAnd (option_and_then moment w) (λ k. k ≤ now)) there at);
+              (subst came_at there at);
           is_born = refl;
         })

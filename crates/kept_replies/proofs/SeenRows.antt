@@ -100,8 +100,8 @@ module _ {S : Type 0} (old new : IndexMap KeptKey KeptEntry S) (before after : D
   AreRows-appended row is place last w fits =
       AreRows-changed place row
       (subst (λ (es : List Row). Changed (row_in old.entries) (row_in es) place (Some row)) (sym is)
-      (subst (λ (n : ℕ). Changed (row_in old.entries) (row_in (old.entries ++ row ∷ [])) n (Some row))
-      (sym last) (Changed-push old.entries row))) w fits
+      (subst (λ (n : ℕ). Changed (row_in old.entries) (row_in (old.entries ++ row ∷ [])) n
+      (Some row)) (sym last) (Changed-push old.entries row))) w fits
 
   -- one row goes, and the last comes in its place
   pub AreRows-removed : (row : Row) (place last : ℕ) → Some row ≡ slice_get old.entries place
@@ -109,8 +109,8 @@ module _ {S : Type 0} (old new : IndexMap KeptKey KeptEntry S) (before after : D
       → length new.entries + 1 ≡ length old.entries → TakesOut before after place last
       → AreRows new after
   AreRows-removed row place last there is count shorter t =
-      let rows = subst (λ (es : List Row). Moved (row_in old.entries) (row_in es) place last) (sym is)
-      (Moved-rows old.entries place last row (omega (arith, count, shorter))
+      let rows = subst (λ (es : List Row). Moved (row_in old.entries) (row_in es) place last)
+      (sym is) (Moved-rows old.entries place last row (omega (arith, count, shorter))
       (slice_get_within old.entries place row (sym there))) in
       record {
         timed = record {
@@ -151,15 +151,17 @@ module _ {S : Type 0} (old new : IndexMap KeptKey KeptEntry S) (before after : D
 
   pub Puts-seen : (key : KeptKey) (entry : KeptEntry) → Puts old new key entry
       → Puts t (rows_seen new after) key entry
-  Puts-seen key entry p = subst (λ (u : Seen). Puts u (rows_seen new after) key entry) view (record {
-    updates = p.updates;
-    unique = p.unique;
-    longer = p.longer;
-    room = one_more (hash.get same_key old key) (length new.entries) (length old.entries) (spare old)
-        before.room (spare new) after.room p.longer room p.room;
-    replaces = λ some. no_more (hash.get same_key old key) (length new.entries) (length old.entries)
-        (spare old) before.room (spare new) after.room p.longer some room (p.replaces some);
-  })
+  Puts-seen key entry p =
+      subst (λ (u : Seen). Puts u (rows_seen new after) key entry) view (record {
+        updates = p.updates;
+        unique = p.unique;
+        longer = p.longer;
+        room = one_more (hash.get same_key old key) (length new.entries) (length old.entries)
+            (spare old) before.room (spare new) after.room p.longer room p.room;
+        replaces = λ some. no_more (hash.get same_key old key) (length new.entries)
+            (length old.entries) (spare old) before.room (spare new) after.room p.longer some room
+            (p.replaces some);
+      })
 
   fewer : (w : Option Row) (n m s r s' r' : ℕ) → n + (if is_some w then 1 else 0) ≡ m
       → r' ≡ r → s ≤ s' → min s (r - m) ≤ min s' (r' - n)
@@ -169,7 +171,8 @@ module _ {S : Type 0} (old new : IndexMap KeptKey KeptEntry S) (before after : D
   pub Removes-seen : (place : ℕ) → Removes old new (slice_get old.entries place)
       → Removes t (rows_seen new after) (slice_get t.entries place)
   Removes-seen place r =
-      subst (λ (u : Seen). Removes u (rows_seen new after) (slice_get u.entries place)) view (record {
+      subst (λ (u : Seen). Removes u (rows_seen new after) (slice_get u.entries place)) view
+      (record {
         updates = r.updates;
         unchanged = r.unchanged;
         unique = r.unique;
@@ -186,7 +189,8 @@ Puts-rewritten old new key entry was r there = record {
   updates = r.updates was there;
   unique = r.unique;
   longer = subst (λ (w : Option KeptEntry). length new.entries
-      ≡ length old.entries + (if is_some w then 0 else 1)) (sym there) (omega (arith, r.same_length));
+      ≡ length old.entries + (if is_some w then 0 else 1)) (sym there)
+      (omega (arith, r.same_length));
   room = omega (arith, r.same_room);
   replaces = λ some. omega (arith, r.same_room);
 }

@@ -1,12 +1,14 @@
 //! The rows of what is kept.
 
 ghost use Rattle.std.specs.Prelude.{◌≡◌, ◌<◌, ◌≤◌, None, Some, IsOk, IfOk, OnOk, MatchOption};
-ghost use Rattle.std.specs.Prelude.{length, slice_get, swap_remove, nat_eq, position, is_some, IfSome};
+ghost use Rattle.std.specs.Prelude.{length, slice_get, swap_remove, nat_eq, position, is_some};
+ghost use Rattle.std.specs.Prelude.{IfSome};
 ghost use Rattle.std.specs.Option.{option_copied, option_map, IsSomeAnd};
 ghost use Rattle.std.specs.Map.Iter.{deref_pair};
 ghost use Rattle.indexmap.specs.IndexMap.{get, values, spare, IsEmpty, IsUnchanged};
 ghost use Rattle.kept_replies.specs.Keys.{same_key};
-ghost use Rattle.kept_replies.specs.Kept.{birth_of, finished, postponed, left_in, is_over, is_retry};
+ghost use Rattle.kept_replies.specs.Kept.{birth_of, is_over, is_retry, left_in};
+ghost use Rattle.kept_replies.specs.Kept.{finished, postponed};
 ghost use Rattle.kept_replies.specs.inside.Stored.{Puts, Appends, Rewrites, Removes};
 ghost use Rattle.kept_replies.specs.inside.Stored.{NoRowPasses, RowPasses};
 

@@ -1,12 +1,15 @@
 //! The table of the kept replies.
 
-ghost use Rattle.std.specs.Prelude.{All};
-ghost use Rattle.std.specs.Prelude.{◌≡◌, ◌≢◌, ◌<◌, ◌≤◌, ◌+◌, ◌↔◌, ℕ, List, length, slice_get, None, Some, Err, IsSome, IsTrue, IfOk, IfSome, OnOk, MatchOption, Contains};
+ghost use Rattle.std.specs.Prelude.{◌≡◌, ◌≢◌, ◌<◌, ◌≤◌, ◌+◌, ◌↔◌, ℕ, List, None, Some, Err};
+ghost use Rattle.std.specs.Prelude.{All, Contains, IsSome, IsTrue, IfOk, IfSome, OnOk, MatchOption};
 ghost use Rattle.std.specs.Option.{option_copied, option_map, IsSomeAnd};
 ghost use Rattle.std.specs.Map.Iter.{deref_pair};
 ghost use Rattle.std.specs.FinMap as map;
 ghost use Rattle.keyed.specs.Maps.{update};
-ghost use Rattle.kept_replies.specs.Kept.{births, done, pending, is_over, is_retry, left_in, Passes, NonePasses, IsBusy, IsNamed, IsListOf, IsFreeBirth, IsEntry, IsConsistent, finished, postponed, without_birth, Becomes, Adds};
+ghost use Rattle.kept_replies.specs.Kept.{births, done, pending, is_over, is_retry, left_in};
+ghost use Rattle.kept_replies.specs.Kept.{Passes, NonePasses, IsBusy, IsNamed, IsListOf};
+ghost use Rattle.kept_replies.specs.Kept.{IsFreeBirth, IsEntry, IsConsistent, Becomes, Adds};
+ghost use Rattle.kept_replies.specs.Kept.{finished, postponed, without_birth};
 ghost use Rattle.kept_replies.specs.inside.Stored.{IsIn};
 
 use crate::entry::{KeptEntry, KeptState};

@@ -1,5 +1,6 @@
 use Rattle.std.proofs.Common.{ap, sym, refl, ◌∙◌, arith}
-use Rattle.kept_replies.proofs.StoredKept.{stored_get, AreStored-write, Adds-put, IsConsistent-stored}
+use Rattle.kept_replies.proofs.StoredKept.{stored_get, AreStored-write, Adds-put}
+use Rattle.kept_replies.proofs.StoredKept.{IsConsistent-stored}
 use Rattle.kept_replies.proofs.table.Kept.put.Goals as goal
 
 pub put-requires : goal.put-requires
