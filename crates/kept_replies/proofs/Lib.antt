@@ -6,3 +6,4 @@ pub mod Deciding
 pub mod Timed
 pub mod Moments
 pub mod SeenRows
+pub mod PlacedBirths

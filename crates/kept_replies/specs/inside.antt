@@ -1,4 +1,5 @@
 -- What the functions inside the crate owe one another. No public contract speaks of it.
 pub mod Stored
 pub mod Due
+pub mod Births
 pub mod Rows

@@ -2,6 +2,7 @@
 //! (H.225.0, RAS timers and request in progress).
 #![tactic(auto)]
 
+mod birth_places;
 mod copies;
 mod due_moments;
 mod entry;

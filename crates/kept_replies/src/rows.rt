@@ -12,21 +12,23 @@ ghost use Rattle.kept_replies.specs.Kept.{finished, postponed};
 ghost use Rattle.kept_replies.specs.inside.Stored.{Puts, Appends, Rewrites, Removes};
 ghost use Rattle.kept_replies.specs.inside.Stored.{NoRowPasses, RowPasses};
 
+use crate::birth_places::BirthPlaces;
 use crate::copies::copies_of;
 use crate::due_moments::DueMoments;
 use crate::entry::{KeptEntry, KeptState};
 use crate::key::KeptKey;
-use crate::searches::place_of;
 use indexmap::IndexMap;
 use ras_module::Reply;
 use std::alloc::{AllocError, Global};
 use std::marker::Model;
 
-/// Rows by their datagrams, each with the moment at which it is due. Contracts see an `IndexMap`.
+/// Rows by their datagrams, each with its birth and the moment at which it is due. Contracts see an
+/// `IndexMap`.
 #[derive(Drop)]
 pub(crate) struct KeptRows {
     rows: IndexMap<KeptKey, KeptEntry>,
     // by the places of the rows
+    births: BirthPlaces,
     due: DueMoments,
 }
 
@@ -36,6 +38,7 @@ impl Model for KeptRows {
     ghost use Rattle.indexmap.specs.Layout.{hash_map_code};
     ghost use Rattle.kept_replies.specs.declared.key.KeptKey.{KeptKey};
     ghost use Rattle.kept_replies.specs.declared.entry.KeptEntry.{KeptEntry};
+    ghost use Rattle.kept_replies.specs.inside.Births.{AreBorn};
     ghost use Rattle.kept_replies.specs.inside.Rows.{rows_seen, AreRows};
 
     ghost Value = { IndexMap KeptKey KeptEntry (Unit {0}) };
@@ -44,7 +47,7 @@ impl Model for KeptRows {
 
     ghost view = { λ t. rows_seen t.rows t.due };
 
-    ghost invariant = { λ t. AreRows t.rows t.due };
+    ghost invariant = { λ t. AreRows t.rows t.due × AreBorn t.rows.entries t.births };
 }
 
 impl KeptRows {
@@ -54,6 +57,7 @@ impl KeptRows {
     {
         KeptRows {
             rows: IndexMap::new(alloc),
+            births: BirthPlaces::new(alloc),
             due: DueMoments::new(alloc),
         }
     }
@@ -64,7 +68,8 @@ impl KeptRows {
     {
         let rows = copies_of(*self.rows.allocator(), &self.rows)?;
         let due = self.due.copy()?;
-        Ok(KeptRows { rows, due })
+        let births = BirthPlaces::of(*rows.allocator(), &rows);
+        Ok(KeptRows { rows, births, due })
     }
 
     /// The rows, to look at.
@@ -99,7 +104,7 @@ impl KeptRows {
     pub(crate) fn place_of(&self, born: u64) -> Option<usize>
         ensures { result ≡ position (λ entry. nat_eq entry.born born) (values self.now) }
     {
-        place_of(&self.rows, born)
+        self.births.place_of(&self.rows, born)
     }
 
     /// The birth of an entry that is over.
@@ -128,7 +133,9 @@ impl KeptRows {
         ensures room { spare self.old ≤ spare self.new }
     {
         self.rows.reserve(1)?;
-        self.due.reserve(self.rows.len() + 1)
+        self.due.reserve(self.rows.len() + 1)?;
+        self.births.prepare(&self.rows);
+        Ok(())
     }
 
     /// Puts an entry under a key, in place of what was there. This takes no memory.
@@ -138,10 +145,12 @@ impl KeptRows {
     {
         match self.rows.get_index_of(&key) {
             Some(place) => {
+                self.births.replace(place, entry.born);
                 self.due.write(place, &entry.state);
                 replace_entry(&mut self.rows, &key, entry);
             }
             None => {
+                self.births.add(entry.born);
                 self.due.write(self.rows.len(), &entry.state);
                 add_entry(&mut self.rows, key, entry);
             }
@@ -174,6 +183,7 @@ impl KeptRows {
         ensures { Removes self.old self.new (slice_get self.old.entries place) }
     {
         if take_row(&mut self.rows, place) {
+            self.births.take_out(place);
             self.due.take_out(place, self.rows.len());
         }
     }

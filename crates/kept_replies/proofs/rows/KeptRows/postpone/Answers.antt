@@ -1,9 +1,10 @@
-use Rattle.std.proofs.Common.{◌≤◌, ap, subst, ◌∙◌}
+use Rattle.std.proofs.Common.{◌≤◌, refl, ap, subst, ◌∙◌}
 use Rattle.std.specs.HashMap as hash
 use Rattle.kept_replies.specs.Keys.{same_key}
 use Rattle.kept_replies.specs.Kept.{left_in, postponed}
 use Rattle.kept_replies.specs.inside.Stored.{Rewrites}
 use Rattle.kept_replies.proofs.Moments.{Writes-postponed}
+use Rattle.kept_replies.proofs.PlacedBirths.{AreBorn-rewritten}
 use Rattle.kept_replies.proofs.SeenRows.{Seen, AreRows-rewritten, Rewrites-seen, Rewrites-none}
 use Rattle.kept_replies.proofs.SeenRows.{there_is_none}
 use Rattle.kept_replies.proofs.StoredKept.{passing_entry}
@@ -15,11 +16,16 @@ invariant_of-self c =
     let key = c.args.key.now in
     let was = passing_entry (hash.get same_key c.args.self.now key)
     (λ entry. 2 ≤ left_in entry.state) c.requires in
-    AreRows-rewritten i.rows c.write_retry.new.rows i.due c.wait.new.self c.self.invariant
-    (postponed c.args.moment) key c.in-Some.place c.write_retry.ensures c.in-Some.ensures.index
-    was.0 (ap (λ (u : Seen). hash.get same_key u key) c.self.view_is ∙ was.1)
-    (Writes-postponed i.due c.wait.new.self c.in-Some.place c.args.moment was.0.state was.2
-    c.wait.ensures)
+    let there = ap (λ (u : Seen). hash.get same_key u key) c.self.view_is ∙ was.1 in
+    (
+      AreRows-rewritten i.rows c.write_retry.new.rows i.due c.wait.new.self c.self.invariant.0
+          (postponed c.args.moment) key c.in-Some.place c.write_retry.ensures
+          c.in-Some.ensures.index was.0 there
+          (Writes-postponed i.due c.wait.new.self c.in-Some.place c.args.moment was.0.state was.2
+          c.wait.ensures),
+      AreBorn-rewritten i.rows c.write_retry.new.rows i.births i.births c.self.invariant.1
+          (postponed c.args.moment) key c.write_retry.ensures was.0 there refl,
+    )
 
 pub returns-in-Some : goal.returns-in-Some
 returns-in-Some c =
