@@ -72,11 +72,7 @@ impl BirthPlaces {
     }
 
     /// The place of the row with this birth.
-    pub(crate) fn place_of(
-        &self,
-        rows: &IndexMap<KeptKey, KeptEntry>,
-        born: u64,
-    ) -> Option<usize>
+    pub(crate) fn place_of(&self, rows: &IndexMap<KeptKey, KeptEntry>, born: u64) -> Option<usize>
         requires { AreBorn rows.now.entries self.now }
         ensures { result ≡ position (λ entry. nat_eq entry.born born) (values rows.now) }
     {

@@ -12,8 +12,7 @@ pub invariant_of-self : goal.invariant_of-self
 invariant_of-self c =
     let i = c.self.inside in
     let was = there_is (hash.get same_key i.rows c.args.key.now) c.in-Some.ensures.found in
-    let change = finished c.args.reply c.args.until in
-    (
+    let change = finished c.args.reply c.args.until in (
       AreRows-rewritten i.rows c.write_done.new.rows i.due c.finish.new.self c.self.invariant.0
           change c.args.key.now c.in-Some.place c.write_done.ensures c.in-Some.ensures.index was.0
           was.1 c.finish.ensures,

@@ -16,8 +16,7 @@ invariant_of-self c =
     let key = c.args.key.now in
     let was = passing_entry (hash.get same_key c.args.self.now key)
     (λ entry. 2 ≤ left_in entry.state) c.requires in
-    let there = ap (λ (u : Seen). hash.get same_key u key) c.self.view_is ∙ was.1 in
-    (
+    let there = ap (λ (u : Seen). hash.get same_key u key) c.self.view_is ∙ was.1 in (
       AreRows-rewritten i.rows c.write_retry.new.rows i.due c.wait.new.self c.self.invariant.0
           (postponed c.args.moment) key c.in-Some.place c.write_retry.ensures
           c.in-Some.ensures.index was.0 there

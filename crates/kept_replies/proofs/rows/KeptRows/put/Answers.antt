@@ -13,8 +13,7 @@ use Rattle.kept_replies.proofs.rows.KeptRows.put.Goals as goal
 pub invariant_of-self : goal.invariant_of-self
 invariant_of-self c =
     let i = c.self.inside in
-    let was = there_is (hash.get same_key i.rows c.args.key) c.in-Some.ensures.found in
-    (
+    let was = there_is (hash.get same_key i.rows c.args.key) c.in-Some.ensures.found in (
       AreRows-rewritten i.rows c.replace_entry.new.rows i.due c.write.new.self c.self.invariant.0
           (λ other. c.args.entry) c.args.key c.in-Some.place c.replace_entry.ensures
           c.in-Some.ensures.index was.0 was.1 c.write.ensures,
@@ -59,8 +58,7 @@ invariant_of-self-in-None c =
     let i = c.self.inside in
     let key = c.args.key in
     let none = sym (ap (λ (u : Seen). hash.get same_key u key) c.self.view_is)
-    ∙ there_is_none (hash.get same_key i.rows key) c.in-None.ensures.found in
-    (
+    ∙ there_is_none (hash.get same_key i.rows key) c.in-None.ensures.found in (
       AreRows-appended i.rows c.add_entry.new.rows i.due c.write-in-None.new.self
           c.self.invariant.0 (key, c.args.entry) c.add_entry.ensures.appends c.len.result
           c.len.ensures.len c.write-in-None.ensures
