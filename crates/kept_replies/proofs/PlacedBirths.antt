@@ -87,7 +87,8 @@ module _ (test : KeptKey → Bool) (w : KeptEntry) where
   births_written rows i is =
       let found = written_from rows 0 i (sym (position_from-zero test (keys_of rows)) ∙ is) in
       let at : found.0 ≡ i = omega (arith, found.1) in
-      subst (λ (j : ℕ). births_in (set_value test rows w) ≡ set (births_in rows) j w.born) at found.2
+      subst (λ (j : ℕ). births_in (set_value test rows w) ≡ set (births_in rows) j w.born) at
+      found.2
 
 module _ {S : Type 0} (old new : IndexMap KeptKey KeptEntry S) (before after : BirthTable)
     (h : AreBorn old.entries before) where

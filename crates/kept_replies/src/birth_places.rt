@@ -104,6 +104,11 @@ impl BirthPlaces {
         ensures births { IsTrue self.new.is_whole
             → self.new.births ≡ set self.old.births place born }
     {
+        if let Some(own) = self.births.get_index(place) {
+            if *own == born {
+                return;
+            }
+        }
         self.add(born);
         self.take_out(place);
     }
