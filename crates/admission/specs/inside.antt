@@ -2,3 +2,4 @@
 pub mod Stored
 pub mod Sums
 pub mod Counted
+pub mod LegCounts

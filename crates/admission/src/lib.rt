@@ -8,6 +8,7 @@ mod copies;
 mod fault;
 mod in_use;
 mod leg;
+mod leg_counts;
 mod legs;
 mod sums;
 mod table;

@@ -1,0 +1,120 @@
+//! How many legs each endpoint has.
+
+ghost use Rattle.std.specs.Prelude.{◌≡◌, ◌≤◌, ◌<◌, ◌^◌, IsTrue, IfOk};
+ghost use Rattle.admission.specs.inside.LegCounts.{count_of, known, Puts, Comes, Goes, Keeps, AreZero};
+
+use indexmap::IndexMap;
+use ras_module::EndpointId;
+use std::alloc::{AllocError, Global};
+
+/// In how many calls each endpoint has a leg. A leg that can't be counted for want of memory is
+/// taken all the same: nothing is known then, until the counts start anew.
+#[derive(Drop)]
+pub struct LegCounts {
+    // an endpoint without an entry has no leg
+    counts: IndexMap<EndpointId, usize>,
+    // no leg was left out
+    whole: bool,
+}
+
+impl LegCounts {
+    /// Of no calls. This takes no memory.
+    pub fn new(alloc: Global) -> Self
+        ensures { AreZero result }
+    {
+        LegCounts {
+            counts: IndexMap::new(alloc),
+            whole: true,
+        }
+    }
+
+    /// Equal counts.
+    pub fn copy(&self) -> Result<Self, AllocError>
+        ensures { IfOk result (Keeps self.now) }
+    {
+        let counts = self.counts.clone()?;
+        Ok(LegCounts {
+            counts,
+            whole: self.whole,
+        })
+    }
+
+    /// In how many calls this endpoint has a leg, where it is known.
+    pub fn of(&self, endpoint: &EndpointId) -> Option<usize>
+        ensures { result ≡ known self.now endpoint.now }
+    {
+        if !self.whole {
+            return None;
+        }
+        Some(self.count(endpoint))
+    }
+
+    fn count(&self, endpoint: &EndpointId) -> usize
+        ensures { result ≡ count_of self.now endpoint.now }
+    {
+        match self.counts.get(endpoint) {
+            Some(count) => *count,
+            None => 0,
+        }
+    }
+
+    /// Makes room for both legs of so many more calls, where there is memory.
+    pub fn reserve(&mut self, calls: usize)
+        ensures { Keeps self.old self.new }
+    {
+        let _ = self.counts.reserve(calls.saturating_mul(2));
+    }
+
+    /// Counts one leg more. This takes no memory: where there is no room for it, the counts are
+    /// given up.
+    pub fn come(&mut self, endpoint: EndpointId)
+        requires { IsTrue self.old.whole → count_of self.old endpoint < 2 ^ 63 }
+        ensures { Comes self.old self.new endpoint }
+    {
+        if !self.whole {
+            return;
+        }
+        let count = self.count(&endpoint);
+        if count == 0 && self.counts.capacity() == self.counts.len() {
+            self.whole = false;
+            return;
+        }
+        self.put(endpoint, count + 1);
+    }
+
+    /// Counts one leg fewer.
+    pub fn go(&mut self, endpoint: &EndpointId)
+        requires { IsTrue self.old.whole → 1 ≤ count_of self.old endpoint.now }
+        ensures { Goes self.old self.new endpoint.now }
+    {
+        if !self.whole {
+            return;
+        }
+        let count = self.count(endpoint);
+        if count == 1 {
+            self.counts.swap_remove(endpoint);
+            return;
+        }
+        self.put(*endpoint, count - 1);
+    }
+
+    fn put(&mut self, endpoint: EndpointId, count: usize)
+        ensures { Puts self.old self.new endpoint count }
+    {
+        match self.counts.insert(endpoint, count) {
+            Ok(_) => {}
+            Err(_) => self.whole = false,
+        }
+    }
+
+    /// Starts anew, where there is no call.
+    pub fn start_anew(&mut self)
+        requires { AreZero self.old }
+        ensures { AreZero self.new }
+    {
+        if !self.whole {
+            self.counts.clear();
+            self.whole = true;
+        }
+    }
+}
