@@ -4,3 +4,5 @@ pub mod Leaving
 pub mod Soundness
 pub mod Deciding
 pub mod KeptSums
+pub mod KeptLegs
+pub mod CountedCalls

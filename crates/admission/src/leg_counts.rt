@@ -1,6 +1,6 @@
 //! How many legs each endpoint has.
 
-ghost use Rattle.std.specs.Prelude.{◌≡◌, ◌≤◌, ◌<◌, ◌^◌, IsTrue, IfOk};
+ghost use Rattle.std.specs.Prelude.{◌≡◌, ◌≢◌, ◌≤◌, ◌<◌, ◌^◌, IsTrue, IfOk};
 ghost use Rattle.admission.specs.inside.LegCounts.{count_of, known, Puts, Comes, Goes, Keeps, AreZero};
 
 use indexmap::IndexMap;
@@ -67,19 +67,19 @@ impl LegCounts {
 
     /// Counts one leg more. This takes no memory: where there is no room for it, the counts are
     /// given up.
-    pub fn come(&mut self, endpoint: EndpointId)
-        requires { IsTrue self.old.whole → count_of self.old endpoint < 2 ^ 63 }
-        ensures { Comes self.old self.new endpoint }
+    pub fn come(&mut self, endpoint: &EndpointId)
+        requires { IsTrue self.old.whole → count_of self.old endpoint.now < 2 ^ 63 }
+        ensures { Comes self.old self.new endpoint.now }
     {
         if !self.whole {
             return;
         }
-        let count = self.count(&endpoint);
+        let count = self.count(endpoint);
         if count == 0 && self.counts.capacity() == self.counts.len() {
             self.whole = false;
             return;
         }
-        self.put(endpoint, count + 1);
+        self.put(*endpoint, count + 1);
     }
 
     /// Counts one leg fewer.
@@ -107,12 +107,13 @@ impl LegCounts {
         }
     }
 
-    /// Starts anew, where there is no call.
-    pub fn start_anew(&mut self)
-        requires { AreZero self.old }
-        ensures { AreZero self.new }
+    /// So many calls are left: where there is none, the counts start anew.
+    pub fn calls_left(&mut self, calls: usize)
+        requires { calls ≡ 0 → AreZero self.old }
+        ensures none { calls ≡ 0 → AreZero self.new }
+        ensures some { calls ≢ 0 → self.new ≡ self.old }
     {
-        if !self.whole {
+        if calls == 0 && !self.whole {
             self.counts.clear();
             self.whole = true;
         }

@@ -17,6 +17,7 @@ use crate::copies::copies_of;
 use crate::fault::CallFault;
 use crate::in_use::InUse;
 use crate::leg::Leg;
+use crate::leg_counts::LegCounts;
 use crate::legs::Legs;
 use crate::sums::{call_in, legs_with, units_of_pool};
 use indexmap::IndexMap;
@@ -36,8 +37,9 @@ pub struct Left {
 pub struct Calls {
     calls: IndexMap<CallKey, Call>,
     most: usize,
-    // what the calls use, changed with them
+    // what the calls use, and how many legs each endpoint has: changed with the calls
     in_use: InUse,
+    leg_counts: LegCounts,
 }
 
 impl Model for Calls {
@@ -58,7 +60,7 @@ impl Model for Calls {
       room = spare t.calls;
     } };
 
-    ghost invariant = { λ t. AreCounted t.calls t.most t.in_use };
+    ghost invariant = { λ t. AreCounted t.calls t.most t.in_use t.leg_counts };
 }
 
 impl Calls {
@@ -74,6 +76,7 @@ impl Calls {
             calls: IndexMap::new(alloc),
             most,
             in_use: InUse::none(),
+            leg_counts: LegCounts::new(alloc),
         }
     }
 
@@ -87,6 +90,7 @@ impl Calls {
             calls,
             most: self.most,
             in_use: self.in_use,
+            leg_counts: self.leg_counts.copy()?,
         })
     }
 
@@ -142,6 +146,9 @@ impl Calls {
         ensures { MatchOption result (IsInNoCall self.now.calls endpoint.now)
             (λ key. IsSome (leg_at self.now.calls key endpoint.now)) }
     {
+        if self.leg_counts.of(endpoint) == Some(0) {
+            return None;
+        }
         call_in(&self.calls, endpoint)
     }
 
@@ -149,7 +156,10 @@ impl Calls {
     pub fn legs_of(&self, endpoint: &EndpointId) -> usize
         ensures { result ≡ legs_of self.now.calls endpoint.now }
     {
-        legs_with(&self.calls, endpoint)
+        match self.leg_counts.of(endpoint) {
+            Some(count) => count,
+            None => legs_with(&self.calls, endpoint),
+        }
     }
 
     /// The units of all calls: the bandwidth in use.
@@ -187,7 +197,9 @@ impl Calls {
         ensures room { self.old.room ≤ self.new.room }
         ensures succeeds { more ≤ self.old.room → IsOk result }
     {
-        self.calls.reserve(more)
+        self.calls.reserve(more)?;
+        self.leg_counts.reserve(more);
+        Ok(())
     }
 
     /// Opens a call with its first leg. Nothing is changed where as many are open as may be, and for
@@ -213,6 +225,8 @@ impl Calls {
         match self.calls.insert(key, call) {
             Ok(_) => {
                 self.in_use.add(pool, units);
+                self.leg_counts.reserve(1);
+                self.leg_counts.come(&leg.endpoint);
                 Ok(())
             }
             Err(_) => Err(CallFault::Memory),
@@ -239,6 +253,7 @@ impl Calls {
             return Err(CallFault::TwoLegs);
         }
         write_leg(&mut self.calls, &key, leg);
+        self.leg_counts.come(&leg.endpoint);
         Ok(())
     }
 
@@ -285,11 +300,14 @@ impl Calls {
         }
         if call.legs.has_other(endpoint) {
             write_without(&mut self.calls, key, endpoint);
+            self.leg_counts.go(endpoint);
             return Ok(Left { ended: None });
         }
         let (pool, units) = (call.pool, call.units);
         self.calls.swap_remove(key);
         self.in_use.take(pool, units);
+        self.leg_counts.go(endpoint);
+        self.leg_counts.calls_left(self.calls.len());
         Ok(Left {
             ended: Some((pool, units)),
         })

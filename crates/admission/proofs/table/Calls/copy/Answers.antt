@@ -1,13 +1,11 @@
-use Rattle.std.proofs.Common.{sym, ap, subst}
-use Rattle.admission.specs.Calls.{open_calls_of}
-use Rattle.admission.specs.inside.Sums.{AreSums}
-use Rattle.admission.proofs.StoredCalls.{AreStored-same}
+use Rattle.admission.proofs.CountedCalls.{AreCounted-same, AreCounted-keeps}
 use Rattle.admission.proofs.table.Calls.copy.Goals as goal
 
 pub invariant_of-result : goal.invariant_of-result
-invariant_of-result c = record {
-  stored = AreStored-same c.self.inside.calls c.in_ok-calls.calls c.self.inside.most
-      c.self.invariant.stored c.in_ok-calls.ensures;
-  sums = subst (AreSums c.self.inside.in_use) (ap open_calls_of (sym c.in_ok-calls.ensures))
-      c.self.invariant.sums;
-}
+invariant_of-result c =
+    let old = c.self.inside.calls in
+    let new = c.in_ok-calls.calls in
+    let same = AreCounted-same old new c.self.inside.most c.self.inside.in_use
+    c.self.inside.leg_counts c.self.invariant c.in_ok-calls.ensures in
+    AreCounted-keeps new new c.self.inside.most c.self.inside.in_use c.self.inside.leg_counts same
+    c.in_ok-copy.field-0 c.in_ok-copy.ensures

@@ -1,12 +1,9 @@
-use Rattle.std.proofs.Common.{◌≡◌, Some, sym, subst}
+use Rattle.std.proofs.Common.{◌≡◌, Some}
 use Rattle.std.specs.FinMap as map
 use Rattle.admission.specs.Calls.{with_units}
-use Rattle.admission.specs.inside.Sums.{AreSums}
+use Rattle.admission.proofs.CountedCalls.{AreCounted-set_units}
 use Rattle.admission.proofs.KeptSums.{part_of_total, part_of_sum, raised_total, raised_sum}
-use Rattle.admission.proofs.KeptSums.{AreSums-set_units}
-use Rattle.admission.proofs.LegLemmas.{IsCall-set_units}
-use Rattle.admission.proofs.StoredCalls.{open_of, stored_call, calls_updated, AreStored-rewrite}
-use Rattle.admission.proofs.StoredCalls.{Becomes-update}
+use Rattle.admission.proofs.StoredCalls.{open_of, stored_call, Becomes-update}
 use Rattle.admission.proofs.table.Calls.set_units.Goals as goal
 
 there : (c : goal.After-take-arg-1)
@@ -34,23 +31,14 @@ add-requires-clause-pool c = raised_sum c.self.inside.calls c.self.inside.most
 
 pub invariant_of-self : goal.invariant_of-self
 invariant_of-self c =
-    let was = stored_call c.self.inside.calls c.write_units.new.calls c.args.key.now
-    c.self.inside.most c.args.self.now c.self.view_is c.in-Some.call.now c.in-Some.ensures.found in
-    record {
-      stored =
-          AreStored-rewrite c.self.inside.calls c.write_units.new.calls c.args.key.now
-          c.self.inside.most c.args.self.now c.self.view_is (with_units c.args.units)
-          c.write_units.ensures c.in-Some.call.now c.in-Some.ensures.found
-          c.self.invariant.stored
-          (IsCall-set_units c.in-Some.call.now c.args.units c.ranges.units.fits);
-      sums =
-          subst (AreSums c.add.new.self)
-          (sym (calls_updated c.self.inside.calls c.write_units.new.calls c.args.key.now
-          (with_units c.args.units) c.write_units.ensures c.in-Some.call.now was))
-          (AreSums-set_units (open_of c.self.inside.calls) c.args.key.now c.self.inside.in_use
-          c.self.invariant.sums c.take.new.self c.add.new.self c.in-Some.call.now c.args.units was
-          c.take.ensures c.add.ensures);
-    }
+    let old = c.self.inside.calls in
+    let new = c.write_units.new.calls in
+    let call = c.in-Some.call.now in
+    let is = stored_call old new c.args.key.now c.self.inside.most c.args.self.now c.self.view_is
+    call c.in-Some.ensures.found in
+    AreCounted-set_units old new c.self.inside.most c.self.inside.in_use c.self.inside.leg_counts
+    c.self.invariant c.args.key.now call is c.take.new.self c.add.new.self c.args.units
+    c.ranges.units.fits c.write_units.ensures c.take.ensures c.add.ensures
 
 pub returns-clause-ok : goal.returns-clause-ok
 returns-clause-ok c =
