@@ -7,14 +7,16 @@ use indexmap::IndexMap;
 use ras_module::EndpointId;
 use std::alloc::{AllocError, Global};
 
-/// In how many calls each endpoint has a leg. A leg that can't be counted for want of memory is
-/// taken all the same: nothing is known then, until the counts start anew.
+/// In how many calls each endpoint has a leg. Where a leg can't be counted for want of memory, the
+/// counts are given up, and nothing is known until they start anew.
 #[derive(Drop)]
 pub struct LegCounts {
     // an endpoint without an entry has no leg
     counts: IndexMap<EndpointId, usize>,
     // no leg was left out
     whole: bool,
+    // of all endpoints together; it decides only how much room is made
+    legs: usize,
 }
 
 impl LegCounts {
@@ -25,6 +27,7 @@ impl LegCounts {
         LegCounts {
             counts: IndexMap::new(alloc),
             whole: true,
+            legs: 0,
         }
     }
 
@@ -36,6 +39,7 @@ impl LegCounts {
         Ok(LegCounts {
             counts,
             whole: self.whole,
+            legs: self.legs,
         })
     }
 
@@ -58,11 +62,13 @@ impl LegCounts {
         }
     }
 
-    /// Makes room for both legs of so many more calls, where there is memory.
+    /// Makes room for both legs of each of so many calls, where there is memory.
     pub fn reserve(&mut self, calls: usize)
         ensures { Keeps self.old self.new }
     {
-        let _ = self.counts.reserve(calls.saturating_mul(2));
+        let missing = calls.saturating_mul(2).saturating_sub(self.legs);
+        // where there was none, a leg that comes and finds no room shows it
+        let _ = self.counts.reserve(missing);
     }
 
     /// Counts one leg more. This takes no memory: where there is no room for it, the counts are
@@ -71,6 +77,7 @@ impl LegCounts {
         requires { IsTrue self.old.whole → count_of self.old endpoint.now < 2 ^ 63 }
         ensures { Comes self.old self.new endpoint.now }
     {
+        self.legs = self.legs.saturating_add(1);
         if !self.whole {
             return;
         }
@@ -87,6 +94,7 @@ impl LegCounts {
         requires { IsTrue self.old.whole → 1 ≤ count_of self.old endpoint.now }
         ensures { Goes self.old self.new endpoint.now }
     {
+        self.legs = self.legs.saturating_sub(1);
         if !self.whole {
             return;
         }
@@ -98,6 +106,7 @@ impl LegCounts {
         self.put(*endpoint, count - 1);
     }
 
+    /// The endpoint has so many legs.
     fn put(&mut self, endpoint: EndpointId, count: usize)
         ensures { Puts self.old self.new endpoint count }
     {

@@ -198,7 +198,8 @@ impl Calls {
         ensures succeeds { more ≤ self.old.room → IsOk result }
     {
         self.calls.reserve(more)?;
-        self.leg_counts.reserve(more);
+        self.leg_counts
+            .reserve(self.calls.len().saturating_add(more));
         Ok(())
     }
 
@@ -225,7 +226,7 @@ impl Calls {
         match self.calls.insert(key, call) {
             Ok(_) => {
                 self.in_use.add(pool, units);
-                self.leg_counts.reserve(1);
+                self.leg_counts.reserve(self.calls.len());
                 self.leg_counts.come(&leg.endpoint);
                 Ok(())
             }
