@@ -27,7 +27,7 @@ use Rattle.admission.proofs.StoredCalls.{open_of, table_of, len_stored}
 pub AreLegCounts-keeps : (old new : LegCounts) (legs : List ℕ → ℕ) → AreLegCounts old legs
     → Keeps old new → AreLegCounts new legs
 AreLegCounts-keeps old new legs s k =
-    record { each = λ whole x. k.each whole x ∙ s.each (k.whole whole) x }
+    record { each = λ whole x. k.each x ∙ s.each (sym k.whole ∙ whole) x }
 
 -- an endpoint of which no leg is known has none
 pub none_known : (kept : LegCounts) (legs : List ℕ → ℕ) → AreLegCounts kept legs → (x : List ℕ)
@@ -116,7 +116,7 @@ module _ (calls : OpenCalls) (key : CallKey) (kept : LegCounts)
     each = λ whole x. omega (
       arith,
       g.each whole x,
-      s.each (g.whole whole) x,
+      s.each (sym g.whole ∙ whole) x,
       legs_of-leave calls key x call endpoint there has,
     );
   }

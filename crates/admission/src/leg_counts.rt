@@ -1,7 +1,10 @@
 //! How many legs each endpoint has.
 
-ghost use Rattle.std.specs.Prelude.{◌≡◌, ◌≢◌, ◌≤◌, ◌<◌, ◌^◌, IsTrue, IfOk};
-ghost use Rattle.admission.specs.inside.LegCounts.{count_of, known, Puts, Comes, Goes, Keeps, AreZero};
+ghost use Rattle.std.specs.Prelude.{◌≡◌, ◌≢◌, ◌≤◌, ◌<◌, ◌^◌, IsTrue, IfOk, nat_eq};
+ghost use Rattle.std.specs.Cmp.Lexicographic.{pointwise};
+ghost use Rattle.indexmap.specs.IndexMap.{spare, ContainsKey};
+ghost use Rattle.admission.specs.inside.LegCounts.{count_of, known, AreZero, Keeps};
+ghost use Rattle.admission.specs.inside.LegCounts.{Puts, Comes, Goes};
 
 use indexmap::IndexMap;
 use ras_module::EndpointId;
@@ -22,7 +25,8 @@ pub struct LegCounts {
 impl LegCounts {
     /// Of no calls. This takes no memory.
     pub fn new(alloc: Global) -> Self
-        ensures { AreZero result }
+        ensures zero { AreZero result }
+        ensures whole { IsTrue result.whole }
     {
         LegCounts {
             counts: IndexMap::new(alloc),
@@ -75,7 +79,8 @@ impl LegCounts {
     /// given up.
     pub fn come(&mut self, endpoint: &EndpointId)
         requires { IsTrue self.old.whole → count_of self.old endpoint.now < 2 ^ 63 }
-        ensures { Comes self.old self.new endpoint.now }
+        ensures comes { Comes self.old self.new endpoint.now }
+        ensures counted { 0 < spare self.old.counts → IsTrue self.old.whole → IsTrue self.new.whole }
     {
         self.legs = self.legs.saturating_add(1);
         if !self.whole {
@@ -108,7 +113,10 @@ impl LegCounts {
 
     /// The endpoint has so many legs.
     fn put(&mut self, endpoint: EndpointId, count: usize)
-        ensures { Puts self.old self.new endpoint count }
+        ensures puts { Puts self.old self.new endpoint count }
+        ensures new { 0 < spare self.old.counts → self.new.whole ≡ self.old.whole }
+        ensures there { ContainsKey (pointwise nat_eq) self.old.counts endpoint
+            → self.new.whole ≡ self.old.whole }
     {
         match self.counts.insert(endpoint, count) {
             Ok(_) => {}
@@ -120,6 +128,7 @@ impl LegCounts {
     pub fn calls_left(&mut self, calls: usize)
         requires { calls ≡ 0 → AreZero self.old }
         ensures none { calls ≡ 0 → AreZero self.new }
+        ensures anew { calls ≡ 0 → IsTrue self.new.whole }
         ensures some { calls ≢ 0 → self.new ≡ self.old }
     {
         if calls == 0 && !self.whole {

@@ -26,18 +26,18 @@ pub record AreLegCounts (kept : LegCounts) (legs : List ℕ → ℕ) : Type 0 wh
 abbrev pub AreZero : LegCounts → Type 0
 AreZero kept = AreLegCounts kept (λ endpoint. 0)
 
--- what is known of the new was kept of the old
+-- the same is known of each endpoint
 pub record Keeps (old new : LegCounts) : Type 0 where
-  pub whole : IsTrue new.whole → IsTrue old.whole
-  pub each : IsTrue new.whole → (x : List ℕ) → count_of new x ≡ count_of old x
+  pub whole : new.whole ≡ old.whole
+  pub each : (x : List ℕ) → count_of new x ≡ count_of old x
 
--- this endpoint has so many legs
+-- this endpoint has so many legs, where the counts aren't given up
 pub record Puts (old new : LegCounts) (endpoint : List ℕ) (count : ℕ) : Type 0 where
   pub whole : IsTrue new.whole → IsTrue old.whole
   pub each : IsTrue new.whole → (x : List ℕ)
       → count_of new x ≡ (if pointwise nat_eq endpoint x then count else count_of old x)
 
--- this endpoint has one leg more
+-- this endpoint has one leg more, where the counts aren't given up
 pub record Comes (old new : LegCounts) (endpoint : List ℕ) : Type 0 where
   pub whole : IsTrue new.whole → IsTrue old.whole
   pub each : IsTrue new.whole → (x : List ℕ)
@@ -45,6 +45,6 @@ pub record Comes (old new : LegCounts) (endpoint : List ℕ) : Type 0 where
 
 -- this endpoint has one leg fewer
 pub record Goes (old new : LegCounts) (endpoint : List ℕ) : Type 0 where
-  pub whole : IsTrue new.whole → IsTrue old.whole
+  pub whole : new.whole ≡ old.whole
   pub each : IsTrue new.whole → (x : List ℕ)
       → count_of new x + one_if_same endpoint x ≡ count_of old x

@@ -40,7 +40,7 @@ invariant_of-self c =
     (one_leg call.legs c.are_two.result c.are_two.ensures.legs c.are_two.ensures.two
     c.if-are_two.false)
     (ap (λ w. leg_of (legs_in w) c.args.leg.endpoint) c.in-Some.ensures.found ∙ c.requires)
-    c.write_leg.ensures c.come.ensures
+    c.write_leg.ensures c.come.ensures.comes
 
 pub returns-clause-ok : goal.returns-clause-ok
 returns-clause-ok c = Becomes-update c.self.inside.calls c.write_leg.new.calls c.args.key

@@ -14,7 +14,7 @@ invariant_of-result c = record {
       (AreSums-empty c.none.result c.none.ensures);
   legs = subst (λ (m : OpenCalls). AreLegCounts c.new-2.result (legs_of m))
       (sym (ap open_calls_of c.new.ensures.empty))
-      (AreLegCounts-empty c.new-2.result c.new-2.ensures);
+      (AreLegCounts-empty c.new-2.result c.new-2.ensures.zero);
 }
 
 pub returns-clause-sound : goal.returns-clause-sound

@@ -54,7 +54,7 @@ invariant_of-self c =
     c.self.invariant c.reserve.new.self c.reserve.ensures)
     c.args.key c.add.new.self c.come.new.self c.args.pool c.args.units c.args.leg absent
     c.ranges.units.fits (λ e. c.if-len-self.false (c.len.ensures.len ∙ e))
-    c.in-Ok.ensures.unique (opened c) longer c.add.ensures c.come.ensures
+    c.in-Ok.ensures.unique (opened c) longer c.add.ensures c.come.ensures.comes
 
 pub invariant_of-self-in-Err : goal.invariant_of-self-in-Err
 invariant_of-self-in-Err c = AreCounted-same c.self.inside.calls c.insert.new.self
