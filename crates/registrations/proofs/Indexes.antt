@@ -1,5 +1,5 @@
--- Rows at places, an index to them and their finite map: where the index leads, and what a change of
--- one place does.
+-- Rows at places, an index to them and their finite map: where the index leads, and what a change
+-- of one place does.
 use Rattle.std.proofs.Common.{◌≡◌, ◌≢◌, ℕ, Bool, refl, sym, ◌∙◌, ap, subst, Some, None}
 use Rattle.std.specs.Prelude.{Option}
 use Rattle.std.specs.Option.{option_map}

@@ -1,10 +1,13 @@
 pub mod Digits
 pub mod Covering
 pub mod Indexes
+pub mod Swapped
 pub mod Order
+pub mod Due
 pub mod Rows
 pub mod Same
 pub mod Stored
+pub mod Tables
 pub mod Consistent
 pub mod Agreement
 pub mod Unused

@@ -1,9 +1,9 @@
 -- What is stored, and the map that it makes.
-use Rattle.std.proofs.Common.{Bor, ◌≡◌, ℕ, zero, suc, ◌≤◌, ◌<◌, List, [], ◌∷◌, ◌++◌, length}
+use Rattle.std.proofs.Common.{Bor, ◌≡◌, ℕ, zero, suc, ◌≤◌, ◌<◌, List, [], ◌∷◌, ◌++◌, length, ◌+◌}
 use Rattle.std.proofs.Common.{nat_eq, refl, sym, ◌∙◌, ap, subst, cond, Some, None, arith}
 use Rattle.std.specs.Prelude.{Option, IsSome, IfSome, slice_get, slice_index_or, is_some, count_by}
 use Rattle.std.specs.Prelude.{◌-◌, min}
-use Rattle.std.specs.Option.{option_copied, IsSomeAnd}
+use Rattle.std.specs.Option.{option_copied, option_map, IsSomeAnd}
 use Rattle.std.proofs.Math.ListN.{set}
 use Rattle.std.proofs.lemmas.List.{length-append}
 use Rattle.std.proofs.lemmas.List.Sums.{sum_by-cons}
@@ -19,6 +19,7 @@ use Rattle.indexmap.specs.IndexMap.{insert_entry, spare}
 use Rattle.indexmap.proofs.CallerLemmas.{insert_entry-new}
 use Rattle.slab.specs.Slab.{Slab, get, slab_len, Updates, with_value}
 use Rattle.slab.proofs.SlabLemmas.{Updates-with_value}
+use Rattle.deadlines.specs.Deadlines.{DeadlineTable}
 use Rattle.keyed.specs.Maps.{update, Changed}
 use Rattle.keyed.specs.Places.{row_in, AreApart}
 use Rattle.keyed.proofs.Decide.{some_none, same_some}
@@ -35,12 +36,12 @@ use Rattle.registrations.specs.declared.registration.Registration.{Registration}
 use Rattle.registrations.specs.Registry.{Live, Registry, IsSound, IsConsistent, Becomes}
 use Rattle.registrations.specs.Registry.{Updates as UpdatesOne, IsNumbered}
 use Rattle.registrations.specs.Registry.{live_of, at_address, identifier_of, call_signal_of}
-use Rattle.registrations.specs.inside.Indexes.{IsIndexOf}
 use Rattle.registrations.specs.inside.Stored.{Entry, key_of, place_of, order_of, room_of}
-use Rattle.registrations.specs.inside.Stored.{registry_of, IsStored}
+use Rattle.registrations.specs.inside.Stored.{registry_of, IsStored, AreDue, deadline_of}
 use Rattle.registrations.proofs.Indexes as indexes
 use Rattle.registrations.proofs.Order.{EachLeads, order_at, order_put, from_order, length_order}
-use Rattle.registrations.proofs.Rows.{AreRows, len_live, IsConsistent-rows}
+use Rattle.registrations.proofs.Order.{order_changed}
+use Rattle.registrations.proofs.Rows.{AreRows, len_live, live_row, IsConsistent-rows}
 
 module _ {S : Type 0} (rows : Slab Registration) (by_identifier : HashMap (List ℕ) ℕ S)
     (by_address : HashMap Address ℕ S) where
@@ -68,7 +69,7 @@ module _ {S : Type 0} (rows : Slab Registration) (by_identifier : HashMap (List 
         sym (entries.get_entries texts_decide nat_list_cmp_total exact_bytes by_identifier.entries
         (key_of e)) ∙ entries_map.has j e there
 
-    named_entry : (id : List ℕ) (i : ℕ) → named id ≡ Some i
+    pub named_entry : (id : List ℕ) (i : ℕ) → named id ≡ Some i
         → (j : ℕ) × (slice_get by_identifier.entries j ≡ Some (id, i))
     named_entry id i is =
         let stands = entries_map.stands id i (entries.get_entries texts_decide nat_list_cmp_total
@@ -82,6 +83,21 @@ module _ {S : Type 0} (rows : Slab Registration) (by_identifier : HashMap (List 
     pub row_at : (id : List ℕ) (i : ℕ) → named id ≡ Some i
         → (r : Registration) × (get rows i ≡ Some r) × (r.identifier ≡ id)
     row_at id i is = indexes.indexed_row identifier_of (get rows) named s.identifiers id i is
+
+    -- the entry of an identifier, where a look-up found it
+    pub entry_at : (id : List ℕ) (place j : ℕ) → named id ≡ Some place
+        → IsSomeAnd (slice_get by_identifier.entries j) (λ e. e.1 ≡ place)
+        → slice_get by_identifier.entries j ≡ Some (id, place)
+    entry_at id place j is has = cases (slice_get by_identifier.entries j) refl has where
+      cases : (w : Option Entry) → slice_get by_identifier.entries j ≡ w
+          → IsSomeAnd w (λ e. e.1 ≡ place) → slice_get by_identifier.entries j ≡ Some (id, place)
+      cases None there same = absurd same
+      cases (Some e) there same =
+          let its = row_at (key_of e) place (entry_named j e there ∙ ap Some same) in
+          let own = row_at id place is in
+          let key = sym its.2 ∙ (ap identifier_of (same_some its.0 own.0 (sym its.1 ∙ own.1))
+          ∙ own.2) in
+          there ∙ ap Some (one_pair e (id, place) key same)
 
     pub is_stored : (id : List ℕ) (i : ℕ) → named id ≡ Some i → IsSome (get rows i)
     is_stored id i is = subst IsSome (sym (row_at id i is).1) refl
@@ -167,8 +183,9 @@ module _ {S : Type 0} (rows : Slab Registration) (by_identifier : HashMap (List 
     pub len_stored : fin.len live ≡ length by_identifier.entries
     len_stored = len_live order are_rows ∙ length_order rows by_identifier.entries leads
 
-    pub IsSound-stored : IsSound (registry_of rows by_identifier by_address most)
-    IsSound-stored = record {
+    pub IsSound-stored : (deadlines : DeadlineTable)
+        → IsSound (registry_of rows by_identifier by_address deadlines most)
+    IsSound-stored deadlines = record {
       consistent = IsConsistent-rows order are_rows;
       few = omega (arith, len_stored, s.few);
     }
@@ -194,36 +211,6 @@ IsStored-empty rows by_identifier by_address most slots ids addresses few = reco
   fits = omega (arith, ap (λ ss. slab_len (record rows { slots = ss })) slots);
 }
 
--- the same rows with the same entries, and more room
-pub IsStored-same : {S : Type 0} (rows next : Slab Registration)
-    (by_identifier next_named : HashMap (List ℕ) ℕ S) (by_address next_placed : HashMap Address ℕ S)
-    (most : ℕ) → IsStored rows by_identifier by_address most → next.slots ≡ rows.slots
-    → next_named.entries ≡ by_identifier.entries → next_placed.entries ≡ by_address.entries
-    → rows.capacity ≤ next.capacity → IsStored next next_named next_placed most
-IsStored-same rows next by_identifier next_named by_address next_placed most s slots ids addresses
-    more =
-    record {
-      identifiers = subst (λ (es : List Entry). IsIndexOf identifier_of (get next)
-          (λ k. lookup (pointwise nat_eq k) es)) (sym ids)
-          (subst (λ (ss : List (Option Registration)). IsIndexOf identifier_of
-          (λ i. slice_index_or ss i None) (hash.get (pointwise nat_eq) by_identifier))
-          (sym slots) s.identifiers);
-      addresses = subst (λ (es : List (Address × ℕ)). IsIndexOf call_signal_of (get next)
-          (λ k. lookup (same_address k) es)) (sym addresses)
-          (subst (λ (ss : List (Option Registration)). IsIndexOf call_signal_of
-          (λ i. slice_index_or ss i None) (hash.get same_address by_address))
-          (sym slots) s.addresses);
-      apart = subst (λ (es : List Entry). AreApart key_of (row_in es)) (sym ids) s.apart;
-      few = omega (arith, ap length ids, s.few);
-      most_few = s.most_few;
-      fits = omega (
-        arith,
-        s.fits,
-        more,
-        ap (λ ss. slab_len (record rows { slots = ss })) slots,
-      );
-    }
-
 module _ {S : Type 0} (rows : Slab Registration) (by_identifier : HashMap (List ℕ) ℕ S)
     (by_address : HashMap Address ℕ S) (most : ℕ)
     (s : IsStored rows by_identifier by_address most) where
@@ -247,6 +234,12 @@ module _ {S : Type 0} (rows : Slab Registration) (by_identifier : HashMap (List 
           ≡ insert_entry (pointwise nat_eq) by_identifier.entries r.identifier i
           → next_named.entries ≡ by_identifier.entries ++ (r.identifier, i) ∷ []
       entries_put is = is ∙ insert_entry-new (pointwise nat_eq) by_identifier r.identifier i unnamed
+
+      pub length_put : next_named.entries
+          ≡ insert_entry (pointwise nat_eq) by_identifier.entries r.identifier i
+          → length next_named.entries ≡ length by_identifier.entries + 1
+      length_put is = ap length (entries_put is)
+          ∙ length-append by_identifier.entries ((r.identifier, i) ∷ [])
 
       pub IsStored-put : hash.Updates (pointwise nat_eq) by_identifier next_named r.identifier
           (Some i)
@@ -274,12 +267,7 @@ module _ {S : Type 0} (rows : Slab Registration) (by_identifier : HashMap (List 
                 s.addresses vacant unplaced c (indexes.Changed-index address_decides by_address
                 next_placed r.call_signal (Some i) ua);
             apart = entries.AreApart-entries texts_decide next_named.entries unique;
-            few = omega (
-              arith,
-              few,
-              ap length (entries_put is),
-              length-append by_identifier.entries ((r.identifier, i) ∷ []),
-            );
+            few = omega (arith, few, length_put is);
             most_few = s.most_few;
             fits = fits;
           }
@@ -393,23 +381,36 @@ module _ {S : Type 0} (rows : Slab Registration) (by_identifier : HashMap (List 
         (λ j r e is. (apart_ids rows by_identifier by_address most s).apart j i r old e there
         (is ∙ keeps)))
 
-    same_room : room_of (with_value rows i new) by_identifier by_address
-        ≡ room_of rows by_identifier by_address
-    same_room = ap (λ n. min (rows.capacity - n) (min (spare by_identifier) (spare by_address)))
-        same_count
+    pub order_change : (j : ℕ) (e : Entry) → slice_get by_identifier.entries j ≡ Some e
+        → place_of e ≡ i → Changed (row_in (order rows by_identifier by_address))
+        (row_in (order (with_value rows i new) by_identifier by_address)) j (Some new)
+    order_change j e at is = order_changed rows (with_value rows i new) by_identifier.entries
+        (leads rows by_identifier by_address most s)
+        (leads (with_value rows i new) by_identifier by_address most IsStored-change) s.apart j e
+        new at (subst (λ (k : ℕ). Changed (get rows) (get (with_value rows i new)) k (Some new))
+        (sym is) change)
+
+    same_room : (deadlines next : DeadlineTable) → next.room ≡ deadlines.room
+        → room_of (with_value rows i new) by_identifier by_address next
+        ≡ room_of rows by_identifier by_address deadlines
+    same_room deadlines next same k = min (min (rows.capacity - same_count k)
+        (same k - length by_identifier.entries)) (min (spare by_identifier) (spare by_address))
 
 -- a table by what is stored, and by its value
 module _ {S : Type 0} (rows : Slab Registration) (by_identifier : HashMap (List ℕ) ℕ S)
-    (by_address : HashMap Address ℕ S) (most : ℕ)
+    (by_address : HashMap Address ℕ S) (deadlines : DeadlineTable) (most : ℕ)
     (s : IsStored rows by_identifier by_address most) (t : Registry)
-    (view : registry_of rows by_identifier by_address most ≡ t) where
+    (view : registry_of rows by_identifier by_address deadlines most ≡ t) where
+  abbrev order_here : List Registration
+  order_here = order_of rows by_identifier.entries
+
   pub live_map : IsMapOf identifier_of (λ r. r) (get rows) t.live
   live_map = subst (λ (u : Registry). IsMapOf identifier_of (λ r. r) (get rows) u.live) view
       (stored_map rows by_identifier by_address most s)
 
   pub consistent : IsConsistent t.live
   consistent = subst (λ (u : Registry). IsConsistent u.live) view
-      (IsSound-stored rows by_identifier by_address most s).consistent
+      (IsSound-stored rows by_identifier by_address most s deadlines).consistent
 
   pub numbered : IsNumbered t
   numbered = subst IsNumbered view (record {
@@ -463,11 +464,11 @@ module _ {S : Type 0} (rows : Slab Registration) (by_identifier : HashMap (List 
       → hash.get (pointwise nat_eq) by_identifier id ≡ Some i
       → (old : Registration) → get rows i ≡ Some old → (f : Registration → Registration)
       → (f old).identifier ≡ old.identifier → (f old).call_signal ≡ old.call_signal
-      → UpdatesOne t (registry_of (with_value rows i (f old)) by_identifier by_address most)
+      → (next : DeadlineTable) → next.room ≡ deadlines.room
+      → UpdatesOne t (registry_of (with_value rows i (f old)) by_identifier by_address next most)
       (update t.live id f)
-  Updates-change id i is old there f keeps stays =
+  Updates-change id i is old there f keeps stays next same =
       let has = registered id i is old there in
-      let next = with_value rows i (f old) in
       let stored = IsStored-change rows by_identifier by_address most s i old (f old) there keeps
       stays in
       record {
@@ -476,38 +477,44 @@ module _ {S : Type 0} (rows : Slab Registration) (by_identifier : HashMap (List 
             ∙ sym (maps.update_there nat_list_cmp_total exact_bytes t.live id old f has.1));
         most = ap (λ u. u.most) view;
         room = same_room rows by_identifier by_address most s i old (f old) there keeps stays
-            ∙ ap (λ u. u.room) view;
-        sound = IsSound-stored next by_identifier by_address most stored;
+            deadlines next same ∙ ap (λ u. u.room) view;
+        sound = IsSound-stored (with_value rows i (f old)) by_identifier by_address most stored
+            next;
       }
 
   -- nobody goes
-  pub Becomes-same : (next : HashMap (List ℕ) ℕ S) (id : List ℕ)
-      → hash.get (pointwise nat_eq) by_identifier id ≡ None
-      → next.entries ≡ by_identifier.entries → spare by_identifier ≤ spare next
-      → Becomes t (registry_of rows next by_address most) (fin.remove t.live id)
-  Becomes-same next id is same more = record {
-    rows = ap (λ es. live_of (order_of rows es)) same ∙ (ap (λ u. u.live) view
-        ∙ maps.remove_absent nat_list_cmp_total exact_bytes t.live id (sym (not_found id is)));
-    most = ap (λ u. u.most) view;
-    room = omega (arith, more, ap (λ u. u.room) view);
-    sound = IsSound-stored rows next by_address most (IsStored-same rows rows by_identifier next
-        by_address by_address most s refl same refl (omega arith));
+  pub Becomes-same : (id : List ℕ) → hash.get (pointwise nat_eq) by_identifier id ≡ None
+      → Becomes t t (fin.remove t.live id)
+  Becomes-same id is = record {
+    rows = maps.remove_absent nat_list_cmp_total exact_bytes t.live id (sym (not_found id is));
+    most = refl;
+    room = omega arith;
+    sound = subst IsSound view (IsSound-stored rows by_identifier by_address most s deadlines);
   }
 
   -- a registration goes
   pub Becomes-remove : (next : Slab Registration) (next_named : HashMap (List ℕ) ℕ S)
-      (next_placed : HashMap Address ℕ S) (i : ℕ) (r : Registration) (id : List ℕ)
-      → r.identifier ≡ id → Updates rows next i None → get rows i ≡ Some r
+      (next_placed : HashMap Address ℕ S) (later : DeadlineTable) (i : ℕ) (r : Registration)
+      (id : List ℕ) → r.identifier ≡ id → Updates rows next i None → get rows i ≡ Some r
       → IsStored next next_named next_placed most
-      → room_of rows by_identifier by_address ≤ room_of next next_named next_placed
-      → Becomes t (registry_of next next_named next_placed most) (fin.remove t.live id)
-  Becomes-remove next next_named next_placed i r id own u there stored more = record {
+      → room_of rows by_identifier by_address deadlines ≤ room_of next next_named next_placed later
+      → Becomes t (registry_of next next_named next_placed later most) (fin.remove t.live id)
+  Becomes-remove next next_named next_placed later i r id own u there stored more = record {
     rows = live_remove rows by_identifier by_address most s next next_named next_placed i r u there
         stored ∙ (λ k. fin.remove (view k).live (own k));
     most = ap (λ u. u.most) view;
     room = omega (arith, more, ap (λ u. u.room) view);
-    sound = IsSound-stored next next_named next_placed most stored;
+    sound = IsSound-stored next next_named next_placed most stored later;
   }
+
+  -- a registration is due where it stands in the order
+  pub due_of : AreDue order_here deadlines.moments → (id : List ℕ) (r : Registration)
+      → fin.get t.live id ≡ Some r
+      → (j : ℕ) × (fin.get deadlines.moments j ≡ Some r.deadline)
+  due_of due id r there =
+      let row = live_row order_here (are_rows rows by_identifier by_address most s) id r
+      (ap (λ u. fin.get u.live id) view ∙ there) in
+      (row.0, due row.0 ∙ ap (option_map deadline_of) row.1)
 
 -- what is so of a value that there is
 pub is_there : (w : Option Registration) (Q : Registration → Type 0) → IsSomeAnd w Q → IsSome w
@@ -525,8 +532,8 @@ pub copied_some : (w : Option (Bor Registration)) (r : Registration) → option_
 copied_some None r e = absurd (cc e)
 copied_some (Some x) r e = refl
 
-pub if_stored : (rows : Slab Registration) (w : Option (Bor Registration))
-    (Q : Registration → Type 0) → IfSome w (λ x. (i : ℕ) × (get rows i ≡ Some x.now))
-    → ((i : ℕ) (r : Registration) → get rows i ≡ Some r → Q r) → IfSome w (λ x. Q x.now)
-if_stored rows None Q h all = tt
-if_stored rows (Some x) Q h all = all h.0 x.now h.1
+pub copied_due : (w : Option (Bor Registration)) (due now : ℕ)
+    → option_map deadline_of (option_copied w) ≡ Some due → due ≤ now
+    → IfSome w (λ x. x.now.deadline ≤ now)
+copied_due None due now e le = tt
+copied_due (Some x) due now e le = omega (arith, same_some x.now.deadline due e, le)

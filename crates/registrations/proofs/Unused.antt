@@ -1,5 +1,6 @@
 -- Which identifiers may be handed out: what the test of one says.
-use Rattle.std.proofs.Common.{Bor, ◌≡◌, ◌↔◌, ℕ, Bool, true, false, not, List, nat_eq, refl, sym, ◌∙◌}
+use Rattle.std.proofs.Common.{Bor, ◌≡◌, ◌↔◌, ℕ, Bool, true, false, not, List, nat_eq, refl, sym}
+use Rattle.std.proofs.Common.{◌∙◌}
 use Rattle.std.proofs.Common.{Some, None}
 use Rattle.std.specs.Prelude.{IsTrue, Option, is_some}
 use Rattle.std.specs.Option.{option_copied}

@@ -6,7 +6,6 @@ mod fresh;
 mod list;
 mod number;
 mod registration;
-mod searches;
 mod table;
 
 pub use fault::AddFault;

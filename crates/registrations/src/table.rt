@@ -3,7 +3,7 @@
 ghost use Rattle.std.specs.Prelude.{◌≡◌, ◌≢◌, ◌≤◌, ◌<◌, ◌+◌, ◌++◌, ◌∷◌, [], ◌↔◌, ℕ, List, Option};
 ghost use Rattle.std.specs.Prelude.{None, Some, Err, IsOk, IsSome, IfSome, IsTrue, IfOk, OnOk};
 ghost use Rattle.std.specs.Prelude.{OnErr, nat_eq, slice_get};
-ghost use Rattle.std.specs.Option.{option_copied, IsSomeAnd};
+ghost use Rattle.std.specs.Option.{option_copied, option_map, IsSomeAnd};
 ghost use Rattle.std.specs.Cmp.Lexicographic.{pointwise};
 ghost use Rattle.std.specs.FinMap as map;
 ghost use Rattle.slab.specs.Slab as slots;
@@ -20,7 +20,7 @@ use crate::fresh::{is_taken, unused_from};
 use crate::list::{RegistrationList, rising};
 use crate::number::raised;
 use crate::registration::Registration;
-use crate::searches::row_over;
+use deadlines::Deadlines;
 use indexmap::IndexMap;
 use ras_module::{Address, EndpointId, ReplyAliases};
 use slab::Slab;
@@ -35,6 +35,8 @@ pub struct Registrations {
     // where the row under each identifier stands, and where the one with each call signal address
     by_identifier: IndexMap<EndpointId, usize>,
     by_address: IndexMap<Address, usize>,
+    // the deadline of each row, by where its identifier stands in the index
+    deadlines: Deadlines,
     most: usize,
     // where the search for an unused identifier begins, so that it need not pass those in use:
     // behind each number that was, and at 1 again behind the last one of all
@@ -45,15 +47,15 @@ impl Model for Registrations {
     ghost use Rattle.std.specs.Coded.{codes};
     ghost use Rattle.std.specs.FinMap as map;
     ghost use Rattle.registrations.specs.Registry.{Registry};
-    ghost use Rattle.registrations.specs.inside.Stored.{IsStored, registry_of};
+    ghost use Rattle.registrations.specs.inside.Stored.{IsTable, registry_of};
 
     ghost Value = { Registry };
 
     ghost coded = { Prim.hlevel (codes, map.code) };
 
-    ghost view = { λ t. registry_of t.rows t.by_identifier t.by_address t.most };
+    ghost view = { λ t. registry_of t.rows t.by_identifier t.by_address t.deadlines t.most };
 
-    ghost invariant = { λ t. IsStored t.rows t.by_identifier t.by_address t.most };
+    ghost invariant = { λ t. IsTable t.rows t.by_identifier t.by_address t.deadlines t.most };
 }
 
 impl Registrations {
@@ -68,6 +70,7 @@ impl Registrations {
             rows: Slab::new(alloc),
             by_identifier: IndexMap::new(alloc),
             by_address: IndexMap::new(alloc),
+            deadlines: Deadlines::new(alloc),
             most,
             next_number: 1,
         }
@@ -96,10 +99,13 @@ impl Registrations {
         ensures live { IfOk result (λ t. t.live ≡ map.empty) }
         ensures room { IfOk result (λ t. room ≤ t.room) }
     {
+        let mut deadlines = Deadlines::new(alloc);
+        deadlines.reserve(room)?;
         Ok(Registrations {
             rows: Slab::with_capacity(alloc, room)?,
             by_identifier: IndexMap::with_capacity(alloc, room)?,
             by_address: IndexMap::with_capacity(alloc, room)?,
+            deadlines,
             most,
             next_number: 1,
         })
@@ -170,7 +176,11 @@ impl Registrations {
         ensures none { result ≡ None → (id : List ℕ) (r : Registration)
             → map.get self.now.live id ≡ Some r → now < r.deadline }
     {
-        row_over(&self.rows, now)
+        let (deadline, i) = self.deadlines.earliest()?;
+        if deadline > now {
+            return None;
+        }
+        self.nth(i)
     }
 
     /// One registration for each `i` below `len`, and each of them once while the table stands as
@@ -227,7 +237,11 @@ impl Registrations {
     {
         self.rows.reserve(more)?;
         self.by_identifier.reserve(more)?;
-        self.by_address.reserve(more)
+        self.by_address.reserve(more)?;
+        // the capacity is what says that the sum fits
+        let _capacity = self.by_identifier.capacity();
+        let places = self.by_identifier.len() + more;
+        self.deadlines.reserve(places)
     }
 
     /// Registers an endpoint under an unused identifier, which is written into the registration.
@@ -287,6 +301,8 @@ impl Registrations {
         ensures order { self.new.order ≡ self.old.order ++ registration ∷ [] }
     {
         self.next_number = raised(self.next_number, &registration.identifier);
+        let i = self.by_identifier.len();
+        self.deadlines.set(i, registration.deadline);
         let identifier = registration.identifier;
         let address = registration.call_signal;
         let place = self.rows.insert_reserved(registration);
@@ -299,9 +315,14 @@ impl Registrations {
         ensures found { result ≡ map.get self.old.live id.now }
         ensures removed { Becomes self.old self.new (map.remove self.old.live id.now) }
     {
-        let place = self.by_identifier.swap_remove(id)?;
+        let (i, place) = entry_of(&self.by_identifier, id)?;
         let registration = self.rows.remove(place);
         self.by_address.swap_remove(&registration.call_signal);
+        self.by_identifier.swap_remove_index(i);
+        // the last one took its place there
+        let last = self.by_identifier.len();
+        self.deadlines.clear(i);
+        self.deadlines.rename(last, i);
         Some(registration)
     }
 
@@ -310,8 +331,9 @@ impl Registrations {
         requires { IsSome (map.get self.old.live id.now) }
         ensures { Updates self.old self.new (update self.old.live id.now (with_deadline deadline)) }
     {
-        let place = live_place(&self.by_identifier, id);
+        let (i, place) = live_entry(&self.by_identifier, id);
         self.rows[place].deadline = deadline;
+        self.deadlines.set(i, deadline);
     }
 
     /// Replaces what an endpoint registered, but for its call signal address.
@@ -320,11 +342,12 @@ impl Registrations {
         ensures { Updates self.old self.new
             (update self.old.live id.now (after_rewrite ras aliases deadline)) }
     {
-        let place = live_place(&self.by_identifier, id);
+        let (i, place) = live_entry(&self.by_identifier, id);
         let row = &mut self.rows[place];
         row.ras = ras;
         row.aliases = aliases;
         row.deadline = deadline;
+        self.deadlines.set(i, deadline);
     }
 
     /// Notes that an endpoint was heard.
@@ -357,6 +380,27 @@ impl Registrations {
         let place = live_place(&self.by_identifier, id);
         self.rows[place].tries = 0;
     }
+}
+
+/// Where the identifier stands in the index, and where its registration does.
+fn entry_of(by_identifier: &IndexMap<EndpointId, usize>, id: &EndpointId) -> Option<(usize, usize)>
+    ensures place { option_map (λ at. at.1) result
+        ≡ index.get (pointwise nat_eq) by_identifier.now id.now }
+    ensures entry { IfSome result (λ at. IsSomeAnd (slice_get by_identifier.now.entries at.0)
+        (λ e. e.1 ≡ at.1)) }
+{
+    let (i, _identifier, place) = by_identifier.get_full(id)?;
+    Some((i, *place))
+}
+
+/// The same where there is one.
+fn live_entry(by_identifier: &IndexMap<EndpointId, usize>, id: &EndpointId) -> (usize, usize)
+    requires { IsSome (index.get (pointwise nat_eq) by_identifier.now id.now) }
+    ensures place { index.get (pointwise nat_eq) by_identifier.now id.now ≡ Some result.1 }
+    ensures entry { IsSomeAnd (slice_get by_identifier.now.entries result.0)
+        (λ e. e.1 ≡ result.1) }
+{
+    entry_of(by_identifier, id).unwrap()
 }
 
 /// Where the registration under this identifier stands, where there is one.

@@ -9,7 +9,8 @@ loop-i-preserved c =
     let row = c.in_ok-copy.field-0 in
     let there : slice_get c.args.self.now.order c.loop-i.i ≡ Some row = sym c.nth.ensures.nth
     ∙ (ap option_copied c.unwrap.ensures ∙ sym (ap Some c.in_ok-copy.ensures)) in
-    next_copied c.args.self.now.order c.loop-i.copies.items c.push.new.self.items c.loop-i.i row there
+    next_copied c.args.self.now.order c.loop-i.copies.items c.push.new.self.items c.loop-i.i row
+    there
     c.loop-i.invariant c.in_ok-push.ensures.items
 
 pub returns-clause-copies : goal.returns-clause-copies

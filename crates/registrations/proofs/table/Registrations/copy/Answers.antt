@@ -27,7 +27,8 @@ loop-i-init c = (
 pub put-requires-clause-few : goal.put-requires-clause-few
 put-requires-clause-few c =
     let i = c.self.inside in
-    let are = rows_apart i.rows i.by_identifier i.by_address i.most c.self.invariant _
+    let are = rows_apart i.rows i.by_identifier i.by_address i.deadlines i.most
+    c.self.invariant.stored _
     c.self.view_is in
     omega (
       arith,
@@ -52,7 +53,8 @@ pub put-requires-clause-identifier : goal.put-requires-clause-identifier
 put-requires-clause-identifier c =
     let i = c.self.inside in
     let row = c.in_ok-copy-2.field-0 in
-    let are = rows_apart i.rows i.by_identifier i.by_address i.most c.self.invariant _
+    let are = rows_apart i.rows i.by_identifier i.by_address i.deadlines i.most
+    c.self.invariant.stored _
     c.self.view_is in
     let there : slice_get c.args.self.now.order c.loop-i.i ≡ Some row = sym c.nth.ensures.nth
     ∙ (ap option_copied c.unwrap.ensures ∙ sym (ap Some c.in_ok-copy-2.ensures)) in
@@ -63,7 +65,8 @@ pub put-requires-clause-address : goal.put-requires-clause-address
 put-requires-clause-address c =
     let i = c.self.inside in
     let row = c.in_ok-copy-2.field-0 in
-    let are = rows_apart i.rows i.by_identifier i.by_address i.most c.self.invariant _
+    let are = rows_apart i.rows i.by_identifier i.by_address i.deadlines i.most
+    c.self.invariant.stored _
     c.self.view_is in
     let there : slice_get c.args.self.now.order c.loop-i.i ≡ Some row = sym c.nth.ensures.nth
     ∙ (ap option_copied c.unwrap.ensures ∙ sym (ap Some c.in_ok-copy-2.ensures)) in
@@ -74,12 +77,14 @@ pub loop-i-preserved : goal.loop-i-preserved
 loop-i-preserved c =
     let i = c.self.inside in
     let row = c.in_ok-copy-2.field-0 in
-    let are = rows_apart i.rows i.by_identifier i.by_address i.most c.self.invariant _
+    let are = rows_apart i.rows i.by_identifier i.by_address i.deadlines i.most
+    c.self.invariant.stored _
     c.self.view_is in
     let there : slice_get c.args.self.now.order c.loop-i.i ≡ Some row = sym c.nth.ensures.nth
     ∙ (ap option_copied c.unwrap.ensures ∙ sym (ap Some c.in_ok-copy-2.ensures)) in
     let next = next_taken c.args.self.now.order c.loop-i.i row there in (
-      next_copied c.args.self.now.order c.loop-i.copy.order c.put.new.self.order c.loop-i.i row there
+      next_copied c.args.self.now.order c.loop-i.copy.order c.put.new.self.order c.loop-i.i row
+          there
           c.loop-i.invariant.0 c.put.ensures.order,
       c.put.ensures.adds.rows ∙ (ap (λ m. map.insert m row.identifier row) c.loop-i.invariant.1
           ∙ (sym (map_push nat_list_cmp_total exact_bytes identifier_of (λ r. r)

@@ -9,7 +9,7 @@ returns-clause-len c =
     omega (
       arith,
       c.len.ensures.len,
-      len_stored i.rows i.by_identifier i.by_address i.most c.self.invariant,
+      len_stored i.rows i.by_identifier i.by_address i.most c.self.invariant.stored,
       ap (λ t. map.len t.live) c.self.view_is,
     )
 
@@ -18,8 +18,8 @@ returns-clause-few c =
     let i = c.self.inside in
     omega (
       arith,
-      len_stored i.rows i.by_identifier i.by_address i.most c.self.invariant,
-      c.self.invariant.few,
+      len_stored i.rows i.by_identifier i.by_address i.most c.self.invariant.stored,
+      c.self.invariant.stored.few,
       ap (λ t. map.len t.live) c.self.view_is,
       ap (λ t. t.most) c.self.view_is,
     )
@@ -27,9 +27,11 @@ returns-clause-few c =
 pub returns-clause-sound : goal.returns-clause-sound
 returns-clause-sound c =
     let i = c.self.inside in
-    consistent i.rows i.by_identifier i.by_address i.most c.self.invariant _ c.self.view_is
+    consistent i.rows i.by_identifier i.by_address i.deadlines i.most c.self.invariant.stored _
+    c.self.view_is
 
 pub returns-clause-numbered : goal.returns-clause-numbered
 returns-clause-numbered c =
     let i = c.self.inside in
-    numbered i.rows i.by_identifier i.by_address i.most c.self.invariant _ c.self.view_is
+    numbered i.rows i.by_identifier i.by_address i.deadlines i.most c.self.invariant.stored _
+    c.self.view_is

@@ -11,7 +11,7 @@ pub returns-in_err-_identifier-clause-nth : goal.returns-in_err-_identifier-clau
 returns-in_err-_identifier-clause-nth c =
     let i = c.self.inside in
     let none = order_none i.rows i.by_identifier.entries
-    (leads i.rows i.by_identifier i.by_address i.most c.self.invariant) c.args.i
+    (leads i.rows i.by_identifier i.by_address i.most c.self.invariant.stored) c.args.i
     (sym c.in_err-_identifier.ensures.entry) in
     ap option_copied c.from_residual.ensures
     ∙ (sym none ∙ ap (λ t. slice_get t.order c.args.i) c.self.view_is)
@@ -23,7 +23,7 @@ returns-in_err-_identifier-clause-some c =
       λ below. absurd (cc (c.in_err-_identifier.ensures.found.1 (omega (
         arith,
         below,
-        len_stored i.rows i.by_identifier i.by_address i.most c.self.invariant,
+        len_stored i.rows i.by_identifier i.by_address i.most c.self.invariant.stored,
         ap (λ t. map.len t.live) c.self.view_is,
       )))),
     )
@@ -32,7 +32,7 @@ pub returns-clause-nth : goal.returns-clause-nth
 returns-clause-nth c =
     let i = c.self.inside in
     let at = order_at i.rows i.by_identifier.entries
-    (leads i.rows i.by_identifier i.by_address i.most c.self.invariant) c.args.i
+    (leads i.rows i.by_identifier i.by_address i.most c.self.invariant.stored) c.args.i
     (c.in_ok-_identifier._identifier.now, c.in_ok-_identifier.place.now)
     (sym c.in_ok-_identifier.ensures.entry) in
     c.get.ensures ∙ (sym at ∙ ap (λ t. slice_get t.order c.args.i) c.self.view_is)
@@ -40,13 +40,13 @@ returns-clause-nth c =
 pub returns-clause-some : goal.returns-clause-some
 returns-clause-some c =
     let i = c.self.inside in
-    let row = leads i.rows i.by_identifier i.by_address i.most c.self.invariant c.args.i
+    let row = leads i.rows i.by_identifier i.by_address i.most c.self.invariant.stored c.args.i
     (c.in_ok-_identifier._identifier.now, c.in_ok-_identifier.place.now)
     (sym c.in_ok-_identifier.ensures.entry) in (
       λ some. omega (
         arith,
         c.in_ok-_identifier.ensures.found.0 refl,
-        len_stored i.rows i.by_identifier i.by_address i.most c.self.invariant,
+        len_stored i.rows i.by_identifier i.by_address i.most c.self.invariant.stored,
         ap (λ t. map.len t.live) c.self.view_is,
       ),
       λ below. copied_some c.get.result row.0 (c.get.ensures ∙ row.1),
@@ -55,11 +55,12 @@ returns-clause-some c =
 pub returns-clause-live : goal.returns-clause-live
 returns-clause-live c =
     let i = c.self.inside in
-    let row = leads i.rows i.by_identifier i.by_address i.most c.self.invariant c.args.i
+    let row = leads i.rows i.by_identifier i.by_address i.most c.self.invariant.stored c.args.i
     (c.in_ok-_identifier._identifier.now, c.in_ok-_identifier.place.now)
     (sym c.in_ok-_identifier.ensures.entry) in
     copied_is c.get.result row.0
     (λ (r : Registration). map.get c.args.self.now.live r.identifier ≡ Some r)
     (c.get.ensures ∙ row.1)
-    ((live_map i.rows i.by_identifier i.by_address i.most c.self.invariant _ c.self.view_is).has
+    ((live_map i.rows i.by_identifier i.by_address i.deadlines i.most c.self.invariant.stored _
+    c.self.view_is).has
     c.in_ok-_identifier.place.now row.0 row.1)

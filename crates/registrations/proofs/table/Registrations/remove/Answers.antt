@@ -1,68 +1,90 @@
-use Rattle.std.proofs.Common.{ℕ, List, None, nat_eq, sym, subst, ◌∙◌, arith}
-use Rattle.std.specs.Cmp.Lexicographic.{pointwise}
-use Rattle.indexmap.specs.IndexMap as index
-use Rattle.registrations.proofs.Stored.{Becomes-remove, Becomes-same, IsStored-remove, is_stored}
+use Rattle.std.proofs.Common.{sym, ◌∙◌, arith}
+use Rattle.deadlines.specs.Deadlines.{renamed}
+use Rattle.registrations.proofs.Stored.{Becomes-remove, Becomes-same, entry_at, is_stored}
 use Rattle.registrations.proofs.Stored.{not_found, registered}
+use Rattle.registrations.proofs.Tables.{IsTable-remove, entry_within}
 use Rattle.registrations.proofs.table.Registrations.remove.Goals as goal
 
-pub returns-in_err-place-clause-found : goal.returns-in_err-place-clause-found
-returns-in_err-place-clause-found c =
+pub returns-in_err-i-clause-found : goal.returns-in_err-i-clause-found
+returns-in_err-i-clause-found c =
     let i = c.self.inside in
     c.from_residual.ensures
-    ∙ not_found i.rows i.by_identifier i.by_address i.most c.self.invariant _ c.self.view_is
-    c.args.id.now (sym c.in_err-place.ensures.value)
+    ∙ not_found i.rows i.by_identifier i.by_address i.deadlines i.most c.self.invariant.stored _
+    c.self.view_is c.args.id.now (sym c.in_err-i.ensures.place)
 
-pub returns-in_err-place-clause-removed : goal.returns-in_err-place-clause-removed
-returns-in_err-place-clause-removed c =
+pub returns-in_err-i-clause-removed : goal.returns-in_err-i-clause-removed
+returns-in_err-i-clause-removed c =
     let i = c.self.inside in
-    Becomes-same i.rows i.by_identifier i.by_address i.most c.self.invariant _ c.self.view_is
-    c.swap_remove.new.self c.args.id.now (sym c.in_err-place.ensures.value)
-    c.in_err-place.ensures.unchanged c.in_err-place.ensures.room.0
+    Becomes-same i.rows i.by_identifier i.by_address i.deadlines i.most c.self.invariant.stored _
+    c.self.view_is c.args.id.now (sym c.in_err-i.ensures.place)
 
 pub remove-registration-requires : goal.remove-registration-requires
 remove-registration-requires c =
     let i = c.self.inside in
-    is_stored i.rows i.by_identifier i.by_address i.most c.self.invariant c.args.id.now
-    c.in_ok-place.place (sym c.in_ok-place.ensures.value)
+    is_stored i.rows i.by_identifier i.by_address i.most c.self.invariant.stored c.args.id.now
+    c.in_ok-i.place (sym c.in_ok-i.ensures.place)
 
-pub invariant_of-self-2 : goal.invariant_of-self-2
-invariant_of-self-2 c =
+pub rename-requires : goal.rename-requires
+rename-requires c =
     let i = c.self.inside in
-    let r = c.remove-registration.result in
-    let has = registered i.rows i.by_identifier i.by_address i.most c.self.invariant _
-    c.self.view_is c.args.id.now c.in_ok-place.place (sym c.in_ok-place.ensures.value) r
-    c.remove-registration.ensures.value in
-    let ids = subst (λ (k : List ℕ). index.Updates (pointwise nat_eq) i.by_identifier
-    c.swap_remove.new.self k None) (sym has.0) c.in_ok-place.ensures.updates in
-    IsStored-remove i.rows i.by_identifier i.by_address i.most c.self.invariant
-    c.remove-registration.new.self c.swap_remove.new.self c.swap_remove-2.new.self
-    c.in_ok-place.place r c.remove-registration.ensures.updates c.remove-registration.ensures.value
-    ids c.swap_remove-2.ensures.updates c.in_ok-place.ensures.unique
-    (omega (arith, c.in_ok-place.ensures.len)) (omega (arith, c.remove-registration.ensures.room))
+    omega (
+      arith,
+      c.clear.ensures.room,
+      entry_within i.rows i.by_identifier i.by_address i.deadlines i.most c.self.invariant
+          c.in_ok-i.i _ c.in_ok-i.ensures.entry,
+    )
+
+pub invariant_of-self : goal.invariant_of-self
+invariant_of-self c =
+    let i = c.self.inside in
+    let named = sym c.in_ok-i.ensures.place in
+    let out = c.swap_remove_index.ensures.entry
+    ∙ entry_at i.rows i.by_identifier i.by_address i.most c.self.invariant.stored c.args.id.now
+    c.in_ok-i.place c.in_ok-i.i named c.in_ok-i.ensures.entry in
+    IsTable-remove i.rows i.by_identifier i.by_address i.deadlines i.most c.self.invariant
+    c.remove-registration.new.self c.swap_remove_index.new.self c.swap_remove.new.self
+    c.rename.new.self c.args.id.now c.in_ok-i.place c.in_ok-i.i c.remove-registration.result named
+    c.in_ok-i.ensures.entry c.remove-registration.ensures.updates
+    c.remove-registration.ensures.value (rw out at c.swap_remove_index.ensures.updates)
+    c.swap_remove.ensures.updates c.swap_remove_index.ensures.unique
+    (rw out at c.swap_remove_index.ensures.entries) (rw out at c.swap_remove_index.ensures.len)
+    (omega (arith, c.remove-registration.ensures.room))
+    (c.rename.ensures.moments
+    ∙ (λ k. renamed (c.clear.ensures.moments k) (c.len-last.ensures.len k) c.in_ok-i.i))
+    (c.rename.ensures.room ∙ c.clear.ensures.room)
 
 pub returns-clause-found : goal.returns-clause-found
 returns-clause-found c =
     let i = c.self.inside in
-    let has = registered i.rows i.by_identifier i.by_address i.most c.self.invariant _
-    c.self.view_is c.args.id.now c.in_ok-place.place (sym c.in_ok-place.ensures.value)
-    c.remove-registration.result c.remove-registration.ensures.value in
+    let has = registered i.rows i.by_identifier i.by_address i.deadlines i.most
+    c.self.invariant.stored _ c.self.view_is c.args.id.now c.in_ok-i.place
+    (sym c.in_ok-i.ensures.place) c.remove-registration.result c.remove-registration.ensures.value
+    in
     sym has.1
 
 pub returns-clause-removed : goal.returns-clause-removed
 returns-clause-removed c =
     let i = c.self.inside in
+    let named = sym c.in_ok-i.ensures.place in
+    let out = c.swap_remove_index.ensures.entry
+    ∙ entry_at i.rows i.by_identifier i.by_address i.most c.self.invariant.stored c.args.id.now
+    c.in_ok-i.place c.in_ok-i.i named c.in_ok-i.ensures.entry in
     let r = c.remove-registration.result in
-    let has = registered i.rows i.by_identifier i.by_address i.most c.self.invariant _
-    c.self.view_is c.args.id.now c.in_ok-place.place (sym c.in_ok-place.ensures.value) r
+    let has = registered i.rows i.by_identifier i.by_address i.deadlines i.most
+    c.self.invariant.stored _ c.self.view_is c.args.id.now c.in_ok-i.place named r
     c.remove-registration.ensures.value in
-    Becomes-remove i.rows i.by_identifier i.by_address i.most c.self.invariant _ c.self.view_is
-    c.remove-registration.new.self c.swap_remove.new.self c.swap_remove-2.new.self
-    c.in_ok-place.place r c.args.id.now has.0 c.remove-registration.ensures.updates
-    c.remove-registration.ensures.value (invariant_of-self-2 c)
+    Becomes-remove i.rows i.by_identifier i.by_address i.deadlines i.most c.self.invariant.stored _
+    c.self.view_is c.remove-registration.new.self c.swap_remove_index.new.self
+    c.swap_remove.new.self c.rename.new.self c.in_ok-i.place r c.args.id.now has.0
+    c.remove-registration.ensures.updates c.remove-registration.ensures.value
+    (invariant_of-self c).stored
     (omega (
       arith,
       c.remove-registration.ensures.capacity,
       c.remove-registration.ensures.len,
-      c.in_ok-place.ensures.room.0,
-      c.swap_remove-2.ensures.room.0,
+      rw out at c.swap_remove_index.ensures.len,
+      c.swap_remove_index.ensures.room.0,
+      c.swap_remove.ensures.room.0,
+      c.rename.ensures.room,
+      c.clear.ensures.room,
     ))

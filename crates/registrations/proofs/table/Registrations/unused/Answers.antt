@@ -8,8 +8,8 @@ unused_from-requires c =
     let i = c.self.inside in
     omega (
       arith,
-      len_stored i.rows i.by_identifier i.by_address i.most c.self.invariant,
-      c.self.invariant.few,
-      c.self.invariant.most_few,
+      len_stored i.rows i.by_identifier i.by_address i.most c.self.invariant.stored,
+      c.self.invariant.stored.few,
+      c.self.invariant.stored.most_few,
       ap (λ t. map.len t.live) c.self.view_is,
     )
