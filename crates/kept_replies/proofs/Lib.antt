@@ -7,3 +7,4 @@ pub mod Timed
 pub mod Moments
 pub mod SeenRows
 pub mod PlacedBirths
+pub mod ToldTimes

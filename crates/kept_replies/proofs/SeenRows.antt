@@ -206,3 +206,14 @@ Rewrites-none rows change key none unique = record {
   same_length = refl;
   same_room = refl;
 }
+
+-- where there is no row, none goes
+pub Removes-none : {S : Type 0} (rows : IndexMap KeptKey KeptEntry S) (place : ℕ)
+    → slice_get rows.entries place ≡ None → Removes rows rows (slice_get rows.entries place)
+Removes-none rows place none = subst (λ (w : Option Row). Removes rows rows w) (sym none) (record {
+  updates = tt;
+  unchanged = λ e. refl;
+  unique = tt;
+  shorter = omega arith;
+  room = omega arith;
+})

@@ -2,4 +2,5 @@
 pub mod Stored
 pub mod Due
 pub mod Births
+pub mod Told
 pub mod Rows

@@ -12,6 +12,7 @@ mod list;
 mod rows;
 mod searches;
 mod table;
+mod told_counts;
 
 pub use entry::{KeptEntry, KeptState};
 pub use fault::ReserveFault;

@@ -1,8 +1,9 @@
 //! The rows of what is kept.
 
 ghost use Rattle.std.specs.Prelude.{◌≡◌, ◌<◌, ◌≤◌, None, Some, IsOk, IfOk, OnOk, MatchOption};
-ghost use Rattle.std.specs.Prelude.{length, slice_get, swap_remove, nat_eq, position, is_some};
+ghost use Rattle.std.specs.Prelude.{length, slice_get, swap_remove, nat_eq, position};
 ghost use Rattle.std.specs.Prelude.{IfSome};
+ghost use Rattle.std.specs.List.{list_any};
 ghost use Rattle.std.specs.Option.{option_copied, option_map, IsSomeAnd};
 ghost use Rattle.std.specs.Map.Iter.{deref_pair};
 ghost use Rattle.indexmap.specs.IndexMap.{get, values, spare, IsEmpty, IsUnchanged};
@@ -10,15 +11,16 @@ ghost use Rattle.kept_replies.specs.Keys.{same_key};
 ghost use Rattle.kept_replies.specs.Kept.{birth_of, is_over, is_retry, left_in};
 ghost use Rattle.kept_replies.specs.Kept.{finished, postponed};
 ghost use Rattle.kept_replies.specs.inside.Stored.{Puts, Appends, Rewrites, Removes};
-ghost use Rattle.kept_replies.specs.inside.Stored.{NoRowPasses, RowPasses};
+ghost use Rattle.kept_replies.specs.inside.Stored.{NoRowPasses, RowPasses, is_named_by};
 
 use crate::birth_places::BirthPlaces;
 use crate::copies::copies_of;
 use crate::due_moments::DueMoments;
-use crate::entry::{KeptEntry, KeptState};
+use crate::entry::{KeptEntry, KeptState, identifier_in};
 use crate::key::KeptKey;
+use crate::told_counts::ToldCounts;
 use indexmap::IndexMap;
-use ras_module::Reply;
+use ras_module::{EndpointId, Reply};
 use std::alloc::{AllocError, Global};
 use std::marker::Model;
 
@@ -30,6 +32,8 @@ pub(crate) struct KeptRows {
     // by the places of the rows
     births: BirthPlaces,
     due: DueMoments,
+    // how often identifiers are told
+    told: ToldCounts,
 }
 
 impl Model for KeptRows {
@@ -39,6 +43,7 @@ impl Model for KeptRows {
     ghost use Rattle.kept_replies.specs.declared.key.KeptKey.{KeptKey};
     ghost use Rattle.kept_replies.specs.declared.entry.KeptEntry.{KeptEntry};
     ghost use Rattle.kept_replies.specs.inside.Births.{AreBorn};
+    ghost use Rattle.kept_replies.specs.inside.Told.{AreTold};
     ghost use Rattle.kept_replies.specs.inside.Rows.{rows_seen, AreRows};
 
     ghost Value = { IndexMap KeptKey KeptEntry (Unit {0}) };
@@ -47,7 +52,8 @@ impl Model for KeptRows {
 
     ghost view = { λ t. rows_seen t.rows t.due };
 
-    ghost invariant = { λ t. AreRows t.rows t.due × AreBorn t.rows.entries t.births };
+    ghost invariant = { λ t. AreRows t.rows t.due × AreBorn t.rows.entries t.births
+        × AreTold t.rows.entries t.told };
 }
 
 impl KeptRows {
@@ -59,6 +65,7 @@ impl KeptRows {
             rows: IndexMap::new(alloc),
             births: BirthPlaces::new(alloc),
             due: DueMoments::new(alloc),
+            told: ToldCounts::new(alloc),
         }
     }
 
@@ -69,7 +76,13 @@ impl KeptRows {
         let rows = copies_of(*self.rows.allocator(), &self.rows)?;
         let due = self.due.copy()?;
         let births = BirthPlaces::of(*rows.allocator(), &rows);
-        Ok(KeptRows { rows, births, due })
+        let told = ToldCounts::of(*rows.allocator(), &rows);
+        Ok(KeptRows {
+            rows,
+            births,
+            due,
+            told,
+        })
     }
 
     /// The rows, to look at.
@@ -107,6 +120,13 @@ impl KeptRows {
         self.births.place_of(&self.rows, born)
     }
 
+    /// Whether a row's RegistrationConfirm tells this identifier.
+    pub(crate) fn is_named(&self, id: &EndpointId) -> bool
+        ensures { result ≡ list_any (λ row. is_named_by id.now row.1) self.now.entries }
+    {
+        self.told.is_told(&self.rows, id)
+    }
+
     /// The birth of an entry that is over.
     pub(crate) fn over(&self, now: u64) -> Option<u64>
         ensures { MatchOption result (NoRowPasses (is_over now) self.now.entries)
@@ -135,6 +155,7 @@ impl KeptRows {
         self.rows.reserve(1)?;
         self.due.reserve(self.rows.len() + 1)?;
         self.births.prepare(&self.rows);
+        self.told.prepare(&self.rows);
         Ok(())
     }
 
@@ -146,11 +167,13 @@ impl KeptRows {
         match self.rows.get_index_of(&key) {
             Some(place) => {
                 self.births.replace(place, entry.born);
+                self.told.replace(&self.rows, &key, entry.identifier());
                 self.due.write(place, &entry.state);
                 replace_entry(&mut self.rows, &key, entry);
             }
             None => {
                 self.births.add(entry.born);
+                self.told.add(entry.identifier());
                 self.due.write(self.rows.len(), &entry.state);
                 add_entry(&mut self.rows, key, entry);
             }
@@ -162,6 +185,7 @@ impl KeptRows {
         ensures { Rewrites (finished reply until) self.old self.new key.now }
     {
         if let Some(place) = self.rows.get_index_of(key) {
+            self.told.replace(&self.rows, key, identifier_in(&reply));
             write_done(&mut self.rows, key, reply, until);
             self.due.finish(place, until);
         }
@@ -182,10 +206,13 @@ impl KeptRows {
     pub(crate) fn remove_at(&mut self, place: usize)
         ensures { Removes self.old self.new (slice_get self.old.entries place) }
     {
-        if take_row(&mut self.rows, place) {
-            self.births.take_out(place);
-            self.due.take_out(place, self.rows.len());
-        }
+        let Some((_key, entry)) = self.rows.get_index(place) else {
+            return;
+        };
+        self.told.take_out(entry.identifier());
+        take_row(&mut self.rows, place);
+        self.births.take_out(place);
+        self.due.take_out(place, self.rows.len());
     }
 }
 
@@ -196,14 +223,12 @@ fn born_at(rows: &IndexMap<KeptKey, KeptEntry>, place: usize) -> Option<u64>
     Some(entry.born)
 }
 
-// removes the row at this place, and answers whether there is one
-fn take_row(rows: &mut IndexMap<KeptKey, KeptEntry>, place: usize) -> bool
+fn take_row(rows: &mut IndexMap<KeptKey, KeptEntry>, place: usize)
     ensures removes { Removes rows.old rows.new (slice_get rows.old.entries place) }
-    ensures there { result ≡ is_some (slice_get rows.old.entries place) }
     ensures entries { IfSome (slice_get rows.old.entries place)
         (λ row. rows.new.entries ≡ swap_remove rows.old.entries place row) }
 {
-    rows.swap_remove_index(place).is_some()
+    rows.swap_remove_index(place);
 }
 
 fn add_entry(rows: &mut IndexMap<KeptKey, KeptEntry>, key: KeptKey, entry: KeptEntry)

@@ -17,7 +17,7 @@ use crate::fault::ReserveFault;
 use crate::key::KeptKey;
 use crate::list::{KeptList, rising};
 use crate::rows::KeptRows;
-use crate::searches::{identifiers_in, is_named_in};
+use crate::searches::identifiers_in;
 use ras_module::{EndpointId, Reply, Request};
 use std::alloc::{AllocError, Global};
 use std::marker::Model;
@@ -151,7 +151,7 @@ impl Kept {
     pub fn is_named(&self, id: &EndpointId) -> bool
         ensures { IsTrue result ↔ IsNamed self.now.kept id.now }
     {
-        is_named_in(self.rows.as_map(), id)
+        self.rows.is_named(id)
     }
 
     /// The identifiers that the kept RegistrationConfirms tell, in any order.

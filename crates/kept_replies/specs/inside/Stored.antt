@@ -87,6 +87,6 @@ pub record Removes {S : Type 0} (old new : IndexMap KeptKey KeptEntry S)
     (row : Option (KeptKey × KeptEntry)) : Type 0 where
   pub updates : IfSome row (λ row. Updates same_key old new row.0 None)
   pub unchanged : row ≡ None → new.entries ≡ old.entries
-  pub unique : IsUnique same_key new
+  pub unique : IfSome row (λ row. IsUnique same_key new)
   pub shorter : length new.entries + (if is_some row then 1 else 0) ≡ length old.entries
   pub room : spare old ≤ spare new

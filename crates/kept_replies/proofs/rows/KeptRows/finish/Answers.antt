@@ -6,6 +6,7 @@ use Rattle.kept_replies.specs.inside.Stored.{Rewrites}
 use Rattle.kept_replies.proofs.PlacedBirths.{AreBorn-rewritten}
 use Rattle.kept_replies.proofs.SeenRows.{Seen, AreRows-rewritten, Rewrites-none, there_is}
 use Rattle.kept_replies.proofs.SeenRows.{there_is_none}
+use Rattle.kept_replies.proofs.ToldTimes.{AreTold-rewritten}
 use Rattle.kept_replies.proofs.rows.KeptRows.finish.Goals as goal
 
 pub invariant_of-self : goal.invariant_of-self
@@ -18,6 +19,9 @@ invariant_of-self c =
           was.1 c.finish.ensures,
       AreBorn-rewritten i.rows c.write_done.new.rows i.births i.births c.self.invariant.1 change
           c.args.key.now c.write_done.ensures was.0 was.1 refl,
+      AreTold-rewritten i.rows c.write_done.new.rows i.told c.replace.new.self c.self.invariant.2
+          c.replace.ensures.still change c.args.key.now c.write_done.ensures was.0 was.1
+          (rw c.identifier_in.ensures at c.replace.ensures.times was.0 was.1),
     )
 
 pub returns-in_default : goal.returns-in_default

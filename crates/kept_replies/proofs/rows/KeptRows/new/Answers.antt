@@ -6,4 +6,5 @@ invariant_of-result c = (
   AreRows-empty c.new.result c.new-3.result c.new.ensures.empty c.new-3.ensures.ends
       c.new-3.ensures.retries,
   rw c.new.ensures.empty c.new-2.ensures,
+  rw c.new.ensures.empty c.new-4.ensures,
 )

@@ -1,4 +1,4 @@
-use Rattle.std.proofs.Common.{◌≤◌, refl, ap, subst, ◌∙◌}
+use Rattle.std.proofs.Common.{◌≤◌, ◌+◌, refl, sym, ap, subst, ◌∙◌}
 use Rattle.std.specs.HashMap as hash
 use Rattle.kept_replies.specs.Keys.{same_key}
 use Rattle.kept_replies.specs.Kept.{left_in, postponed}
@@ -8,6 +8,8 @@ use Rattle.kept_replies.proofs.PlacedBirths.{AreBorn-rewritten}
 use Rattle.kept_replies.proofs.SeenRows.{Seen, AreRows-rewritten, Rewrites-seen, Rewrites-none}
 use Rattle.kept_replies.proofs.SeenRows.{there_is_none}
 use Rattle.kept_replies.proofs.StoredKept.{passing_entry}
+use Rattle.kept_replies.specs.inside.Told.{times, once}
+use Rattle.kept_replies.proofs.ToldTimes.{AreTold-rewritten, named_postponed}
 use Rattle.kept_replies.proofs.rows.KeptRows.postpone.Goals as goal
 
 pub invariant_of-self : goal.invariant_of-self
@@ -24,6 +26,10 @@ invariant_of-self c =
           c.wait.ensures),
       AreBorn-rewritten i.rows c.write_retry.new.rows i.births i.births c.self.invariant.1
           (postponed c.args.moment) key c.write_retry.ensures was.0 there refl,
+      AreTold-rewritten i.rows c.write_retry.new.rows i.told i.told c.self.invariant.2 (λ h. h)
+          (postponed c.args.moment) key c.write_retry.ensures was.0 there
+          (λ whole id. ap (λ w. times i.told id + once w id)
+          (sym (named_postponed c.args.moment was.0.state))),
     )
 
 pub returns-in-Some : goal.returns-in-Some

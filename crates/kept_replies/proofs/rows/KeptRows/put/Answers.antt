@@ -8,6 +8,7 @@ use Rattle.kept_replies.specs.Kept.{birth_of}
 use Rattle.kept_replies.proofs.PlacedBirths.{AreBorn-replaced, AreBorn-appended}
 use Rattle.kept_replies.proofs.SeenRows.{Seen, AreRows-rewritten, AreRows-appended, there_is}
 use Rattle.kept_replies.proofs.SeenRows.{there_is_none, one_fits}
+use Rattle.kept_replies.proofs.ToldTimes.{AreTold-rewritten, AreTold-appended}
 use Rattle.kept_replies.proofs.rows.KeptRows.put.Goals as goal
 
 pub invariant_of-self : goal.invariant_of-self
@@ -20,6 +21,10 @@ invariant_of-self c =
       AreBorn-replaced i.rows c.replace_entry.new.rows i.births c.replace.new.self
           c.self.invariant.1 c.replace.ensures.still c.args.entry c.args.key c.in-Some.place
           c.replace_entry.ensures c.in-Some.ensures.index was.0 was.1 c.replace.ensures.births,
+      AreTold-rewritten i.rows c.replace_entry.new.rows i.told c.replace-in-Some.new.self
+          c.self.invariant.2 c.replace-in-Some.ensures.still (λ other. c.args.entry) c.args.key
+          c.replace_entry.ensures was.0 was.1
+          (rw c.identifier.ensures at c.replace-in-Some.ensures.times was.0 was.1),
     )
 
 pub replace-requires : goal.replace-requires
@@ -68,4 +73,8 @@ invariant_of-self-in-None c =
       AreBorn-appended i.rows c.add_entry.new.rows i.births c.add.new.self c.self.invariant.1
           c.add.ensures.still (key, c.args.entry) c.add_entry.ensures.appends
           c.add.ensures.births,
+      AreTold-appended i.rows c.add_entry.new.rows i.told c.add-in-None.new.self
+          c.self.invariant.2 c.add-in-None.ensures.still (key, c.args.entry)
+          c.add_entry.ensures.appends
+          (rw c.identifier-in-None.ensures at c.add-in-None.ensures.times),
     )
