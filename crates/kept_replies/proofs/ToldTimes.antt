@@ -1,10 +1,10 @@
 -- How often identifiers are told, and what a change of the rows does to it.
-use Rattle.std.proofs.Common.{◌≡◌, ℕ, ◌+◌, ◌-◌, ◌<◌, ◌≤◌, Bool, true, false, cond, List, [], ◌∷◌, ◌++◌}
-use Rattle.std.proofs.Common.{◌||◌, length, get_or, map, refl, sym, ◌∙◌, ap, subst, Some, None, Option, arith}
-use Rattle.std.specs.Prelude.{slice_get, swap_remove, nat_eq, nat_lt, IsTrue}
+use Rattle.std.proofs.Common.{◌≡◌, ℕ, ◌+◌, Bool, true, false, cond, List, [], ◌∷◌}
+use Rattle.std.proofs.Common.{◌||◌, get_or, refl, ◌∙◌, ap, Some, arith}
+use Rattle.std.specs.Prelude.{slice_get, swap_remove, nat_lt, IsTrue}
 use Rattle.std.specs.HashMap as hash
-use Rattle.std.specs.List.{list_any, sum_by, count_by}
-use Rattle.std.specs.Map.{values_of, set_value, lookup}
+use Rattle.std.specs.List.{list_any, sum_by}
+use Rattle.std.specs.Map.{values_of}
 use Rattle.std.specs.Option.{option_map}
 use borrow.Author.Tests.{lt-ltb}
 use Rattle.std.proofs.lemmas.List.{map-append, length-map}
@@ -13,54 +13,18 @@ use Rattle.std.proofs.lemmas.Map.Entries.{sum_by-set_value}
 use Rattle.std.proofs.lemmas.Option.{slice_get_within, slice_get-map, get_or_from_slice_get}
 use Rattle.indexmap.specs.IndexMap.{IndexMap}
 use Rattle.indexmap.proofs.SetLemmas.{map-swap_remove}
-use Rattle.ras_module.specs.Same.{texts_decide}
 use Rattle.kept_replies.specs.Kept.{named_by, identifier_in, reply_in, postponed_in}
 use Rattle.kept_replies.specs.declared.entry.KeptState.{KeptState}
 use Rattle.kept_replies.specs.declared.entry.KeptState.TheVariants.{Done, Pending}
 use Rattle.kept_replies.specs.Keys.{same_key}
 use Rattle.kept_replies.specs.inside.Stored.{Rewrites, Appends, is_named_by}
-use Rattle.kept_replies.specs.inside.Told.{ToldTable, AreTold, same_id, count_of, times, once}
+use Rattle.kept_replies.specs.inside.Told.{ToldTable, AreTold, times, once}
 use Rattle.kept_replies.specs.inside.Told.{times_in}
 use Rattle.kept_replies.specs.declared.entry.KeptEntry.{KeptEntry}
 use Rattle.kept_replies.specs.declared.key.KeptKey.{KeptKey}
 
 abbrev Rows : Type 0
 Rows = List (KeptKey × KeptEntry)
-
-module _ {S : Type 0} (old new : IndexMap (List ℕ) ℕ S) (id : List ℕ) where
-  abbrev before : List ℕ → ℕ
-  before q = count_of (hash.get same_id old q)
-
-  abbrev after : List ℕ → ℕ
-  after q = count_of (hash.get same_id new q)
-
-  looked_up : (w : Option ℕ) (n : ℕ) → hash.Updates same_id old new id w → n ≡ count_of w
-      → (q : List ℕ) (P : Type 0) → (same_id id q ≡ true → after q ≡ n → before q ≡ before id → P)
-      → (same_id id q ≡ false → after q ≡ before q → P) → P
-  looked_up w n u is q P here other = cases (same_id id q) refl (u.0 q) where
-    cases : (b : Bool) → same_id id q ≡ b
-        → hash.get same_id new q ≡ cond b w (hash.get same_id old q) → P
-    cases true same e =
-        here same (ap count_of e ∙ sym is) (ap before (sym ((texts_decide id q).0 same)))
-    cases false same e = other same (ap count_of e)
-
-  -- it is told once more
-  pub raised : hash.Updates same_id old new id (Some (before id + 1)) → (q : List ℕ)
-      → after q ≡ before q + once (Some id) q
-  raised u q =
-      looked_up (Some (before id + 1)) (before id + 1) u refl q
-      (after q ≡ before q + once (Some id) q)
-      (λ same is was. is ∙ (ap (λ n. n + 1) (sym was) ∙ ap (λ b. before q + cond b 1 0) (sym same)))
-      (λ same is. is ∙ (omega arith ∙ ap (λ b. before q + cond b 1 0) (sym same)))
-
-  -- it is told one time less
-  pub lowered : (w : Option ℕ) → hash.Updates same_id old new id w → count_of w + 1 ≡ before id
-      → (q : List ℕ) → after q + once (Some id) q ≡ before q
-  lowered w u less q =
-      looked_up w (count_of w) u refl q (after q + once (Some id) q ≡ before q)
-      (λ same is was. ap (λ b. after q + cond b 1 0) same
-      ∙ (ap (λ n. n + 1) is ∙ (less ∙ sym was)))
-      (λ same is. ap (λ b. after q + cond b 1 0) same ∙ omega (arith, is))
 
 -- a row tells an identifier where it is told at all
 pub some_tell : (id : List ℕ) (rows : Rows)
@@ -133,7 +97,7 @@ module _ {S : Type 0} (old new : IndexMap KeptKey KeptEntry S) (before after : T
       let value = λ (e : KeptKey × KeptEntry). e.1 in
       let within = slice_get_within old.entries place row there in
       let moved : times_in new.entries id
-          ≡ sum_by (tells id) (swap_remove (values_of old.entries) place row.1) =
+      ≡ sum_by (tells id) (swap_remove (values_of old.entries) place row.1) =
       ap (λ (es : Rows). times_in es id) rows
       ∙ ap (λ es. sum_by (tells id) es)
       (map-swap_remove value old.entries place row (omega (arith, within))) in

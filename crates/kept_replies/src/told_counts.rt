@@ -98,8 +98,9 @@ impl ToldCounts {
             return;
         };
         let times = times_of(&self.counts, id);
-        self.is_whole =
-            self.is_whole && times < usize::MAX && write_times(&mut self.counts, id, times + 1);
+        self.is_whole = self.is_whole
+            && times < usize::MAX
+            && write_times(&mut self.counts, id, times + 1);
     }
 
     /// A reply, which may tell an identifier, is kept no more.

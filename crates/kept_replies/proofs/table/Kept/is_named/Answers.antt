@@ -1,6 +1,3 @@
-use Rattle.std.proofs.Common.{ap, ◌∙◌}
-use Rattle.std.specs.List.{list_any}
-use Rattle.kept_replies.specs.inside.Stored.{is_named_by}
 use Rattle.kept_replies.proofs.Named.{any_named}
 use Rattle.kept_replies.proofs.table.Kept.is_named.Goals as goal
 

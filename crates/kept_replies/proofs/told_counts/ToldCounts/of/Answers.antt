@@ -1,6 +1,5 @@
-use Rattle.std.proofs.Common.{◌≡◌, ◌+◌, ℕ, List, Option, ap, ◌∙◌, arith}
-use Rattle.kept_replies.specs.Kept.{named_by}
-use Rattle.kept_replies.specs.inside.Told.{times, times_in, once}
+use Rattle.std.proofs.Common.{◌+◌, ℕ, List, Option, ap, ◌∙◌, arith}
+use Rattle.kept_replies.specs.inside.Told.{times, once}
 use Rattle.kept_replies.proofs.ToldTimes.{times_next}
 use Rattle.kept_replies.proofs.told_counts.ToldCounts.of.Goals as goal
 
