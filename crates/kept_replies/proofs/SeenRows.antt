@@ -55,17 +55,6 @@ one_fits (Some entry) n m r is fits = omega (arith, is, fits)
 
 module _ {S : Type 0} (old new : IndexMap KeptKey KeptEntry S) (before after : DueTable)
     (h : AreRows old before) where
-  -- the same rows with the same moments
-  pub AreRows-same : new.entries ≡ old.entries → after.ends ≡ before.ends
-      → after.retries ≡ before.retries → before.room ≤ after.room → AreRows new after
-  AreRows-same rows ends retries more = record {
-    timed = subst (λ (es : List Row). AreTimed es after) (sym rows) (record {
-      ends = subst (AreDueAt end_of old.entries) (sym ends) h.timed.ends;
-      retries = subst (AreDueAt retry_of old.entries) (sym retries) h.timed.retries;
-    });
-    fit = omega (arith, h.fit, ap length rows, more);
-  }
-
   -- one row is written, with its moments
   pub AreRows-changed : (place : ℕ) (row : Row)
       → Changed (row_in old.entries) (row_in new.entries) place (Some row)
@@ -138,62 +127,6 @@ module _ {S : Type 0} (old new : IndexMap KeptKey KeptEntry S) (before after : D
         same_length = r.same_length;
         same_room = λ i. min (r.same_room i) (room i - r.same_length i);
       })
-
-  one_more : (w : Option KeptEntry) (n m s r s' r' : ℕ) → n ≡ m + (if is_some w then 0 else 1)
-      → r' ≡ r → s ≤ s' + 1 → min s (r - m) ≤ min s' (r' - n) + 1
-  one_more None n m s r s' r' is same more = omega (arith, is, same, more)
-  one_more (Some e) n m s r s' r' is same more = omega (arith, is, same, more)
-
-  no_more : (w : Option KeptEntry) (n m s r s' r' : ℕ) → n ≡ m + (if is_some w then 0 else 1)
-      → (w ≡ None → ⊥) → r' ≡ r → s ≤ s' → min s (r - m) ≤ min s' (r' - n)
-  no_more None n m s r s' r' is some same more = absurd (some refl)
-  no_more (Some e) n m s r s' r' is some same more = omega (arith, is, same, more)
-
-  pub Puts-seen : (key : KeptKey) (entry : KeptEntry) → Puts old new key entry
-      → Puts t (rows_seen new after) key entry
-  Puts-seen key entry p =
-      subst (λ (u : Seen). Puts u (rows_seen new after) key entry) view (record {
-        updates = p.updates;
-        unique = p.unique;
-        longer = p.longer;
-        room = one_more (hash.get same_key old key) (length new.entries) (length old.entries)
-            (spare old) before.room (spare new) after.room p.longer room p.room;
-        replaces = λ some. no_more (hash.get same_key old key) (length new.entries)
-            (length old.entries) (spare old) before.room (spare new) after.room p.longer some room
-            (p.replaces some);
-      })
-
-  fewer : (w : Option Row) (n m s r s' r' : ℕ) → n + (if is_some w then 1 else 0) ≡ m
-      → r' ≡ r → s ≤ s' → min s (r - m) ≤ min s' (r' - n)
-  fewer None n m s r s' r' is same more = omega (arith, is, same, more)
-  fewer (Some row) n m s r s' r' is same more = omega (arith, is, same, more)
-
-  pub Removes-seen : (place : ℕ) → Removes old new (slice_get old.entries place)
-      → Removes t (rows_seen new after) (slice_get t.entries place)
-  Removes-seen place r =
-      subst (λ (u : Seen). Removes u (rows_seen new after) (slice_get u.entries place)) view
-      (record {
-        updates = r.updates;
-        unchanged = r.unchanged;
-        unique = r.unique;
-        shorter = r.shorter;
-        room = fewer (slice_get old.entries place) (length new.entries) (length old.entries)
-            (spare old) before.room (spare new) after.room r.shorter room r.room;
-      })
-
--- an entry that is put in place of another
-pub Puts-rewritten : {S : Type 0} (old new : IndexMap KeptKey KeptEntry S) (key : KeptKey)
-    (entry was : KeptEntry) → Rewrites (λ other. entry) old new key
-    → hash.get same_key old key ≡ Some was → Puts old new key entry
-Puts-rewritten old new key entry was r there = record {
-  updates = r.updates was there;
-  unique = r.unique;
-  longer = subst (λ (w : Option KeptEntry). length new.entries
-      ≡ length old.entries + (if is_some w then 0 else 1)) (sym there)
-      (omega (arith, r.same_length));
-  room = omega (arith, r.same_room);
-  replaces = λ some. omega (arith, r.same_room);
-}
 
 -- where there is no entry, none is changed
 pub Rewrites-none : {S : Type 0} (rows : IndexMap KeptKey KeptEntry S)
