@@ -1,24 +1,19 @@
 -- Moments that are written, and moments that have come.
-use Rattle.std.proofs.Common.{◌≡◌, ℕ, ◌≤◌, ◌<◌, Bool, true, false, List, refl, sym, ◌∙◌, ap, subst}
-use Rattle.std.proofs.Common.{Option, Some, None, arith}
-use Rattle.std.specs.Prelude.{slice_get, min, nat_le, MatchOption}
-use Rattle.std.specs.Option.{IsSomeAnd, option_and_then, option_map}
+use Rattle.std.proofs.Common.{◌≡◌, ℕ, ◌≤◌, sym, ◌∙◌, ap, subst}
+use Rattle.std.proofs.Common.{Some, None, arith}
+use Rattle.std.specs.Prelude.{min}
 use Rattle.std.specs.FinMap as fin
 use Rattle.std.specs.FinMap.{nat_cmp-IsAntisymmetric}
 use Rattle.std.specs.Cmp.{nat_cmp_total}
-use borrow.Author.Tests.{le-leb, lt-leb}
 use Rattle.keyed.specs.Maps.{Changed}
 use Rattle.keyed.proofs.Decide.{some_none}
 use Rattle.keyed.proofs.Maps.{Changed-insert, Changed-remove}
 use Rattle.deadlines.specs.Deadlines.{Moments}
-use Rattle.kept_replies.specs.Kept.{birth_of, is_over_in, is_retry_in, left_in, postponed_in}
-use Rattle.kept_replies.specs.inside.Due.{DueTable, AreDueAt, NoneCame, Came, Writes}
+use Rattle.kept_replies.specs.Kept.{left_in, postponed_in}
+use Rattle.kept_replies.specs.inside.Due.{DueTable, NoneCame, Writes}
 use Rattle.kept_replies.specs.inside.Due.{end_in, retry_in}
-use Rattle.kept_replies.specs.inside.Stored.{NoRowPasses, RowPasses}
-use Rattle.kept_replies.specs.declared.entry.KeptEntry.{KeptEntry}
 use Rattle.kept_replies.specs.declared.entry.KeptState.{KeptState}
 use Rattle.kept_replies.specs.declared.entry.KeptState.TheVariants.{Done, Pending}
-use Rattle.kept_replies.specs.declared.key.KeptKey.{KeptKey}
 
 abbrev pub due_of : Moments → Moments → ℕ → ℕ → DueTable
 due_of ends retries a b = record { ends = ends; retries = retries; room = min a b }

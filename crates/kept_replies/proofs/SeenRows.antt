@@ -5,7 +5,7 @@ use Rattle.std.specs.Prelude.{slice_get, swap_remove, position, min, is_some, if
 use Rattle.std.specs.FinMap as fin
 use Rattle.std.specs.HashMap as hash
 use Rattle.std.specs.Map.{keys_of}
-use Rattle.indexmap.specs.IndexMap.{IndexMap, spare}
+use Rattle.indexmap.specs.IndexMap.{IndexMap}
 use Rattle.keyed.specs.Maps.{Changed}
 use Rattle.keyed.specs.Places.{row_in}
 use Rattle.keyed.proofs.Decide.{some_none}
@@ -15,7 +15,7 @@ use Rattle.kept_replies.specs.Keys.{same_key}
 use Rattle.kept_replies.specs.inside.Due.{DueTable, AreTimed, AreDueAt, Writes, TakesOut, moved}
 use Rattle.kept_replies.specs.inside.Due.{end_of, retry_of, end_in, retry_in}
 use Rattle.kept_replies.specs.inside.Rows.{rows_seen, AreRows}
-use Rattle.kept_replies.specs.inside.Stored.{Puts, Appends, Rewrites, Removes}
+use Rattle.kept_replies.specs.inside.Stored.{Appends, Rewrites, Removes}
 use Rattle.kept_replies.specs.declared.entry.KeptEntry.{KeptEntry}
 use Rattle.kept_replies.specs.declared.key.KeptKey.{KeptKey}
 use Rattle.kept_replies.proofs.Timed.{AreDueAt-empty, AreDueAt-changed, AreDueAt-moved}

@@ -156,13 +156,7 @@ fn write_times(counts: &mut IndexMap<EndpointId, usize>, id: &EndpointId, times:
         rewrite_times(counts, id, times);
         return true;
     }
-    if counts.len() == counts.capacity() {
-        return false;
-    }
-    match counts.insert(*id, times) {
-        Ok(_) => true,
-        Err(_) => false,
-    }
+    counts.len() < counts.capacity() && counts.insert(*id, times).is_ok()
 }
 
 fn rewrite_times(counts: &mut IndexMap<EndpointId, usize>, id: &EndpointId, times: usize)
