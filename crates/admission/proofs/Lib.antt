@@ -3,6 +3,3 @@ pub mod StoredCalls
 pub mod Leaving
 pub mod Soundness
 pub mod Deciding
-pub mod KeptSums
-pub mod KeptLegs
-pub mod CountedCalls

@@ -15,11 +15,9 @@ use crate::call::Call;
 use crate::call_list::{CallList, rising};
 use crate::copies::copies_of;
 use crate::fault::CallFault;
-use crate::in_use::InUse;
 use crate::leg::Leg;
-use crate::leg_counts::LegCounts;
 use crate::legs::Legs;
-use crate::sums::{call_in, legs_with, units_of_pool};
+use crate::sums::{call_in, legs_with, units_in, units_of_pool};
 use indexmap::IndexMap;
 use ras_module::{CallKey, EndpointId};
 use std::alloc::{AllocError, Global};
@@ -37,9 +35,6 @@ pub struct Left {
 pub struct Calls {
     calls: IndexMap<CallKey, Call>,
     most: usize,
-    // what the calls use, and how many legs each endpoint has: changed with the calls
-    in_use: InUse,
-    leg_counts: LegCounts,
 }
 
 impl Model for Calls {
@@ -48,7 +43,6 @@ impl Model for Calls {
     ghost use Rattle.indexmap.specs.IndexMap.{spare};
     ghost use Rattle.admission.specs.Calls.{CallTable, open_calls_of};
     ghost use Rattle.admission.specs.inside.Stored.{AreStored};
-    ghost use Rattle.admission.specs.inside.Counted.{AreCounted};
 
     ghost Value = { CallTable };
 
@@ -60,7 +54,7 @@ impl Model for Calls {
       room = spare t.calls;
     } };
 
-    ghost invariant = { λ t. AreCounted t.calls t.most t.in_use t.leg_counts };
+    ghost invariant = { λ t. AreStored t.calls t.most };
 }
 
 impl Calls {
@@ -75,8 +69,6 @@ impl Calls {
         Calls {
             calls: IndexMap::new(alloc),
             most,
-            in_use: InUse::none(),
-            leg_counts: LegCounts::new(alloc),
         }
     }
 
@@ -89,8 +81,6 @@ impl Calls {
         Ok(Calls {
             calls,
             most: self.most,
-            in_use: self.in_use,
-            leg_counts: self.leg_counts.copy()?,
         })
     }
 
@@ -146,9 +136,6 @@ impl Calls {
         ensures { MatchOption result (IsInNoCall self.now.calls endpoint.now)
             (λ key. IsSome (leg_at self.now.calls key endpoint.now)) }
     {
-        if self.leg_counts.of(endpoint) == Some(0) {
-            return None;
-        }
         call_in(&self.calls, endpoint)
     }
 
@@ -156,10 +143,7 @@ impl Calls {
     pub fn legs_of(&self, endpoint: &EndpointId) -> usize
         ensures { result ≡ legs_of self.now.calls endpoint.now }
     {
-        match self.leg_counts.of(endpoint) {
-            Some(count) => count,
-            None => legs_with(&self.calls, endpoint),
-        }
+        legs_with(&self.calls, endpoint)
     }
 
     /// The units of all calls: the bandwidth in use.
@@ -167,7 +151,7 @@ impl Calls {
         ensures sum { result ≡ in_use self.now.calls }
         ensures bound { result < 2 ^ 47 }
     {
-        self.in_use.total
+        units_in(&self.calls)
     }
 
     /// The units of the calls of one pool.
@@ -175,10 +159,7 @@ impl Calls {
         ensures sum { result ≡ in_use_of self.now.calls pool }
         ensures bound { result < 2 ^ 47 }
     {
-        match self.in_use.of_pool(pool) {
-            Some(units) => *units,
-            None => units_of_pool(&self.calls, pool),
-        }
+        units_of_pool(&self.calls, pool)
     }
 
     /// Copies, by rising key.
@@ -197,10 +178,7 @@ impl Calls {
         ensures room { self.old.room ≤ self.new.room }
         ensures succeeds { more ≤ self.old.room → IsOk result }
     {
-        self.calls.reserve(more)?;
-        self.leg_counts
-            .reserve(self.calls.len().saturating_add(more));
-        Ok(())
+        self.calls.reserve(more)
     }
 
     /// Opens a call with its first leg. Nothing is changed where as many are open as may be, and for
@@ -224,12 +202,7 @@ impl Calls {
             legs: Legs::one(leg),
         };
         match self.calls.insert(key, call) {
-            Ok(_) => {
-                self.in_use.add(pool, units);
-                self.leg_counts.reserve(self.calls.len());
-                self.leg_counts.come(&leg.endpoint);
-                Ok(())
-            }
+            Ok(_) => Ok(()),
             Err(_) => Err(CallFault::Memory),
         }
     }
@@ -254,7 +227,6 @@ impl Calls {
             return Err(CallFault::TwoLegs);
         }
         write_leg(&mut self.calls, &key, leg);
-        self.leg_counts.come(&leg.endpoint);
         Ok(())
     }
 
@@ -269,13 +241,10 @@ impl Calls {
         ensures memory { result ≢ Err CallFault.Memory }
         ensures err { OnErr result (self.new ≡ self.old) }
     {
-        let Some(call) = self.get(key) else {
+        let Some(_call) = self.get(key) else {
             return Err(CallFault::NoCall);
         };
-        let (pool, before) = (call.pool, call.units);
         write_units(&mut self.calls, key, units);
-        self.in_use.take(pool, before);
-        self.in_use.add(pool, units);
         Ok(())
     }
 
@@ -301,17 +270,11 @@ impl Calls {
         }
         if call.legs.has_other(endpoint) {
             write_without(&mut self.calls, key, endpoint);
-            self.leg_counts.go(endpoint);
             return Ok(Left { ended: None });
         }
-        let (pool, units) = (call.pool, call.units);
+        let ended = Some((call.pool, call.units));
         self.calls.swap_remove(key);
-        self.in_use.take(pool, units);
-        self.leg_counts.go(endpoint);
-        self.leg_counts.calls_left(self.calls.len());
-        Ok(Left {
-            ended: Some((pool, units)),
-        })
+        Ok(Left { ended })
     }
 }
 

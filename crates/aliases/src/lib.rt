@@ -2,7 +2,6 @@
 #![tactic(auto)]
 
 mod fault;
-mod holder;
 mod table;
 
 pub use fault::SetFault;

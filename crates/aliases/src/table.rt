@@ -1,42 +1,53 @@
 //! The table of the aliases.
 
-ghost use Rattle.std.specs.Prelude.{◌≡◌, ◌≢◌, ◌≤◌, ◌<◌, ◌+◌, ◌↔◌, Some, Err, IsOk, IfOk, IfErr, OnOk, OnErr, length, Contains};
-ghost use Rattle.std.specs.Prelude.{not, nat_eq};
-ghost use Rattle.std.specs.Cmp.Lexicographic.{pointwise};
+ghost use Rattle.std.specs.Prelude.{◌≡◌, ◌≢◌, ◌≤◌, ◌<◌, ◌+◌, ◌↔◌, None, Some, Err, IsOk, IfOk, IfErr, OnOk, OnErr, MatchOption, position, nat_eq, length, Contains};
 ghost use Rattle.ras_module.specs.declared.alias.Alias.{Alias};
+ghost use Rattle.std.specs.List.{find};
 ghost use Rattle.std.specs.Option.{option_copied};
 ghost use Rattle.std.specs.FinMap as map;
-ghost use Rattle.aliases.specs.Held.{holder_of, conflicts, is_elsewhere, is_held_by, without_holder, without_alias, without_aliases, with_alias, with_aliases, IsHeldByAnother, Becomes};
-ghost use Rattle.aliases.specs.inside.Stored.{OthersLeft};
+ghost use Rattle.keyed.specs.Places.{IsPlaceOf};
+ghost use Rattle.ras_module.specs.Aliases.{same_alias};
+ghost use Rattle.aliases.specs.Held.{holder_of, conflicts, is_elsewhere, without_holder, with_alias, with_aliases, IsHeldByAnother, Becomes};
+ghost use Rattle.aliases.specs.inside.Stored.{alias_of, held_in};
 
 use crate::fault::SetFault;
-use crate::holder::Holder;
-use indexmap::IndexMap;
 use ras_module::{Address, Alias, AliasList, EndpointId};
 use std::alloc::{AllocError, Global};
 use std::marker::Model;
 
+/// Who holds an alias.
+#[derive(Clone, Copy)]
+struct Row {
+    alias: Alias,
+    holder: EndpointId,
+    address: Address,
+}
+
 /// Who holds each alias, with the call signal address of its holder. Contracts see a finite map.
 #[derive(Drop)]
 pub struct AliasTable {
-    rows: IndexMap<Alias, Holder>,
+    rows: Vec<Row>,
 }
 
 impl Model for AliasTable {
+    ghost use Rattle.std.specs.Prelude.{◌-◌, vec_capacity, vec_len};
     ghost use Rattle.std.specs.Coded.{codes};
     ghost use Rattle.std.specs.FinMap as map;
-    ghost use Rattle.indexmap.specs.IndexMap.{spare};
     ghost use Rattle.keyed.specs.Places.{AreApart, row_in};
     ghost use Rattle.aliases.specs.Held.{HeldAliases};
-    ghost use Rattle.aliases.specs.inside.Stored.{key_of, held_of};
 
     ghost Value = { HeldAliases };
 
     ghost coded = { Prim.hlevel (codes, map.code) };
 
-    ghost view = { λ t. record { held = held_of t.rows.entries; room = spare t.rows } };
+    ghost use Rattle.aliases.specs.inside.Stored.{alias_of, held_in};
 
-    ghost invariant = { λ t. AreApart key_of (row_in t.rows.entries) };
+    ghost view = { λ t. record {
+      held = held_in t.rows.items;
+      room = vec_capacity t.rows - vec_len t.rows;
+    } };
+
+    ghost invariant = { λ t. AreApart alias_of (row_in t.rows.items) };
 }
 
 impl AliasTable {
@@ -45,7 +56,7 @@ impl AliasTable {
         ensures { result.held ≡ map.empty }
     {
         AliasTable {
-            rows: IndexMap::new(alloc),
+            rows: Vec::new(alloc),
         }
     }
 
@@ -53,7 +64,7 @@ impl AliasTable {
     pub fn copy(&self) -> Result<Self, AllocError>
         ensures { IfOk result (λ copy. copy.held ≡ self.now.held) }
     {
-        let rows = self.rows.clone()?;
+        let rows = Vec::from_slice(*self.rows.allocator(), &self.rows)?;
         Ok(AliasTable { rows })
     }
 
@@ -61,13 +72,8 @@ impl AliasTable {
     pub fn holder(&self, alias: &Alias) -> Option<&EndpointId>
         ensures { option_copied result ≡ holder_of self.now.held alias.now }
     {
-        Some(self.row(alias)?.id())
-    }
-
-    fn row(&self, alias: &Alias) -> Option<&Holder>
-        ensures { option_copied result ≡ map.get self.now.held alias.now }
-    {
-        self.rows.get(alias)
+        let row = row_of(&self.rows, alias)?;
+        Some(&row.holder)
     }
 
     /// Those of the aliases that an endpoint with another call signal address holds, in their order
@@ -88,19 +94,9 @@ impl AliasTable {
     fn is_elsewhere(&self, alias: &Alias, address: Address) -> bool
         ensures { result ≡ is_elsewhere address (map.get self.now.held alias.now) }
     {
-        match self.row(alias) {
+        match row_of(&self.rows, alias) {
             None => false,
-            Some(row) => row.address() != address,
-        }
-    }
-
-    /// Whether this endpoint holds the alias.
-    fn is_held_by(&self, alias: &Alias, holder: &EndpointId) -> bool
-        ensures { result ≡ is_held_by holder.now (map.get self.now.held alias.now) }
-    {
-        match self.row(alias) {
-            None => false,
-            Some(row) => *row.id() == *holder,
+            Some(row) => row.address != address,
         }
     }
 
@@ -132,14 +128,20 @@ impl AliasTable {
         ensures alias { IfErr result (λ e. e.0 ≡ alias) }
         ensures err { OnErr result (Becomes self.old self.new self.old.held) }
     {
-        if let Some(row) = self.row(&alias) {
-            if *row.id() != holder {
+        if let Some(place) = place_of(&self.rows, &alias) {
+            if self.rows[place].holder != holder {
                 return Err((alias, SetFault::Duplicate));
             }
+            self.rows[place].address = address;
+            return Ok(());
         }
-        let row = Holder::new(holder, address);
-        match self.rows.insert(alias, row) {
-            Ok(_) => Ok(()),
+        let row = Row {
+            alias,
+            holder,
+            address,
+        };
+        match self.rows.push(row) {
+            Ok(()) => Ok(()),
             Err(_) => Err((alias, SetFault::Memory)),
         }
     }
@@ -162,38 +164,26 @@ impl AliasTable {
     pub fn drop_holder(&mut self, holder: &EndpointId)
         ensures { Becomes self.old self.new (without_holder self.old.held holder.now) }
     {
-        retain_others(&mut self.rows, holder);
-    }
-
-    /// Takes out each of these aliases that this endpoint holds, in time that grows with the length
-    /// of the list alone.
-    pub fn drop_all(&mut self, aliases: &[Alias], holder: &EndpointId)
-        ensures { Becomes self.old self.new
-            (without_aliases self.old.held aliases.now holder.now) }
-    {
-        for alias in aliases {
-            self.drop_one(alias, holder);
-        }
-    }
-
-    /// Takes out an alias, where this endpoint holds it.
-    fn drop_one(&mut self, alias: &Alias, holder: &EndpointId)
-        ensures { Becomes self.old self.new (without_alias self.old.held alias.now holder.now) }
-    {
-        if self.is_held_by(alias, holder) {
-            self.rows.swap_remove(alias);
-        }
+        self.rows.retain(|row| row.holder != *holder);
     }
 }
 
-/// Keeps the rows of all other endpoints.
-fn retain_others(rows: &mut IndexMap<Alias, Holder>, holder: &EndpointId)
-    ensures { OthersLeft rows.old rows.new holder.now }
+fn row_of<'a>(rows: &'a [Row], alias: &Alias) -> Option<&'a Row>
+    ensures { option_copied result ≡ find (λ r. same_alias r.alias alias.now) rows.now }
 {
-    rows.retain(
-        |_alias: &Alias, row: &mut Holder| -> bool
-            ensures { (result ≡ not (pointwise nat_eq row.old.holder holder.entry.now))
-                × (row.new ≡ row.old) }
-        { *row.id() != *holder },
-    );
+    rows.iter().find(|row| row.alias == *alias)
+}
+
+fn index_of(rows: &[Row], alias: &Alias) -> Option<usize>
+    ensures { result ≡ position (λ r. same_alias r.alias alias.now) rows.now }
+{
+    rows.iter().position(|row| row.alias == *alias)
+}
+
+/// Where the row of the alias stands.
+fn place_of(rows: &[Row], alias: &Alias) -> Option<usize>
+    ensures { MatchOption result (map.get (held_in rows.now) alias.now ≡ None)
+        (IsPlaceOf alias_of alias.now rows.now) }
+{
+    index_of(rows, alias)
 }

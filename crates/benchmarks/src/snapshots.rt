@@ -59,13 +59,12 @@ fn keep_replies(
     Ok(())
 }
 
-/// Fills the tables of the zone, and returns its endpoints.
-pub fn fill(alloc: Global, zone: &mut Zone<FixedPool>, sizes: Sizes) -> Result<Vec<Endpoint>> {
+/// Fills the tables of the zone.
+fn fill(alloc: Global, zone: &mut Zone<FixedPool>, sizes: Sizes) -> Result<()> {
     let endpoints = register_all(alloc, zone, sizes.endpoints)?;
     open_calls(alloc, zone, &endpoints, sizes.calls)?;
     let kept = endpoints.len().saturating_add(sizes.calls);
-    keep_replies(alloc, zone, &endpoints, sizes.replies.saturating_sub(kept))?;
-    Ok(endpoints)
+    keep_replies(alloc, zone, &endpoints, sizes.replies.saturating_sub(kept))
 }
 
 /// The time of one copy, without that of letting it go.
@@ -91,7 +90,7 @@ fn fill_and_print(
     zone: &mut Zone<FixedPool>,
     sizes: Sizes,
 ) -> Result<()> {
-    let _endpoints = fill(alloc, zone, sizes)?;
+    fill(alloc, zone, sizes)?;
     print_copies(rt, zone)
 }
 

@@ -2,7 +2,7 @@
 
 ghost use Rattle.std.specs.Prelude.{◌≡◌, IfOk};
 ghost use Rattle.std.specs.Option.{option_copied};
-ghost use Rattle.kept_replies.specs.Kept.{reply_in, is_over, is_retry, named_by, identifier_in};
+ghost use Rattle.kept_replies.specs.Kept.{reply_in, is_over, is_retry, named_by};
 
 use ras_module::{EndpointId, Reply, Request};
 use std::alloc::AllocError;
@@ -94,7 +94,10 @@ impl KeptEntry {
     pub fn identifier(&self) -> Option<&EndpointId>
         ensures { option_copied result ≡ named_by self.now }
     {
-        identifier_in(self.state.reply())
+        match self.state.reply() {
+            Reply::Rcf { endpoint, .. } => Some(endpoint),
+            _ => None,
+        }
     }
 
     /// An equal entry.
@@ -105,15 +108,5 @@ impl KeptEntry {
             born: self.born,
             state: self.state.copy()?,
         })
-    }
-}
-
-/// The identifier that a reply tells an endpoint, where it is a RegistrationConfirm.
-pub(crate) fn identifier_in(reply: &Reply) -> Option<&EndpointId>
-    ensures { option_copied result ≡ identifier_in reply.now }
-{
-    match reply {
-        Reply::Rcf { endpoint, .. } => Some(endpoint),
-        _ => None,
     }
 }

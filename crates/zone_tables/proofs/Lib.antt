@@ -1,6 +1,5 @@
 pub mod Answered
 pub mod Agreeing
-pub mod OwnAliases
 pub mod Fitting
 pub mod Members
 pub mod OnePool
