@@ -3,3 +3,6 @@ pub mod StoredCalls
 pub mod Leaving
 pub mod Soundness
 pub mod Deciding
+pub mod KeptSums
+pub mod KeptLegs
+pub mod CountedCalls

@@ -22,6 +22,7 @@ use Rattle.admission.specs.Calls.{in_use_of, legs_in, has_leg, leg_count, legs_o
 use Rattle.admission.specs.Calls.{new_call, with_leg, with_units, after_leave}
 use Rattle.admission.specs.Legs.{leg_of, without_leg, has_other}
 use Rattle.admission.specs.inside.Stored.{with_legs_but}
+use Rattle.admission.specs.inside.LegCounts.{one_if_same}
 use Rattle.admission.proofs.Leaving.{after_leave-other, after_leave-last}
 use Rattle.admission.proofs.LegLemmas.{none_left}
 use Rattle.admission.proofs.StoredCalls.{EachCall-insert, EachCall-remove, none_from}
@@ -146,10 +147,6 @@ has_leg_in legs x = is_some (leg_of legs x)
 abbrev is_of : List ℕ → Leg → Bool
 is_of x leg = pointwise nat_eq leg.endpoint x
 
--- one where the two endpoints are the same
-abbrev pub one_if_same : List ℕ → List ℕ → ℕ
-one_if_same a b = count (pointwise nat_eq a b)
-
 -- what is the one endpoint and not the other
 other_than : (a b x : List ℕ) → a ≡ x → pointwise nat_eq a b ≡ false → pointwise nat_eq b x ≡ false
 other_than a b x e h = false_from_ne_true (pointwise nat_eq b x)
@@ -225,6 +222,31 @@ has-leave legs e x has = cases (pointwise nat_eq e x) refl where
 
 -- the legs of an endpoint x
 module _ (calls : OpenCalls) (key : CallKey) (x : List ℕ) where
+  pub legs_of-open : (pool units : ℕ) (leg : Leg) → fin.get calls key ≡ None
+      → legs_of (fin.insert calls key (new_call pool units leg)) x
+      ≡ legs_of calls x + one_if_same leg.endpoint x
+  legs_of-open pool units leg absent =
+      omega (
+        arith,
+        total-open (leg_count x) calls key (new_call pool units leg) absent,
+        ap count (one_found (is_of x leg) leg),
+      )
+
+  pub legs_of-join : (call : Call) (leg : Leg) → fin.get calls key ≡ Some call
+      → leg_of call.legs leg.endpoint ≡ None
+      → legs_of (update calls key (with_leg leg)) x ≡ legs_of calls x + one_if_same leg.endpoint x
+  legs_of-join call leg there none =
+      omega (
+        arith,
+        total-update (leg_count x) calls key call (with_leg leg) there,
+        has-push call.legs leg x none,
+      )
+
+  pub legs_of-set_units : (call : Call) (units : ℕ) → fin.get calls key ≡ Some call
+      → legs_of (update calls key (with_units units)) x ≡ legs_of calls x
+  legs_of-set_units call units there =
+      total-kept (leg_count x) calls key call (with_units units) there refl
+
   pub legs_of-leave : (call : Call) (endpoint : List ℕ) → fin.get calls key ≡ Some call
       → has_leg endpoint call ≡ true
       → legs_of (after_leave calls key endpoint) x + one_if_same endpoint x ≡ legs_of calls x
@@ -246,6 +268,18 @@ module _ (calls : OpenCalls) (key : CallKey) (x : List ℕ) where
           has-leave call.legs endpoint x has,
           none,
         )
+
+-- an endpoint has no more legs than there are calls
+pub legs_of-few : (calls : OpenCalls) (x : List ℕ) → legs_of calls x ≤ fin.len calls
+legs_of-few calls x =
+    omega (
+      arith,
+      total_le call_key_cmp_total call_key_cmp-IsAntisymmetric (leg_count x) 1 calls
+          (λ key call there. at_most_one (has_leg x call)),
+    ) where
+      at_most_one : (b : Bool) → count b ≤ 1
+      at_most_one true = omega arith
+      at_most_one false = omega arith
 
 zero_count : (b : Bool) → count b ≤ 0 → b ≡ false
 zero_count true h = absurd (omega arith)

@@ -1,5 +1,5 @@
 -- What a change of one call does to the stored calls.
-use Rattle.std.proofs.Common.{◌≡◌, ◌≢◌, ℕ, rules, ◌+◌, ◌-◌, ◌*◌, ◌^◌, ◌<◌, ◌≤◌, List, length, refl}
+use Rattle.std.proofs.Common.{◌≡◌, ◌≢◌, ℕ, rules, ◌+◌, ◌-◌, ◌*◌, ◌^◌, ◌<◌, ◌≤◌, ◌↔◌, List, length, refl}
 use Rattle.std.proofs.Common.{sym, ◌∙◌, ap, subst, Some, None, arith}
 use Rattle.std.specs.Prelude.{Option, MatchOption, IsSome, slice_get, Bool, true, false, nat_eq}
 use Rattle.std.specs.Prelude.{is_some, if◌then◌else◌}
@@ -150,6 +150,31 @@ IsConsistent-stored calls most t s view = subst IsConsistent view (record {
   most = s.most_few;
 })
 
+-- the calls after a change of one that is stored
+module _ {S : Type 0} (old new : IndexMap CallKey Call S) (key : CallKey) where
+  pub calls_put : (call : Call) → hash.Updates same_call_key old new key (Some call)
+      → open_of new ≡ fin.insert (open_of old) key call
+  calls_put call u = entries_insert call_key_decides call_key_cmp_total call_key_cmp-IsAntisymmetric
+      old new key call u
+
+  pub calls_removed : hash.Updates same_call_key old new key None
+      → open_of new ≡ fin.remove (open_of old) key
+  calls_removed u = entries_remove call_key_decides call_key_cmp_total call_key_cmp-IsAntisymmetric
+      old new key u
+
+  pub calls_rewritten : (change : Call → Call) → Rewrites change old new key → (call : Call)
+      → fin.get (open_of old) key ≡ Some call
+      → open_of new ≡ fin.insert (open_of old) key (change call)
+  calls_rewritten change r call there =
+      calls_put (change call) (r.updates call (get_call old key ∙ there))
+
+  pub calls_updated : (change : Call → Call) → Rewrites change old new key → (call : Call)
+      → fin.get (open_of old) key ≡ Some call → open_of new ≡ update (open_of old) key change
+  calls_updated change r call there =
+      calls_rewritten change r call there
+      ∙ sym (maps.update_there call_key_cmp_total call_key_cmp-IsAntisymmetric
+      (open_of old) key call change there)
+
 module _ {S : Type 0} (old new : IndexMap CallKey Call S) (key : CallKey) (most : ℕ) (t : CallTable)
     (view : table_of old most ≡ t) where
   pub stored_call : (call : Call) → Some call ≡ fin.get t.calls key
@@ -293,3 +318,12 @@ len_stored calls most t s view =
     ap (λ u. fin.len u.calls) (sym view)
     ∙ len_entries call_key_decides call_key_cmp_total
     call_key_cmp-IsAntisymmetric calls.entries s.apart
+
+-- the table is full just where as many calls are stored as there may be
+pub full_stored : {S : Type 0} (calls : IndexMap CallKey Call S) (most : ℕ) (t : CallTable)
+    → AreStored calls most → table_of calls most ≡ t
+    → (fin.len t.calls ≡ t.most) ↔ (length calls.entries ≡ most)
+full_stored calls most t s view =
+    let len_is = len_stored calls most t s view in
+    let most_is : most ≡ t.most = ap (λ u. u.most) view in
+    (λ e. sym len_is ∙ (e ∙ sym most_is), λ e. len_is ∙ (e ∙ most_is))

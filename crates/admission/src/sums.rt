@@ -4,19 +4,11 @@ ghost use Rattle.std.specs.Prelude.{◌≡◌, ◌≤◌, length};
 ghost use Rattle.std.specs.List.{sum_by, find};
 ghost use Rattle.std.specs.Option.{option_map};
 ghost use Rattle.indexmap.specs.IndexMap.{values};
-ghost use Rattle.admission.specs.Calls.{units_of, units_from, leg_count, has_leg};
+ghost use Rattle.admission.specs.Calls.{units_from, leg_count, has_leg};
 
 use crate::call::Call;
 use indexmap::IndexMap;
 use ras_module::{CallKey, EndpointId};
-
-/// The units of all the calls.
-pub(crate) fn units_in(calls: &IndexMap<CallKey, Call>) -> u64
-    requires { length calls.now.entries ≤ 20000 }
-    ensures { result ≡ sum_by units_of (values calls.now) }
-{
-    calls.values().map(|call| u64::from(call.units)).sum()
-}
 
 /// The units of the calls of one pool.
 pub(crate) fn units_of_pool(calls: &IndexMap<CallKey, Call>, pool: usize) -> u64

@@ -15,9 +15,11 @@ use crate::call::Call;
 use crate::call_list::{CallList, rising};
 use crate::copies::copies_of;
 use crate::fault::CallFault;
+use crate::in_use::InUse;
 use crate::leg::Leg;
+use crate::leg_counts::LegCounts;
 use crate::legs::Legs;
-use crate::sums::{call_in, legs_with, units_in, units_of_pool};
+use crate::sums::{call_in, legs_with, units_of_pool};
 use indexmap::IndexMap;
 use ras_module::{CallKey, EndpointId};
 use std::alloc::{AllocError, Global};
@@ -35,6 +37,9 @@ pub struct Left {
 pub struct Calls {
     calls: IndexMap<CallKey, Call>,
     most: usize,
+    // what the calls use, and how many legs each endpoint has: changed with the calls
+    in_use: InUse,
+    leg_counts: LegCounts,
 }
 
 impl Model for Calls {
@@ -43,6 +48,7 @@ impl Model for Calls {
     ghost use Rattle.indexmap.specs.IndexMap.{spare};
     ghost use Rattle.admission.specs.Calls.{CallTable, open_calls_of};
     ghost use Rattle.admission.specs.inside.Stored.{AreStored};
+    ghost use Rattle.admission.specs.inside.Counted.{AreCounted};
 
     ghost Value = { CallTable };
 
@@ -54,7 +60,7 @@ impl Model for Calls {
       room = spare t.calls;
     } };
 
-    ghost invariant = { λ t. AreStored t.calls t.most };
+    ghost invariant = { λ t. AreCounted t.calls t.most t.in_use t.leg_counts };
 }
 
 impl Calls {
@@ -69,6 +75,8 @@ impl Calls {
         Calls {
             calls: IndexMap::new(alloc),
             most,
+            in_use: InUse::none(),
+            leg_counts: LegCounts::new(alloc),
         }
     }
 
@@ -81,6 +89,8 @@ impl Calls {
         Ok(Calls {
             calls,
             most: self.most,
+            in_use: self.in_use,
+            leg_counts: self.leg_counts.copy()?,
         })
     }
 
@@ -136,6 +146,9 @@ impl Calls {
         ensures { MatchOption result (IsInNoCall self.now.calls endpoint.now)
             (λ key. IsSome (leg_at self.now.calls key endpoint.now)) }
     {
+        if self.leg_counts.of(endpoint) == Some(0) {
+            return None;
+        }
         call_in(&self.calls, endpoint)
     }
 
@@ -143,7 +156,10 @@ impl Calls {
     pub fn legs_of(&self, endpoint: &EndpointId) -> usize
         ensures { result ≡ legs_of self.now.calls endpoint.now }
     {
-        legs_with(&self.calls, endpoint)
+        match self.leg_counts.of(endpoint) {
+            Some(count) => count,
+            None => legs_with(&self.calls, endpoint),
+        }
     }
 
     /// The units of all calls: the bandwidth in use.
@@ -151,7 +167,7 @@ impl Calls {
         ensures sum { result ≡ in_use self.now.calls }
         ensures bound { result < 2 ^ 47 }
     {
-        units_in(&self.calls)
+        self.in_use.total
     }
 
     /// The units of the calls of one pool.
@@ -159,7 +175,10 @@ impl Calls {
         ensures sum { result ≡ in_use_of self.now.calls pool }
         ensures bound { result < 2 ^ 47 }
     {
-        units_of_pool(&self.calls, pool)
+        match self.in_use.of_pool(pool) {
+            Some(units) => *units,
+            None => units_of_pool(&self.calls, pool),
+        }
     }
 
     /// Copies, by rising key.
@@ -178,7 +197,10 @@ impl Calls {
         ensures room { self.old.room ≤ self.new.room }
         ensures succeeds { more ≤ self.old.room → IsOk result }
     {
-        self.calls.reserve(more)
+        self.calls.reserve(more)?;
+        self.leg_counts
+            .reserve(self.calls.len().saturating_add(more));
+        Ok(())
     }
 
     /// Opens a call with its first leg. Nothing is changed where as many are open as may be, and for
@@ -202,7 +224,12 @@ impl Calls {
             legs: Legs::one(leg),
         };
         match self.calls.insert(key, call) {
-            Ok(_) => Ok(()),
+            Ok(_) => {
+                self.in_use.add(pool, units);
+                self.leg_counts.reserve(self.calls.len());
+                self.leg_counts.come(&leg.endpoint);
+                Ok(())
+            }
             Err(_) => Err(CallFault::Memory),
         }
     }
@@ -227,6 +254,7 @@ impl Calls {
             return Err(CallFault::TwoLegs);
         }
         write_leg(&mut self.calls, &key, leg);
+        self.leg_counts.come(&leg.endpoint);
         Ok(())
     }
 
@@ -241,10 +269,13 @@ impl Calls {
         ensures memory { result ≢ Err CallFault.Memory }
         ensures err { OnErr result (self.new ≡ self.old) }
     {
-        let Some(_call) = self.get(key) else {
+        let Some(call) = self.get(key) else {
             return Err(CallFault::NoCall);
         };
+        let (pool, before) = (call.pool, call.units);
         write_units(&mut self.calls, key, units);
+        self.in_use.take(pool, before);
+        self.in_use.add(pool, units);
         Ok(())
     }
 
@@ -270,11 +301,17 @@ impl Calls {
         }
         if call.legs.has_other(endpoint) {
             write_without(&mut self.calls, key, endpoint);
+            self.leg_counts.go(endpoint);
             return Ok(Left { ended: None });
         }
-        let ended = Some((call.pool, call.units));
+        let (pool, units) = (call.pool, call.units);
         self.calls.swap_remove(key);
-        Ok(Left { ended })
+        self.in_use.take(pool, units);
+        self.leg_counts.go(endpoint);
+        self.leg_counts.calls_left(self.calls.len());
+        Ok(Left {
+            ended: Some((pool, units)),
+        })
     }
 }
 

@@ -16,7 +16,7 @@ use Rattle.ras_module.specs.Same.{texts_decide}
 use Rattle.ras_module.proofs.AliasOrder.{alias_cmp_total, alias_cmp-IsAntisymmetric}
 use Rattle.aliases.specs.declared.fault.SetFault.{SetFault}
 use Rattle.aliases.specs.declared.fault.SetFault.TheVariants.{Duplicate, Memory}
-use Rattle.aliases.proofs.Rows.{not_by_another}
+use Rattle.aliases.proofs.StoredAliases.{not_by_another}
 use Rattle.aliases.specs.Held.{Held, Holding, IsHeldByAnother, holding_by, with_alias, with_aliases}
 use Rattle.aliases.specs.Held.{without_holder}
 

@@ -1,9 +1,9 @@
 -- The aliases that the endpoints of a zone hold, as a finite map.
 use Rattle.std.specs.Prelude.{◌≡◌, ◌≢◌, ◌≤◌, ℕ, Bool, false, not, nat_eq, List, [], ◌∷◌, Option}
-use Rattle.std.specs.Prelude.{Some, None, filter}
+use Rattle.std.specs.Prelude.{Some, None, filter, if◌then◌else◌}
 use Rattle.std.specs.Option.{option_map, IsSomeAnd}
 use Rattle.std.specs.Cmp.Lexicographic.{pointwise}
-use Rattle.std.specs.FinMap.{FinMap, get, insert}
+use Rattle.std.specs.FinMap.{FinMap, get, insert, remove}
 use Rattle.keyed.specs.Maps.{retain_values}
 use Rattle.ras_module.specs.declared.address.Address.{Address}
 use Rattle.ras_module.specs.declared.alias.Alias.{Alias}
@@ -43,6 +43,21 @@ conflicts held address aliases = filter (λ alias. is_elsewhere address (get hel
 -- the aliases that others than this endpoint hold
 abbrev pub without_holder : Held → List ℕ → Held
 without_holder held id = retain_values held (λ h. not (pointwise nat_eq h.holder id))
+
+-- this endpoint holds the alias
+abbrev pub is_held_by : List ℕ → Option Holding → Bool
+is_held_by id None = false
+is_held_by id (Some h) = pointwise nat_eq h.holder id
+
+-- this endpoint holds the alias no more, and whoever else holds it still does
+abbrev pub without_alias : Held → Alias → List ℕ → Held
+without_alias held alias id = if is_held_by id (get held alias) then remove held alias else held
+
+-- so it is with each alias of the list
+abbrev pub without_aliases : Held → List Alias → List ℕ → Held
+without_aliases held [] id = held
+without_aliases held (alias ∷ aliases) id =
+    without_aliases (without_alias held alias id) aliases id
 
 abbrev pub holding_by : List ℕ → Address → Holding
 holding_by id address = record { holder = id; address = address }

@@ -2,6 +2,7 @@
 #![tactic(auto)]
 
 mod fault;
+mod holder;
 mod table;
 
 pub use fault::SetFault;

@@ -1,53 +1,42 @@
 //! The table of the aliases.
 
-ghost use Rattle.std.specs.Prelude.{◌≡◌, ◌≢◌, ◌≤◌, ◌<◌, ◌+◌, ◌↔◌, None, Some, Err, IsOk, IfOk, IfErr, OnOk, OnErr, MatchOption, position, nat_eq, length, Contains};
+ghost use Rattle.std.specs.Prelude.{◌≡◌, ◌≢◌, ◌≤◌, ◌<◌, ◌+◌, ◌↔◌, Some, Err, IsOk, IfOk, IfErr, OnOk, OnErr, length, Contains};
+ghost use Rattle.std.specs.Prelude.{not, nat_eq};
+ghost use Rattle.std.specs.Cmp.Lexicographic.{pointwise};
 ghost use Rattle.ras_module.specs.declared.alias.Alias.{Alias};
-ghost use Rattle.std.specs.List.{find};
 ghost use Rattle.std.specs.Option.{option_copied};
 ghost use Rattle.std.specs.FinMap as map;
-ghost use Rattle.keyed.specs.Places.{IsPlaceOf};
-ghost use Rattle.ras_module.specs.Aliases.{same_alias};
-ghost use Rattle.aliases.specs.Held.{holder_of, conflicts, is_elsewhere, without_holder, with_alias, with_aliases, IsHeldByAnother, Becomes};
-ghost use Rattle.aliases.specs.inside.Stored.{alias_of, held_in};
+ghost use Rattle.aliases.specs.Held.{holder_of, conflicts, is_elsewhere, is_held_by, without_holder, without_alias, without_aliases, with_alias, with_aliases, IsHeldByAnother, Becomes};
+ghost use Rattle.aliases.specs.inside.Stored.{OthersLeft};
 
 use crate::fault::SetFault;
+use crate::holder::Holder;
+use indexmap::IndexMap;
 use ras_module::{Address, Alias, AliasList, EndpointId};
 use std::alloc::{AllocError, Global};
 use std::marker::Model;
 
-/// Who holds an alias.
-#[derive(Clone, Copy)]
-struct Row {
-    alias: Alias,
-    holder: EndpointId,
-    address: Address,
-}
-
 /// Who holds each alias, with the call signal address of its holder. Contracts see a finite map.
 #[derive(Drop)]
 pub struct AliasTable {
-    rows: Vec<Row>,
+    rows: IndexMap<Alias, Holder>,
 }
 
 impl Model for AliasTable {
-    ghost use Rattle.std.specs.Prelude.{◌-◌, vec_capacity, vec_len};
     ghost use Rattle.std.specs.Coded.{codes};
     ghost use Rattle.std.specs.FinMap as map;
+    ghost use Rattle.indexmap.specs.IndexMap.{spare};
     ghost use Rattle.keyed.specs.Places.{AreApart, row_in};
     ghost use Rattle.aliases.specs.Held.{HeldAliases};
+    ghost use Rattle.aliases.specs.inside.Stored.{key_of, held_of};
 
     ghost Value = { HeldAliases };
 
     ghost coded = { Prim.hlevel (codes, map.code) };
 
-    ghost use Rattle.aliases.specs.inside.Stored.{alias_of, held_in};
+    ghost view = { λ t. record { held = held_of t.rows.entries; room = spare t.rows } };
 
-    ghost view = { λ t. record {
-      held = held_in t.rows.items;
-      room = vec_capacity t.rows - vec_len t.rows;
-    } };
-
-    ghost invariant = { λ t. AreApart alias_of (row_in t.rows.items) };
+    ghost invariant = { λ t. AreApart key_of (row_in t.rows.entries) };
 }
 
 impl AliasTable {
@@ -56,7 +45,7 @@ impl AliasTable {
         ensures { result.held ≡ map.empty }
     {
         AliasTable {
-            rows: Vec::new(alloc),
+            rows: IndexMap::new(alloc),
         }
     }
 
@@ -64,7 +53,7 @@ impl AliasTable {
     pub fn copy(&self) -> Result<Self, AllocError>
         ensures { IfOk result (λ copy. copy.held ≡ self.now.held) }
     {
-        let rows = Vec::from_slice(*self.rows.allocator(), &self.rows)?;
+        let rows = self.rows.clone()?;
         Ok(AliasTable { rows })
     }
 
@@ -72,8 +61,13 @@ impl AliasTable {
     pub fn holder(&self, alias: &Alias) -> Option<&EndpointId>
         ensures { option_copied result ≡ holder_of self.now.held alias.now }
     {
-        let row = row_of(&self.rows, alias)?;
-        Some(&row.holder)
+        Some(self.row(alias)?.id())
+    }
+
+    fn row(&self, alias: &Alias) -> Option<&Holder>
+        ensures { option_copied result ≡ map.get self.now.held alias.now }
+    {
+        self.rows.get(alias)
     }
 
     /// Those of the aliases that an endpoint with another call signal address holds, in their order
@@ -94,9 +88,19 @@ impl AliasTable {
     fn is_elsewhere(&self, alias: &Alias, address: Address) -> bool
         ensures { result ≡ is_elsewhere address (map.get self.now.held alias.now) }
     {
-        match row_of(&self.rows, alias) {
+        match self.row(alias) {
             None => false,
-            Some(row) => row.address != address,
+            Some(row) => row.address() != address,
+        }
+    }
+
+    /// Whether this endpoint holds the alias.
+    fn is_held_by(&self, alias: &Alias, holder: &EndpointId) -> bool
+        ensures { result ≡ is_held_by holder.now (map.get self.now.held alias.now) }
+    {
+        match self.row(alias) {
+            None => false,
+            Some(row) => *row.id() == *holder,
         }
     }
 
@@ -128,20 +132,14 @@ impl AliasTable {
         ensures alias { IfErr result (λ e. e.0 ≡ alias) }
         ensures err { OnErr result (Becomes self.old self.new self.old.held) }
     {
-        if let Some(place) = place_of(&self.rows, &alias) {
-            if self.rows[place].holder != holder {
+        if let Some(row) = self.row(&alias) {
+            if *row.id() != holder {
                 return Err((alias, SetFault::Duplicate));
             }
-            self.rows[place].address = address;
-            return Ok(());
         }
-        let row = Row {
-            alias,
-            holder,
-            address,
-        };
-        match self.rows.push(row) {
-            Ok(()) => Ok(()),
+        let row = Holder::new(holder, address);
+        match self.rows.insert(alias, row) {
+            Ok(_) => Ok(()),
             Err(_) => Err((alias, SetFault::Memory)),
         }
     }
@@ -164,26 +162,38 @@ impl AliasTable {
     pub fn drop_holder(&mut self, holder: &EndpointId)
         ensures { Becomes self.old self.new (without_holder self.old.held holder.now) }
     {
-        self.rows.retain(|row| row.holder != *holder);
+        retain_others(&mut self.rows, holder);
+    }
+
+    /// Takes out each of these aliases that this endpoint holds, in time that grows with the length
+    /// of the list alone.
+    pub fn drop_all(&mut self, aliases: &[Alias], holder: &EndpointId)
+        ensures { Becomes self.old self.new
+            (without_aliases self.old.held aliases.now holder.now) }
+    {
+        for alias in aliases {
+            self.drop_one(alias, holder);
+        }
+    }
+
+    /// Takes out an alias, where this endpoint holds it.
+    fn drop_one(&mut self, alias: &Alias, holder: &EndpointId)
+        ensures { Becomes self.old self.new (without_alias self.old.held alias.now holder.now) }
+    {
+        if self.is_held_by(alias, holder) {
+            self.rows.swap_remove(alias);
+        }
     }
 }
 
-fn row_of<'a>(rows: &'a [Row], alias: &Alias) -> Option<&'a Row>
-    ensures { option_copied result ≡ find (λ r. same_alias r.alias alias.now) rows.now }
+/// Keeps the rows of all other endpoints.
+fn retain_others(rows: &mut IndexMap<Alias, Holder>, holder: &EndpointId)
+    ensures { OthersLeft rows.old rows.new holder.now }
 {
-    rows.iter().find(|row| row.alias == *alias)
-}
-
-fn index_of(rows: &[Row], alias: &Alias) -> Option<usize>
-    ensures { result ≡ position (λ r. same_alias r.alias alias.now) rows.now }
-{
-    rows.iter().position(|row| row.alias == *alias)
-}
-
-/// Where the row of the alias stands.
-fn place_of(rows: &[Row], alias: &Alias) -> Option<usize>
-    ensures { MatchOption result (map.get (held_in rows.now) alias.now ≡ None)
-        (IsPlaceOf alias_of alias.now rows.now) }
-{
-    index_of(rows, alias)
+    rows.retain(
+        |_alias: &Alias, row: &mut Holder| -> bool
+            ensures { (result ≡ not (pointwise nat_eq row.old.holder holder.entry.now))
+                × (row.new ≡ row.old) }
+        { *row.id() != *holder },
+    );
 }

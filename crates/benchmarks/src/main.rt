@@ -5,6 +5,7 @@ mod replays;
 mod requests;
 mod servers;
 mod snapshots;
+mod steps;
 mod zones;
 
 use anyhow::{Context, Result, bail};
@@ -17,7 +18,7 @@ use std::thread::Threads;
 use std::time::Clock;
 
 const USAGE: &str = "usage: benchmarks replays [ENDPOINTS STEPS] | serve DATAGRAMS | \
-    snapshot ENDPOINTS CALLS REPLIES";
+    snapshot ENDPOINTS CALLS REPLIES | steps ENDPOINTS CALLS REPLIES";
 
 /// Measures what the command line names, and prints what it finds. Without a word it does nothing.
 fn main(rt: HostRuntime) -> Result<()> {
@@ -44,16 +45,19 @@ fn chosen<R: Threads + Wait + Clock + Files + Print + Sync>(
             servers::measure(rt, alloc, datagrams)
         }
         [_, name, endpoints, calls, replies] if name.as_str() == "snapshot" => {
-            let endpoints = endpoints.parse::<usize>().context("ENDPOINTS")?;
-            let calls = calls.parse::<usize>().context("CALLS")?;
-            let replies = replies.parse::<usize>().context("REPLIES")?;
-            let sizes = Sizes {
-                endpoints,
-                calls,
-                replies,
-            };
-            snapshots::measure(rt, alloc, sizes)
+            snapshots::measure(rt, alloc, sizes_of(endpoints, calls, replies)?)
+        }
+        [_, name, endpoints, calls, replies] if name.as_str() == "steps" => {
+            steps::measure(rt, alloc, sizes_of(endpoints, calls, replies)?)
         }
         _ => bail!("{USAGE}"),
     }
+}
+
+fn sizes_of(endpoints: &String, calls: &String, replies: &String) -> Result<Sizes> {
+    Ok(Sizes {
+        endpoints: endpoints.parse::<usize>().context("ENDPOINTS")?,
+        calls: calls.parse::<usize>().context("CALLS")?,
+        replies: replies.parse::<usize>().context("REPLIES")?,
+    })
 }

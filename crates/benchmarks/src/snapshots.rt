@@ -59,12 +59,13 @@ fn keep_replies(
     Ok(())
 }
 
-/// Fills the tables of the zone.
-fn fill(alloc: Global, zone: &mut Zone<FixedPool>, sizes: Sizes) -> Result<()> {
+/// Fills the tables of the zone, and returns its endpoints.
+pub fn fill(alloc: Global, zone: &mut Zone<FixedPool>, sizes: Sizes) -> Result<Vec<Endpoint>> {
     let endpoints = register_all(alloc, zone, sizes.endpoints)?;
     open_calls(alloc, zone, &endpoints, sizes.calls)?;
     let kept = endpoints.len().saturating_add(sizes.calls);
-    keep_replies(alloc, zone, &endpoints, sizes.replies.saturating_sub(kept))
+    keep_replies(alloc, zone, &endpoints, sizes.replies.saturating_sub(kept))?;
+    Ok(endpoints)
 }
 
 /// The time of one copy, without that of letting it go.
@@ -90,7 +91,7 @@ fn fill_and_print(
     zone: &mut Zone<FixedPool>,
     sizes: Sizes,
 ) -> Result<()> {
-    fill(alloc, zone, sizes)?;
+    let _endpoints = fill(alloc, zone, sizes)?;
     print_copies(rt, zone)
 }
 

@@ -1,17 +1,41 @@
--- The exit status of each fault of serving.
-use Rattle.std.specs.Prelude.{ℕ}
-use Rattle.gatekeeper.specs.Inputs.{input_status}
+-- What serving answers and writes, and the exit status of each of its faults.
+use Rattle.std.specs.Prelude.{ℕ, ◌≡◌, List, Result, Ok, Err, IsTrue}
+use Rattle.script.specs.Streams.{OutputState}
+use Rattle.gatekeeper.specs.Inputs.{GivesSettings, IsInputRead, input_status}
+use Rattle.gatekeeper.specs.declared.serving_fault.RunningFault.{RunningFault}
+use Rattle.gatekeeper.specs.declared.serving_fault.RunningFault.TheVariants.{Bind, Memory}
+use Rattle.gatekeeper.specs.declared.serving_fault.RunningFault.TheVariants.{WrongPools, NotFinished}
+use Rattle.gatekeeper.specs.declared.serving_fault.RunningFault.TheVariants.{Stream}
 use Rattle.gatekeeper.specs.declared.serving_fault.ServingFault.{ServingFault}
-use Rattle.gatekeeper.specs.declared.serving_fault.ServingFault.TheVariants.{Settings, Bind}
-use Rattle.gatekeeper.specs.declared.serving_fault.ServingFault.TheVariants.{Memory, WrongPools}
-use Rattle.gatekeeper.specs.declared.serving_fault.ServingFault.TheVariants.{NotFinished, Stream}
+use Rattle.gatekeeper.specs.declared.serving_fault.ServingFault.TheVariants.{Settings, Running}
 
--- 1: the settings are refused, or the zone didn't come back; 3: no memory; 4: the socket couldn't be
--- made, or a stream failed
+-- 1: the zone couldn't be made, or didn't come back; 3: no memory; 4: the socket couldn't be made, or
+-- a stream failed
+abbrev pub running_status : RunningFault → ℕ
+running_status (Bind fault) = 4
+running_status Memory = 3
+running_status WrongPools = 1
+running_status NotFinished = 1
+running_status Stream = 4
+
 abbrev pub serve_status : ServingFault → ℕ
 serve_status (Settings fault) = input_status fault
-serve_status (Bind fault) = 4
-serve_status Memory = 3
-serve_status WrongPools = 1
-serve_status NotFinished = 1
-serve_status Stream = 4
+serve_status (Running fault) = running_status fault
+
+-- only a zone of settings that the octets give is served; else the fault is that of reading them
+abbrev pub AreServed : {A : Type 0} → List ℕ → Result A ServingFault → Type 0
+AreServed octets (Ok done) = GivesSettings octets
+AreServed octets (Err (Settings fault)) = IsInputRead octets (Err fault)
+AreServed octets (Err (Running fault)) = GivesSettings octets
+
+-- the report was flushed; if there is none, nothing was written
+abbrev pub IsReportWritten : {A : Type 0} → OutputState → OutputState → Result A RunningFault → Type 0
+IsReportWritten old new (Ok done) = IsTrue new.flushed
+IsReportWritten old new (Err Stream) = Unit {0}
+IsReportWritten old new (Err fault) = new ≡ old
+
+-- so it is of the whole, and of settings that are refused nothing is written
+abbrev pub IsServiceWritten : {A : Type 0} → OutputState → OutputState → Result A ServingFault → Type 0
+IsServiceWritten old new (Ok done) = IsTrue new.flushed
+IsServiceWritten old new (Err (Settings fault)) = new ≡ old
+IsServiceWritten {A} old new (Err (Running fault)) = IsReportWritten {A = A} old new (Err fault)

@@ -1,18 +1,20 @@
 //! Serving a zone over UDP.
 
-ghost use Rattle.std.specs.Prelude.{◌≤◌};
+ghost use Rattle.std.specs.Prelude.{◌≤◌, IfSome};
+ghost use Rattle.gatekeeper.specs.Serves.{AreServed, IsReportWritten, IsServiceWritten};
 ghost use Rattle.settings.specs.Ranges.{AreServeNumbers};
+ghost use Rattle.settings.specs.Settings.{AreSettings};
 ghost use Rattle.udp_server.specs.Plans.{IsPlan};
 
 use crate::boxed_pools::pools_of;
 use crate::report::{has_faults, print_report};
-use crate::serving_fault::ServingFault;
+use crate::serving_fault::{RunningFault, ServingFault};
 use crate::settings_input::{PassedOver, ReadInput, read_input};
 use crate::stopwatch::Stopwatch;
 use log::{Log, info, warn};
-use pools::{Pool, PoolSet};
+use pools::{Pool, PoolSet, PoolSpec};
 use ras_core::{Config, NewFault, Zone};
-use ras_module::Name;
+use ras_module::{Address, Name};
 use script::Output;
 use settings::Settings;
 use std::alloc::{AllocError, Global};
@@ -44,11 +46,12 @@ impl fmt::Display for Shown<'_> {
 }
 
 /// What is set for the server besides its zone: how many threads receive, how often each of them
-/// receives, if that is limited, and the plan.
+/// receives, if that is limited, the buffer to ask for, in octets, and the plan.
 #[derive(Clone, Copy)]
 struct Service {
     receivers: usize,
     receives: Option<u64>,
+    buffer: u64,
     plan: Plan,
 }
 
@@ -62,6 +65,7 @@ impl Service {
         Service {
             receivers: settings.receivers,
             receives,
+            buffer: settings.buffer,
             plan: Plan {
                 ring: settings.ring,
                 faults: settings.faults,
@@ -95,14 +99,14 @@ fn ask_for_buffer<R: Log>(rt: &R, socket: &BoundSocket, octets: u64) {
 }
 
 /// The zone that is set, with its pools.
-fn zone_of<P: Pool>(alloc: Global, config: Config, pools: Vec<P>) -> Result<Zone<P>, ServingFault> {
+fn zone_of<P: Pool>(alloc: Global, config: Config, pools: Vec<P>) -> Result<Zone<P>, RunningFault> {
     let Ok(set) = PoolSet::new(pools) else {
-        return Err(ServingFault::WrongPools);
+        return Err(RunningFault::WrongPools);
     };
     match Zone::new(alloc, config, set) {
         Ok(zone) => Ok(zone),
-        Err((_, NewFault::WrongPools)) => Err(ServingFault::WrongPools),
-        Err((_, NewFault::Memory)) => Err(ServingFault::Memory),
+        Err((_, NewFault::WrongPools)) => Err(RunningFault::WrongPools),
+        Err((_, NewFault::Memory)) => Err(RunningFault::Memory),
     }
 }
 
@@ -143,7 +147,7 @@ fn serve_socket<P: Pool + Send, R: Threads + Wait + Clock + Sync, S: Stop + Sync
     socket: &BoundSocket,
     service: Service,
     stop: &S,
-) -> Result<Report<P>, ServingFault>
+) -> Result<Report<P>, RunningFault>
     requires receivers { service.receivers ≤ 15 }
     requires plan { IsPlan service.plan }
 {
@@ -155,22 +159,36 @@ fn serve_socket<P: Pool + Send, R: Threads + Wait + Clock + Sync, S: Stop + Sync
     Ok(report)
 }
 
-/// Serves the zone that is set with pools that were made for it, and prints the report.
+/// Tells which zone is served, where, and by how many receivers.
+fn tell_zone<R: Log>(rt: &R, name: &Name, address: Address, receivers: usize) {
+    let [a, b, c, d] = address.ip;
+    let port = address.port;
+    info!(rt; target: "serve", "serving zone {} on {a}.{b}.{c}.{d}:{port}, {receivers} receivers",
+        Shown(name));
+}
+
+/// Warns if anything that should have been done wasn't.
+fn warn_of_faults<P: Pool, R: Log>(rt: &R, report: &Report<P>) {
+    if has_faults(report) {
+        warn!(rt; target: "serve", dropped = report.dropped, refused = report.refused,
+            receive_faults = report.receive_faults, send_faults = report.send_faults;
+            "not everything was done");
+    }
+}
+
+/// Serves the zone that is set with pools that were made for it.
 fn serve_made<
     P: Pool + Send,
     R: Threads + Wait + Clock + Net + Log + Sync,
     S: Stop + Sync,
-    W: Write + Drop,
 >(
     rt: &R,
     alloc: Global,
     config: Config,
     pools: Vec<P>,
     service: Service,
-    buffer: u64,
     stop: &S,
-    out: &mut Output<W>,
-) -> Result<(), ServingFault>
+) -> Result<Report<P>, RunningFault>
     requires receivers { service.receivers ≤ 15 }
     requires plan { IsPlan service.plan }
 {
@@ -179,28 +197,67 @@ fn serve_made<
     let zone = zone_of(alloc, config, pools)?;
     let socket = match bind_zone(rt, address) {
         Ok(socket) => socket,
-        Err(fault) => return Err(ServingFault::Bind(fault)),
+        Err(fault) => return Err(RunningFault::Bind(fault)),
     };
-    ask_for_buffer(rt, &socket, buffer);
-    let [a, b, c, d] = address.ip;
-    let port = address.port;
-    info!(rt; target: "serve", "serving zone {} on {a}.{b}.{c}.{d}:{port}, {} receivers",
-        Shown(&name), service.receivers);
+    ask_for_buffer(rt, &socket, service.buffer);
+    tell_zone(rt, &name, address, service.receivers);
     let report = serve_socket(rt, alloc, zone, &socket, service, stop)?;
-    if has_faults(&report) {
-        warn!(rt; target: "serve", dropped = report.dropped, refused = report.refused,
-            receive_faults = report.receive_faults, send_faults = report.send_faults;
-            "not everything was done");
+    warn_of_faults(rt, &report);
+    Ok(report)
+}
+
+/// The pools of the settings, each in a box.
+fn boxes_of(alloc: Global, pools: &[PoolSpec]) -> Result<Vec<Box<dyn Pool + Send>>, AllocError> {
+    let mut boxes: Vec<Box<dyn Pool + Send>> = Vec::new(alloc);
+    for pool in pools_of(alloc, pools)? {
+        let boxed: Box<dyn Pool + Send> = Box::new(alloc, pool).map_err(AllocError::from)?;
+        boxes.push(boxed).map_err(AllocError::from)?;
     }
+    Ok(boxes)
+}
+
+/// Makes the pools of the settings, each in a box, serves their zone, and prints the report.
+fn serve_settings<
+    R: Threads + Wait + Clock + Net + Log + Sync,
+    S: Stop + Sync,
+    W: Write + Drop,
+>(
+    rt: &R,
+    alloc: Global,
+    settings: Settings,
+    receives: Option<u64>,
+    stop: &S,
+    out: &mut Output<W>,
+) -> Result<(), RunningFault>
+    requires { AreSettings settings }
+    ensures { IsReportWritten out.old out.new result }
+{
+    let service = Service::of(&settings, receives);
+    let Settings {
+        config,
+        pools,
+        receivers: _,
+        ring: _,
+        faults: _,
+        tick: _,
+        buffer: _,
+    } = settings;
+    let Ok(boxes) = boxes_of(alloc, pools.as_slice()) else {
+        return Err(RunningFault::Memory);
+    };
+    let report = match serve_made(rt, alloc, config, boxes, service, stop) {
+        Ok(report) => report,
+        Err(fault) => return Err(fault),
+    };
     match print_report(&report, out) {
         Ok(()) => Ok(()),
-        Err(_) => Err(ServingFault::Stream),
+        Err(_) => Err(RunningFault::Stream),
     }
 }
 
-/// Reads settings, makes their pools, each in a box, and serves their zone: each receiving thread until
-/// it received so often, if a number is given, and until it is told to stop. Then the report
-/// is printed.
+/// Reads settings, and serves their zone: each receiving thread until it received so often, if a number
+/// is given, and until it is told to stop. Then the report is printed. If there is none, nothing is
+/// written.
 pub fn serve<
     I: Read + Drop,
     R: Threads + Wait + Clock + Net + Log + Sync,
@@ -213,7 +270,10 @@ pub fn serve<
     receives: Option<u64>,
     stop: &S,
     out: &mut Output<W>,
-) -> Result<(), ServingFault> {
+) -> Result<(), ServingFault>
+    ensures settings { IfSome (I.remaining input) (λ octets. AreServed octets result) }
+    ensures written { IsServiceWritten out.old out.new result }
+{
     let ReadInput {
         settings,
         passed_over,
@@ -222,20 +282,8 @@ pub fn serve<
         Err(fault) => return Err(ServingFault::Settings(fault)),
     };
     warn_of(rt, &passed_over);
-    let service = Service::of(&settings, receives);
-    let Settings {
-        config,
-        pools,
-        receivers: _,
-        ring: _,
-        faults: _,
-        tick: _,
-        buffer,
-    } = settings;
-    let mut boxes: Vec<Box<dyn Pool + Send>> = Vec::new(alloc);
-    for pool in pools_of(alloc, pools.as_slice())? {
-        let boxed: Box<dyn Pool + Send> = Box::new(alloc, pool).map_err(AllocError::from)?;
-        boxes.push(boxed).map_err(AllocError::from)?;
+    match serve_settings(rt, alloc, settings, receives, stop, out) {
+        Ok(()) => Ok(()),
+        Err(fault) => Err(ServingFault::Running(fault)),
     }
-    serve_made(rt, alloc, config, boxes, service, buffer, stop, out)
 }

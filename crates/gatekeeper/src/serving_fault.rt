@@ -1,7 +1,7 @@
 //! Why serving ended without a report.
 
 ghost use Rattle.std.specs.Prelude.{◌≡◌};
-ghost use Rattle.gatekeeper.specs.Serves.{serve_status};
+ghost use Rattle.gatekeeper.specs.Serves.{running_status, serve_status};
 
 use crate::settings_input::InputFault;
 use std::alloc::AllocError;
@@ -9,12 +9,9 @@ use thiserror::Error;
 use udp_server::ServeFault;
 use udp_socket::BindFault;
 
-/// Why there is no report.
+/// Why there is no report though the settings were read.
 #[derive(Clone, Copy, Debug, PartialEq, Eq, Error)]
-pub enum ServingFault {
-    /// The settings aren't read.
-    #[error(transparent)]
-    Settings(InputFault),
+pub enum RunningFault {
     /// The address of the zone isn't bound.
     #[error(transparent)]
     Bind(BindFault),
@@ -32,32 +29,54 @@ pub enum ServingFault {
     Stream,
 }
 
+impl RunningFault {
+    /// The exit status: 3 if there is no memory, 4 if the socket can't be made or a stream failed, and 1
+    /// if the zone can't be made or didn't come back.
+    pub fn status(&self) -> u8
+        ensures { result ≡ running_status self.now }
+    {
+        match self {
+            RunningFault::Bind(_) | RunningFault::Stream => 4,
+            RunningFault::Memory => 3,
+            RunningFault::WrongPools | RunningFault::NotFinished => 1,
+        }
+    }
+}
+
+impl From<AllocError> for RunningFault {
+    fn from(_: AllocError) -> RunningFault {
+        RunningFault::Memory
+    }
+}
+
+impl From<ServeFault> for RunningFault {
+    fn from(fault: ServeFault) -> RunningFault {
+        match fault {
+            ServeFault::Memory => RunningFault::Memory,
+            ServeFault::WrongCounts | ServeFault::NotFinished => RunningFault::NotFinished,
+        }
+    }
+}
+
+/// Why there is no report.
+#[derive(Clone, Copy, Debug, PartialEq, Eq, Error)]
+pub enum ServingFault {
+    /// The settings aren't read.
+    #[error(transparent)]
+    Settings(InputFault),
+    /// What was set didn't run to its end.
+    #[error(transparent)]
+    Running(RunningFault),
+}
+
 impl ServingFault {
-    /// The exit status: 1 if the settings are refused, 3 if there is no memory, and 4 if the socket
-    /// can't be made or a stream failed.
+    /// The exit status, which is that of the fault within.
     pub fn status(&self) -> u8
         ensures { result ≡ serve_status self.now }
     {
         match self {
             ServingFault::Settings(fault) => fault.status(),
-            ServingFault::Bind(_) | ServingFault::Stream => 4,
-            ServingFault::Memory => 3,
-            ServingFault::WrongPools | ServingFault::NotFinished => 1,
-        }
-    }
-}
-
-impl From<AllocError> for ServingFault {
-    fn from(_: AllocError) -> ServingFault {
-        ServingFault::Memory
-    }
-}
-
-impl From<ServeFault> for ServingFault {
-    fn from(fault: ServeFault) -> ServingFault {
-        match fault {
-            ServeFault::Memory => ServingFault::Memory,
-            ServeFault::WrongCounts | ServeFault::NotFinished => ServingFault::NotFinished,
+            ServingFault::Running(fault) => fault.status(),
         }
     }
 }

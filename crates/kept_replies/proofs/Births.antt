@@ -2,9 +2,9 @@
 use Rattle.std.proofs.Common.{◌≡◌, ℕ, List, refl, sym, ◌∙◌, ap, subst, cond, Some, None, Option}
 use Rattle.std.proofs.Common.{Bool, true, false, ◌+◌, [], ◌∷◌}
 use Rattle.std.specs.Prelude.{slice_get, MatchOption, nat_eq, is_some, not, IsTrue, ◌↔◌, position}
-use Rattle.std.specs.List.{find, position_from}
+use Rattle.std.specs.List.{position_from}
 use Rattle.std.specs.Map.{values_of}
-use Rattle.std.specs.Option.{option_map, option_and_then, IsSomeAnd}
+use Rattle.std.specs.Option.{option_and_then, IsSomeAnd}
 use Rattle.std.specs.FinMap as fin
 use Rattle.std.specs.FinMap.{nat_cmp-IsAntisymmetric}
 use Rattle.std.specs.HashMap as hash
@@ -16,13 +16,13 @@ use Rattle.keyed.specs.Places.{AreApart, row_in, IsPlaceOf}
 use Rattle.keyed.proofs.Decide.{some_none, same_some}
 use Rattle.keyed.proofs.Listed as listed
 use Rattle.keyed.proofs.Places.{IsMapOf}
-use Rattle.keyed.proofs.Rows.{FindsIn, finds_in, IsMapOf-rows}
+use Rattle.keyed.proofs.Rows.{IsMapOf-rows}
 use Rattle.keyed.proofs.Searches.{key_place, placed_row}
 use Rattle.kept_replies.specs.Keys.{same_key}
 use Rattle.kept_replies.specs.Kept.{KeptReplies, KeptTable, AreBornApart, IsBusy, IsConsistent}
 use Rattle.kept_replies.specs.Kept.{IsFreeBirth, is_over, Passes, NonePasses, births, births_of}
 use Rattle.kept_replies.specs.Kept.{birth_of, itself}
-use Rattle.kept_replies.specs.inside.Stored.{AreStored, key_of}
+use Rattle.kept_replies.specs.inside.Stored.{AreStored, NoRowPasses, RowPasses, key_of}
 use Rattle.kept_replies.specs.declared.entry.KeptEntry.{KeptEntry}
 use Rattle.kept_replies.specs.declared.key.KeptKey.{KeptKey}
 use Rattle.kept_replies.proofs.KeyOrder.{key_cmp_total, key_cmp-IsAntisymmetric, key_decides}
@@ -73,29 +73,27 @@ module _ {S : Type 0} (rows : IndexMap KeptKey KeptEntry S) (most : ℕ) (s : Ar
         born_apart (apart (rows_of rows) s.births) is_map
         (listed.IsMapOf-listed key_cmp_total key_cmp-IsAntisymmetric (rows_of rows))
 
-    -- what a search found passes, and where it found none, none passes
-    pub search_passes : (test : KeptEntry → Bool)
-        → MatchOption (option_map birth_of (find (λ row. test row.1) rows.entries))
-        (NonePasses test (rows_of rows)) (Passes test (rows_of rows))
-    search_passes test =
-        cases (find (λ row. test row.1) rows.entries) (finds_in (λ row. test row.1) rows.entries)
+    -- where no row passes a test, nothing that is kept does
+    pub none_kept_passes : (test : KeptEntry → Bool) → NoRowPasses test rows.entries
+        → NonePasses test (rows_of rows)
+    none_kept_passes test none key entry there =
+        let at = is_map.stands key entry there in
+        sym (ap test at.2.value_is) ∙ none at.0 at.1 at.2.there
+
+    -- a row that passes it is kept
+    pub kept_passes : (test : KeptEntry → Bool) (born : ℕ) → RowPasses test rows.entries born
+        → Passes test (rows_of rows) born
+    kept_passes test born h =
+        some_and (fin.get (births (rows_of rows)) born) h.row
+        (ap (fin.get (births (rows_of rows))) (sym h.is_born)
+        ∙ births-get (rows_of rows) s.births h.row.0 h.row.1 (is_map.has h.place h.row h.there))
+        h.passes
       where
         some_and : (w : Option (KeptKey × KeptEntry)) (row : KeptKey × KeptEntry) → w ≡ Some row
             → test row.1 ≡ true → IsSomeAnd w (λ row. IsTrue (test row.1))
         some_and None row is passes = some_none (sym is)
         some_and (Some other) row is passes =
             ap (λ (row : KeptKey × KeptEntry). test row.1) (same_some other row is) ∙ passes
-
-        cases : (w : Option (KeptKey × KeptEntry)) → FindsIn (λ row. test row.1) rows.entries w
-            → MatchOption (option_map birth_of w) (NonePasses test (rows_of rows))
-            (Passes test (rows_of rows))
-        cases None none = λ key entry there.
-            (let at = is_map.stands key entry there in
-            sym (ap test at.2.value_is) ∙ none at.0 at.1 at.2.there)
-        cases (Some row) found =
-            let there = is_map.has found.0 row found.1 in
-            some_and (fin.get (births (rows_of rows)) row.1.born) row
-            (births-get (rows_of rows) s.births row.0 row.1 there) found.2
 
 -- a search of the values stops where one of the rows does
 position_values : (test : KeptEntry → Bool) (es : List (KeptKey × KeptEntry))
@@ -136,16 +134,18 @@ module _ {S : Type 0} (rows : IndexMap KeptKey KeptEntry S) (most : ℕ) (t : Ke
             row.1 ∙ (sym (of.has i row.0 row.1)
             ∙ ap (fin.get (births_of rows.entries)) row.2)
 
-  -- what a search says of the table
+  -- what a search of the rows says of the table
   pub search_born : (test : KeptEntry → Bool) (found : Option ℕ)
-      → found ≡ option_map birth_of (find (λ row. test row.1) rows.entries)
+      → MatchOption found (NoRowPasses test rows.entries) (RowPasses test rows.entries)
       → MatchOption found (NonePasses test t.kept) (Passes test t.kept)
-  search_born test found is =
-      subst (λ (w : Option ℕ). MatchOption w (NonePasses test t.kept) (Passes test t.kept))
-      (sym is)
-      (subst (λ (u : KeptTable).
-      MatchOption (option_map birth_of (find (λ row. test row.1) rows.entries))
-      (NonePasses test u.kept) (Passes test u.kept)) view (search_passes rows most s test))
+  search_born test found h =
+      subst (λ (u : KeptTable). MatchOption found (NonePasses test u.kept) (Passes test u.kept))
+      view (cases found h) where
+        cases : (w : Option ℕ)
+            → MatchOption w (NoRowPasses test rows.entries) (RowPasses test rows.entries)
+            → MatchOption w (NonePasses test (rows_of rows)) (Passes test (rows_of rows))
+        cases None none = none_kept_passes rows most s test none
+        cases (Some born) passes = kept_passes rows most s test born passes
 
 -- what a consistent table says by its births
 module _ (t : KeptTable) (sound : IsConsistent t) where

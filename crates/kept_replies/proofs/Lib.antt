@@ -3,3 +3,8 @@ pub mod StoredKept
 pub mod Births
 pub mod Named
 pub mod Deciding
+pub mod Timed
+pub mod Moments
+pub mod SeenRows
+pub mod PlacedBirths
+pub mod ToldTimes

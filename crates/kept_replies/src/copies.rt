@@ -1,10 +1,8 @@
 //! Copies of what a table of kept replies stores.
 
 ghost use Rattle.std.specs.Prelude.{◌≡◌, IfOk, OnOk};
-ghost use Rattle.keyed.specs.Places.{AreApart, row_in};
 ghost use Rattle.indexmap.specs.IndexMap.{insert_entry};
 ghost use Rattle.kept_replies.specs.Keys.{same_key};
-ghost use Rattle.kept_replies.specs.inside.Stored.{key_of};
 
 use crate::entry::KeptEntry;
 use crate::key::KeptKey;
@@ -16,7 +14,6 @@ pub(crate) fn copies_of(
     alloc: Global,
     rows: &IndexMap<KeptKey, KeptEntry>,
 ) -> Result<IndexMap<KeptKey, KeptEntry>, AllocError>
-    requires { AreApart key_of (row_in rows.now.entries) }
     ensures { IfOk result (λ copies. copies.entries ≡ rows.now.entries) }
 {
     let mut copies = IndexMap::new(alloc);

@@ -2,7 +2,7 @@
 
 ghost use Rattle.std.specs.Prelude.{◌≡◌, IfOk};
 ghost use Rattle.std.specs.Option.{option_copied};
-ghost use Rattle.kept_replies.specs.Kept.{reply_in, is_over, is_retry, named_by};
+ghost use Rattle.kept_replies.specs.Kept.{reply_in, is_over, is_retry, named_by, identifier_in};
 
 use ras_module::{EndpointId, Reply, Request};
 use std::alloc::AllocError;
@@ -94,10 +94,7 @@ impl KeptEntry {
     pub fn identifier(&self) -> Option<&EndpointId>
         ensures { option_copied result ≡ named_by self.now }
     {
-        match self.state.reply() {
-            Reply::Rcf { endpoint, .. } => Some(endpoint),
-            _ => None,
-        }
+        identifier_in(self.state.reply())
     }
 
     /// An equal entry.
@@ -108,5 +105,15 @@ impl KeptEntry {
             born: self.born,
             state: self.state.copy()?,
         })
+    }
+}
+
+/// The identifier that a reply tells an endpoint, where it is a RegistrationConfirm.
+pub(crate) fn identifier_in(reply: &Reply) -> Option<&EndpointId>
+    ensures { option_copied result ≡ identifier_in reply.now }
+{
+    match reply {
+        Reply::Rcf { endpoint, .. } => Some(endpoint),
+        _ => None,
     }
 }

@@ -2,13 +2,17 @@
 //! (H.225.0, RAS timers and request in progress).
 #![tactic(auto)]
 
+mod birth_places;
 mod copies;
+mod due_moments;
 mod entry;
 mod fault;
 mod key;
 mod list;
+mod rows;
 mod searches;
 mod table;
+mod told_counts;
 
 pub use entry::{KeptEntry, KeptState};
 pub use fault::ReserveFault;

@@ -1,10 +1,8 @@
 //! Searches of what is stored.
 
 ghost use Rattle.std.specs.Prelude.{◌≡◌, IfOk, nat_eq, position};
-ghost use Rattle.std.specs.List.{find, list_any};
-ghost use Rattle.std.specs.Option.{option_map};
+ghost use Rattle.std.specs.List.{list_any};
 ghost use Rattle.indexmap.specs.IndexMap.{values};
-ghost use Rattle.kept_replies.specs.Kept.{birth_of, is_over, is_retry};
 ghost use Rattle.kept_replies.specs.inside.Stored.{identifiers_of, is_named_by};
 
 use crate::entry::KeptEntry;
@@ -18,32 +16,6 @@ pub(crate) fn place_of(rows: &IndexMap<KeptKey, KeptEntry>, born: u64) -> Option
     ensures { result ≡ position (λ entry. nat_eq entry.born born) (values rows.now) }
 {
     rows.values().position(|entry| entry.born == born)
-}
-
-/// The birth of a row that is over.
-pub(crate) fn over_in(rows: &IndexMap<KeptKey, KeptEntry>, now: u64) -> Option<u64>
-    ensures { result
-        ≡ option_map birth_of (find (λ row. is_over now row.1) rows.now.entries) }
-{
-    for (_key, entry) in rows.iter() {
-        if entry.is_over(now) {
-            return Some(entry.born);
-        }
-    }
-    None
-}
-
-/// The birth of a row whose request is to be served again.
-pub(crate) fn retry_in(rows: &IndexMap<KeptKey, KeptEntry>, now: u64) -> Option<u64>
-    ensures { result
-        ≡ option_map birth_of (find (λ row. is_retry now row.1) rows.now.entries) }
-{
-    for (_key, entry) in rows.iter() {
-        if entry.is_retry(now) {
-            return Some(entry.born);
-        }
-    }
-    None
 }
 
 /// Whether a row's RegistrationConfirm tells this identifier.

@@ -1,23 +1,23 @@
 //! The table of the kept replies.
 
-ghost use Rattle.std.specs.Prelude.{All};
-ghost use Rattle.std.specs.Prelude.{◌≡◌, ◌≢◌, ◌<◌, ◌≤◌, ◌+◌, ◌↔◌, ℕ, List, length, slice_get, None, Some, Err, IsSome, IsTrue, IfOk, IfSome, OnOk, MatchOption, Contains};
+ghost use Rattle.std.specs.Prelude.{◌≡◌, ◌≢◌, ◌<◌, ◌≤◌, ◌+◌, ◌↔◌, ℕ, List, None, Some, Err};
+ghost use Rattle.std.specs.Prelude.{All, Contains, IsSome, IsTrue, IfOk, IfSome, OnOk, MatchOption};
 ghost use Rattle.std.specs.Option.{option_copied, option_map, IsSomeAnd};
 ghost use Rattle.std.specs.Map.Iter.{deref_pair};
 ghost use Rattle.std.specs.FinMap as map;
 ghost use Rattle.keyed.specs.Maps.{update};
-ghost use Rattle.kept_replies.specs.Keys.{same_key};
-ghost use Rattle.kept_replies.specs.Kept.{births, done, pending, is_over, is_retry, left_in, Passes, NonePasses, IsBusy, IsNamed, IsListOf, IsFreeBirth, IsEntry, IsConsistent, finished, postponed, without_birth, Becomes, Adds};
-ghost use Rattle.kept_replies.specs.inside.Stored.{IsIn, Puts, Rewrites, Removes};
-ghost use Rattle.indexmap.specs.IndexMap.{get, spare};
+ghost use Rattle.kept_replies.specs.Kept.{births, done, pending, is_over, is_retry, left_in};
+ghost use Rattle.kept_replies.specs.Kept.{Passes, NonePasses, IsBusy, IsNamed, IsListOf};
+ghost use Rattle.kept_replies.specs.Kept.{IsFreeBirth, IsEntry, IsConsistent, Becomes, Adds};
+ghost use Rattle.kept_replies.specs.Kept.{finished, postponed, without_birth};
+ghost use Rattle.kept_replies.specs.inside.Stored.{IsIn};
 
-use crate::copies::copies_of;
 use crate::entry::{KeptEntry, KeptState};
 use crate::fault::ReserveFault;
 use crate::key::KeptKey;
 use crate::list::{KeptList, rising};
-use crate::searches::{identifiers_in, is_named_in, over_in, place_of, retry_in};
-use indexmap::IndexMap;
+use crate::rows::KeptRows;
+use crate::searches::identifiers_in;
 use ras_module::{EndpointId, Reply, Request};
 use std::alloc::{AllocError, Global};
 use std::marker::Model;
@@ -26,7 +26,7 @@ use std::marker::Model;
 /// map.
 #[derive(Drop)]
 pub struct Kept {
-    rows: IndexMap<KeptKey, KeptEntry>,
+    rows: KeptRows,
     most: usize,
 }
 
@@ -60,7 +60,7 @@ impl Kept {
         ensures sound { IsConsistent result }
     {
         Kept {
-            rows: IndexMap::new(alloc),
+            rows: KeptRows::new(alloc),
             most,
         }
     }
@@ -70,7 +70,7 @@ impl Kept {
         ensures kept { IfOk result (λ copy. copy.kept ≡ self.now.kept) }
         ensures most { IfOk result (λ copy. copy.most ≡ self.now.most) }
     {
-        let rows = copies_of(*self.rows.allocator(), &self.rows)?;
+        let rows = self.rows.copy()?;
         Ok(Kept {
             rows,
             most: self.most,
@@ -85,10 +85,12 @@ impl Kept {
     }
 
     /// Whether each of these entries is kept for its datagram.
-    fn has_all(&self, rows: &IndexMap<KeptKey, KeptEntry>) -> bool
+    fn has_all(&self, rows: &KeptRows) -> bool
         ensures { IsTrue result ↔ All (IsIn self.now.kept) rows.now.entries }
     {
-        rows.iter().all(|(key, entry)| self.has(key, entry))
+        rows.as_map()
+            .iter()
+            .all(|(key, entry)| self.has(key, entry))
     }
 
     /// Whether this entry is kept for this datagram.
@@ -122,7 +124,7 @@ impl Kept {
         ensures found { option_map deref_pair result ≡ map.get (births self.now.kept) born }
         ensures sound { IsConsistent self.now }
     {
-        let place = place_of(&self.rows, born)?;
+        let place = self.rows.place_of(born)?;
         self.rows.get_index(place)
     }
 
@@ -132,7 +134,7 @@ impl Kept {
             (Passes (is_over now) self.now.kept) }
         ensures sound { IsConsistent self.now }
     {
-        over_in(&self.rows, now)
+        self.rows.over(now)
     }
 
     /// The birth of an entry whose request is to be served again: any of them, and None where
@@ -142,14 +144,14 @@ impl Kept {
             (Passes (is_retry now) self.now.kept) }
         ensures sound { IsConsistent self.now }
     {
-        retry_in(&self.rows, now)
+        self.rows.retry(now)
     }
 
     /// Whether a RegistrationConfirm that is kept tells this identifier, over or not.
     pub fn is_named(&self, id: &EndpointId) -> bool
         ensures { IsTrue result ↔ IsNamed self.now.kept id.now }
     {
-        is_named_in(&self.rows, id)
+        self.rows.is_named(id)
     }
 
     /// The identifiers that the kept RegistrationConfirms tell, in any order.
@@ -157,14 +159,16 @@ impl Kept {
         ensures { IfOk result
             (λ ids. (id : List ℕ) → Contains ids.items id ↔ IsNamed self.now.kept id) }
     {
-        identifiers_in(*self.rows.allocator(), &self.rows)
+        let rows = self.rows.as_map();
+        identifiers_in(*rows.allocator(), rows)
     }
 
     /// Copies, by rising birth.
     pub fn list(&self) -> Result<KeptList, AllocError>
         ensures { IfOk result (IsListOf self.now.kept) }
     {
-        rising(*self.rows.allocator(), &self.rows)
+        let rows = self.rows.as_map();
+        rising(*rows.allocator(), rows)
     }
 
     /// Whether an entry for this datagram may have this birth, as no entry for another has it.
@@ -205,7 +209,7 @@ impl Kept {
         if self.is_busy(now) {
             return Err(ReserveFault::Busy);
         }
-        match self.rows.reserve(1) {
+        match self.rows.reserve() {
             Ok(()) => Ok(()),
             Err(_) => Err(ReserveFault::Memory),
         }
@@ -263,7 +267,7 @@ impl Kept {
         ensures replaces { map.get self.old.kept key ≢ None → self.old.room ≤ self.new.room }
         ensures sound { IsConsistent self.new }
     {
-        write_entry(&mut self.rows, key, entry);
+        self.rows.put(key, entry);
     }
 
     /// The request of an entry was answered: the reply is kept until a moment. This takes no
@@ -274,7 +278,7 @@ impl Kept {
             (update self.old.kept key.now (finished reply until)) }
         ensures sound { IsConsistent self.new }
     {
-        write_done(&mut self.rows, key, reply, until);
+        self.rows.finish(key, reply, until);
     }
 
     /// The request of an entry is to wait once more, until the moment `retry`. This takes no
@@ -285,7 +289,7 @@ impl Kept {
             (update self.old.kept key.now (postponed retry)) }
         ensures sound { IsConsistent self.new }
     {
-        write_retry(&mut self.rows, key, retry);
+        self.rows.postpone(key, retry);
     }
 
     /// Drops an entry that is over, any of them, and answers its birth. Where none is over,
@@ -307,61 +311,8 @@ impl Kept {
         ensures becomes { Becomes self.old self.new (without_birth self.old.kept born) }
         ensures sound { IsConsistent self.new }
     {
-        if let Some(place) = place_of(&self.rows, born) {
-            remove_at(&mut self.rows, place);
-        }
-    }
-}
-
-fn remove_at(rows: &mut IndexMap<KeptKey, KeptEntry>, place: usize)
-    ensures { Removes rows.old rows.new (slice_get rows.old.entries place) }
-{
-    rows.swap_remove_index(place);
-}
-
-fn write_entry(rows: &mut IndexMap<KeptKey, KeptEntry>, key: KeptKey, entry: KeptEntry)
-    requires { get same_key rows.old key ≡ None → 0 < spare rows.old }
-    ensures { Puts rows.old rows.new key entry }
-{
-    if rows.contains_key(&key) {
-        replace_entry(rows, &key, entry);
-    } else {
-        add_entry(rows, key, entry);
-    }
-}
-
-fn add_entry(rows: &mut IndexMap<KeptKey, KeptEntry>, key: KeptKey, entry: KeptEntry)
-    requires new { get same_key rows.old key ≡ None }
-    requires room { 0 < spare rows.old }
-    ensures { Puts rows.old rows.new key entry }
-{
-    rows.insert(key, entry).unwrap();
-}
-
-fn replace_entry(rows: &mut IndexMap<KeptKey, KeptEntry>, key: &KeptKey, entry: KeptEntry)
-    ensures { Rewrites (λ other. entry) rows.old rows.new key.now }
-{
-    if let Some(place) = rows.get_mut(key) {
-        *place = entry;
-    }
-}
-
-fn write_done(rows: &mut IndexMap<KeptKey, KeptEntry>, key: &KeptKey, reply: Reply, until: u64)
-    ensures { Rewrites (finished reply until) rows.old rows.new key.now }
-{
-    if let Some(entry) = rows.get_mut(key) {
-        entry.state = KeptState::Done { reply, until };
-    }
-}
-
-fn write_retry(rows: &mut IndexMap<KeptKey, KeptEntry>, key: &KeptKey, moment: u64)
-    requires { IsSomeAnd (get same_key rows.old key.now) (λ entry. 2 ≤ left_in entry.state) }
-    ensures { Rewrites (postponed moment) rows.old rows.new key.now }
-{
-    if let Some(entry) = rows.get_mut(key) {
-        if let KeptState::Pending { retry, left, .. } = &mut entry.state {
-            *retry = moment;
-            *left -= 1;
+        if let Some(place) = self.rows.place_of(born) {
+            self.rows.remove_at(place);
         }
     }
 }

@@ -1,12 +1,12 @@
 -- Whether what was chosen may be done.
 use Rattle.std.proofs.Common.{rules, ◌≡◌, ℕ, Bool, true, false, List, Some, None, refl, sym, ◌∙◌}
-use Rattle.std.specs.Prelude.{Option, IsTrue, MatchOption, is_some, not, ◌↔◌}
+use Rattle.std.specs.Prelude.{Option, Contains, IsTrue, MatchOption, is_some, not, ◌↔◌}
 use Rattle.std.specs.FinMap as fin
 use Rattle.ras_module.specs.Texts.{IsText}
 use Rattle.kept_replies.specs.declared.entry.KeptEntry.{KeptEntry}
 use Rattle.kept_replies.specs.Kept.{IsConsistent, IsNamed, KeptReplies, KeptTable, NonePasses, Passes}
 use Rattle.kept_replies.proofs.Births.{none_passes}
-use Rattle.registrations.specs.Registry.{Live}
+use Rattle.registrations.specs.Registry.{Live, IsUnused}
 use Rattle.ras_machine.specs.Unused.{IsUnusedFor}
 
 -- none was found exactly where none passes
@@ -41,3 +41,16 @@ unused_by live kept id absent text named is = (
   not_so : (b : Bool) → (IsTrue b → ⊥) → IsTrue (not b)
   not_so true never = absurd (never refl)
   not_so false never = refl
+
+-- an identifier that nobody has and that isn't among those that kept replies tell is unused
+pub unused_of_told : (live : Live) (kept : KeptReplies) (id : List ℕ) (told : List (List ℕ))
+    → IsUnused live told id → ((other : List ℕ) → Contains told other ↔ IsNamed kept other)
+    → IsUnusedFor live kept id
+unused_of_told live kept id told unused is = record {
+  unused = record {
+    not_live = unused.not_live;
+    not_taken = λ has. search rules;
+    text = unused.text;
+  };
+  unnamed = λ n. unused.not_taken ((is id).1 n);
+}

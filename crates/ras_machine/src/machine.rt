@@ -5,7 +5,7 @@ ghost use Rattle.zone_tables.specs.Pools.{IsIdle};
 ghost use Rattle.ras_machine.specs.State.{opening};
 ghost use Rattle.ras_machine.specs.Machine.{Hearing, most_steps};
 ghost use Rattle.ras_machine.specs.Courses.{Does, IsReady, MayBeNamed, Performs, Stands, course_of};
-ghost use Rattle.ras_machine.specs.Steps.{IsAskedOnce, ask_in};
+ghost use Rattle.ras_machine.specs.Steps.{IsAskedOnce, IsUnusedIn, ask_in};
 ghost use Rattle.ras_machine.specs.Soundness.{AreBornBefore, Sound};
 
 use crate::course::Course;
@@ -154,11 +154,23 @@ impl Machine {
     {
         if let Course::Serving(task) = course {
             if let Conclusion::Naming(_) = task.conclusion {
-                let told = self.kept.identifiers()?;
-                return Ok(Some(self.tables.unused(&told)));
+                return Ok(Some(self.unused()?));
             }
         }
         Ok(None)
+    }
+
+    /// An identifier that no endpoint has, and that no kept reply tells.
+    fn unused(&self) -> Result<EndpointId, AllocError>
+        ensures { IfOk result (IsUnusedIn self.now) }
+    {
+        // the next one nearly always is: then no list of all that are told is made
+        let next = self.tables.unused(&[]);
+        if self.is_unused(&next) {
+            return Ok(next);
+        }
+        let told = self.kept.identifiers()?;
+        Ok(self.tables.unused(&told))
     }
 
     /// One step by a course that was chosen, with the identifier that is handed out: what the course

@@ -94,7 +94,7 @@ impl Machine {
     }
 
     /// Whether no endpoint has this identifier, and no kept reply tells it.
-    fn is_unused(&self, id: &EndpointId) -> bool
+    pub(crate) fn is_unused(&self, id: &EndpointId) -> bool
         ensures { IsTrue result ↔ IsUnusedIn self.now id.now }
     {
         // by its type it has 1 to 128 characters

@@ -1,5 +1,5 @@
 -- The derived tests of equality of requests and replies decide whether they are equal.
-use Rattle.std.proofs.Common.{◌≡◌, ◌&&◌, Bool, true, false, List, Option, Some, None, ℕ, nat_eq, ap, refl, rules}
+use Rattle.std.proofs.Common.{◌≡◌, Bool, true, false, List, Option, Some, None, ℕ, nat_eq, ap, refl, rules}
 use Rattle.std.specs.Bool.{Decides}
 use Rattle.std.specs.Option.{option_eq}
 use Rattle.std.specs.Cmp.{booleans_Decides}
@@ -10,7 +10,7 @@ use Rattle.std.proofs.lemmas.Bool.{and_parts, and_from}
 use Rattle.ras_module.specs.Addresses.{same_address}
 use Rattle.ras_module.specs.declared.address.Address.{Address}
 use Rattle.ras_module.specs.Aliases.{same_alias}
-use Rattle.ras_module.specs.Same.{texts_decide, address_decides, alias_decides, call_key_decides}
+use Rattle.ras_module.specs.Same.{texts_decide, address_decides, alias_decides}
 use Rattle.ras_module.specs.declared.alias.Alias.{Alias}
 use Rattle.ras_module.specs.declared.reason.RegistrationRejectReason.{RegistrationRejectReason}
 use Rattle.ras_module.specs.declared.reason.RegistrationRejectReason.TheVariants as reason

@@ -4,6 +4,8 @@ use Rattle.std.specs.List.{list_any}
 use Rattle.std.specs.declared.cmp.Ordering.{Ordering}
 use Rattle.std.specs.Ordering.{nat_cmp, ordering_then}
 use Rattle.std.specs.Cmp.Lexicographic.{pointwise, slice_cmp}
+use Rattle.std.specs.Hash as fed
+use Rattle.std.specs.Hash.{HashWrites}
 use Rattle.ras_module.specs.declared.alias.Alias.{Alias}
 use Rattle.ras_module.specs.declared.alias.Alias.TheVariants.{Digits, H323Id}
 
@@ -36,3 +38,7 @@ abbrev pub alias_cmp : Alias → Alias → Ordering
 alias_cmp a b =
     ordering_then (nat_cmp (kind_of a) (kind_of b))
     (slice_cmp nat_cmp (characters_of a) (characters_of b))
+
+-- what a hasher is fed of an alias
+abbrev pub fed_alias : Alias → HashWrites
+fed_alias alias = fed.slice fed.u16 (characters_of alias)

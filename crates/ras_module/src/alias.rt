@@ -1,12 +1,50 @@
 //! Aliases of endpoints.
 
+ghost use Rattle.std.proofs.Common.{ap};
+ghost use Rattle.std.specs.Cmp.{decided, partial_equiv_from_equiv};
+ghost use Rattle.ras_module.specs.Aliases.{same_alias, fed_alias};
+ghost use Rattle.ras_module.specs.Same.{alias_decides};
+
 use crate::bmp_string::H323Id;
 use crate::dialled_digits::DialledDigits;
+use std::hash::{Hash, Hasher};
 
 /// A name by which an endpoint may be called: the two kinds of AliasAddress (H.225.0) that are
 /// served. Two aliases are equal where their kinds and their characters are.
-#[derive(Clone, Copy, PartialEq, Eq)]
+#[derive(Clone, Copy)]
 pub enum Alias {
     Digits(DialledDigits),
     H323Id(H323Id),
+}
+
+impl PartialEq for Alias {
+    ghost eq = { same_alias };
+
+    ghost laws = { partial_equiv_from_equiv (decided same_alias alias_decides) };
+
+    fn eq(&self, other: &Self) -> bool {
+        match (self, other) {
+            (Alias::Digits(digits), Alias::Digits(others)) => digits == others,
+            (Alias::H323Id(id), Alias::H323Id(other_id)) => id == other_id,
+            _ => false,
+        }
+    }
+}
+
+impl Eq for Alias {
+    ghost laws = { decided same_alias alias_decides };
+}
+
+// the characters tell apart nearly all aliases that a zone has, so the kind isn't fed
+impl Hash for Alias {
+    ghost hash_input = { fed_alias };
+
+    ghost respects_eq = { λ a b same. ap fed_alias ((alias_decides a b).0 same) };
+
+    fn hash<H: Hasher>(&self, state: &mut H) {
+        match self {
+            Alias::Digits(digits) => digits.hash(state),
+            Alias::H323Id(id) => id.hash(state),
+        }
+    }
 }

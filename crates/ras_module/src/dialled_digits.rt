@@ -10,7 +10,7 @@ use std::marker::Model;
 
 /// Dialled digits of an AliasAddress (H.225.0): 1 to 128 of the characters `0123456789#*,`.
 /// Contracts see the list of their codes.
-#[derive(Clone, Copy, PartialEq, Eq, PartialOrd, Ord)]
+#[derive(Clone, Copy, PartialEq, Eq, PartialOrd, Ord, Hash)]
 pub struct DialledDigits {
     characters: BmpString<128>,
 }

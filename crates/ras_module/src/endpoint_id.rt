@@ -9,7 +9,7 @@ use std::marker::Model;
 /// An EndpointIdentifier (H.225.0): 1 to 128 characters, handed out by the gatekeeper. Contracts
 /// see the list of its characters; identifiers are ordered character by character, a prefix before
 /// what it begins.
-#[derive(Clone, Copy, PartialEq, Eq, PartialOrd, Ord)]
+#[derive(Clone, Copy, PartialEq, Eq, PartialOrd, Ord, Hash)]
 pub struct EndpointId {
     characters: BmpString<128>,
 }

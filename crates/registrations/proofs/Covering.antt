@@ -2,17 +2,20 @@
 use Rattle.std.proofs.Common.{◌≡◌, ◌≢◌, ℕ, zero, suc, ◌+◌, ◌<◌, ◌≤◌, ◌==◌, Bool, true, false, not}
 use Rattle.std.proofs.Common.{◌||◌, List, [], ◌∷◌, ◌++◌, length, map, nat_eq, refl, ◌∙◌, ap, subst}
 use Rattle.std.proofs.Common.{arith, sym}
-use Rattle.std.specs.Prelude.{filter, Contains}
+use Rattle.std.specs.Prelude.{filter, Contains, ◌-◌, nat_lt, if◌then◌else◌}
 use Rattle.std.specs.List.{list_any}
 use Rattle.std.specs.Cmp.Lexicographic.{pointwise}
 use Rattle.std.proofs.lemmas.Bool.Decides.{nat_tests, Decides-eqb}
+use Rattle.std.proofs.lemmas.Bool.{or_parts}
 use Rattle.std.proofs.lemmas.List.{length-map, length-append}
 use Rattle.std.proofs.Math.Bool.{or_assoc}
 use Rattle.keyed.proofs.Decide.{any_decides}
 use Rattle.ras_module.specs.Same.{texts_decide}
 use Rattle.registrations.specs.declared.registration.Registration.{Registration}
-use Rattle.registrations.specs.inside.Numbers.{number_of}
-use Rattle.registrations.specs.Registry.{identifier_of}
+use Rattle.registrations.specs.inside.Numbers.{number_of, next_number}
+use Rattle.registrations.specs.Registry.{identifier_of, IsUnused, live_of}
+use Rattle.registrations.proofs.Rows.{none_named}
+use Rattle.ras_module.specs.Texts.{IsText}
 
 abbrev pub has_number : List ℕ → ℕ → Bool
 has_number ns n = list_any (λ m. m == n) ns
@@ -35,19 +38,20 @@ has-without : (n k : ℕ) (ns : List ℕ) → k ≢ n → has_number ns k ≡ tr
 has-without n k [] differ has = has
 has-without n k (m ∷ ns) differ has = grind (arith, nat_tests, has-without n k ns)
 
--- a list that has n numbers in a row has n members
-covers : (start n : ℕ) (ns : List ℕ) → ((k : ℕ) → k < n → has_number ns (start + k) ≡ true)
-    → n ≤ length ns
-covers start zero ns each = omega arith
-covers start (suc n) ns each =
-    let here : has_number ns (start + n) ≡ true = each n (omega arith) in
-    let fewer = length-without_one (start + n) ns here in
-    omega (
-      arith,
-      fewer,
-      covers start n (without (start + n) ns) (λ k below. has-without (start + n) (start + k) ns
-          (λ e. omega arith) (each k (omega arith))),
-    )
+-- a list that has n numbers, each another, has n members
+covers : (f : ℕ → ℕ) (n : ℕ) (ns : List ℕ)
+    → ((i j : ℕ) → i < n → j < n → f i ≡ f j → i ≡ j)
+    → ((k : ℕ) → k < n → has_number ns (f k) ≡ true) → n ≤ length ns
+covers f zero ns apart each = omega arith
+covers f (suc n) ns apart each =
+    let here : has_number ns (f n) ≡ true = each n (omega arith) in
+    let fewer = length-without_one (f n) ns here in
+    let rest = covers f n (without (f n) ns)
+    (λ i j p q e. apart i j (omega arith) (omega arith) e)
+    (λ k below. has-without (f n) (f k) ns
+    (λ e. (let same : k ≡ n = apart k n (omega arith) (omega arith) e in omega (arith, same)))
+    (each k (omega arith))) in
+    omega (arith, fewer, rest)
 
 either : (a b c d : Bool) → (a ≡ true → c ≡ true) → (b ≡ true → d ≡ true) → (a || b) ≡ true
     → (c || d) ≡ true
@@ -81,7 +85,7 @@ used_any (r ∷ rows) taken id =
     (list_any (λ (i : Registration). pointwise nat_eq i.identifier id) rows) (has_id taken id))
 
 -- a number whose text is used is among their numbers
-pub number_used : (rows : List Registration) (taken : List (List ℕ)) (id : List ℕ) (n : ℕ)
+number_used : (rows : List Registration) (taken : List (List ℕ)) (id : List ℕ) (n : ℕ)
     → number_of id ≡ n
     → (list_any (λ r. pointwise nat_eq r.identifier id) rows || has_id taken id) ≡ true
     → has_number (map number_of (used rows taken)) n ≡ true
@@ -89,14 +93,30 @@ number_used rows taken id n is has =
     subst (λ (m : ℕ). has_number (map number_of (used rows taken)) m ≡ true) is
     (has_its_number (used rows taken) id (used_any rows taken id ∙ has))
 
+-- the k-th number that is tried, where the search begins here: 1 follows on the last of 64 bits
+abbrev pub number_at : ℕ → ℕ → ℕ
+number_at start k =
+    if nat_lt (start + k) 18446744073709551616 then start + k
+    else start + k - 18446744073709551615
+
+pub next_tried : (start k : ℕ) → start < 18446744073709551616 → k < 18446744073709551615
+    → next_number (number_at start k) ≡ number_at start (k + 1)
+next_tried start k few below = grind (arith, nat_tests)
+
+tried_apart : (start i j : ℕ) → i < 18446744073709551615 → j < 18446744073709551615
+    → number_at start i ≡ number_at start j → i ≡ j
+tried_apart start i j p q e = grind (arith, nat_tests)
+
 -- of one number more than there are texts, not all can be used
 pub not_all : (rows : List Registration) (taken : List (List ℕ)) (start : ℕ)
+    → length rows + length taken + 1 < 18446744073709551615
     → ((k : ℕ) → k < length rows + length taken + 1
-    → has_number (map number_of (used rows taken)) (start + k) ≡ true)
+    → has_number (map number_of (used rows taken)) (number_at start k) ≡ true)
     → ⊥
-not_all rows taken start each =
-    let most = covers start (length rows + length taken + 1)
-    (map number_of (used rows taken)) each in
+not_all rows taken start few each =
+    let most = covers (number_at start) (length rows + length taken + 1)
+    (map number_of (used rows taken))
+    (λ i j p q e. tried_apart start i j (omega (arith, few, p)) (omega (arith, few, q)) e) each in
     omega (
       arith,
       most,
@@ -106,5 +126,24 @@ not_all rows taken start each =
     )
 
 -- what the test doesn't find is not in the list
-pub not_among : (ids : List (List ℕ)) (id : List ℕ) → has_id ids id ≡ false → Contains ids id → ⊥
+not_among : (ids : List (List ℕ)) (id : List ℕ) → has_id ids id ≡ false → Contains ids id → ⊥
 not_among ids id e h = cc (e, (any_decides (pointwise nat_eq) texts_decide ids id).1 h)
+
+-- a number whose text may not be handed out is in use
+pub number_tried : (rows : List Registration) (taken : List (List ℕ)) (id : List ℕ) (n : ℕ)
+    → number_of id ≡ n → IsText 128 id → (IsUnused (live_of rows) taken id → ⊥)
+    → has_number (map number_of (used rows taken)) n ≡ true
+number_tried rows taken id n is text not_unused =
+    cases (list_any (λ r. pointwise nat_eq r.identifier id) rows || has_id taken id) refl where
+      cases : (b : Bool)
+          → (list_any (λ (r : Registration). pointwise nat_eq r.identifier id) rows
+          || has_id taken id) ≡ b
+          → has_number (map number_of (used rows taken)) n ≡ true
+      cases true has = number_used rows taken id n is has
+      cases false none =
+          let parts = or_parts _ _ none in
+          absurd (not_unused (record {
+            not_live = none_named rows id parts.0;
+            not_taken = not_among taken id parts.1;
+            text = text;
+          }))

@@ -1,7 +1,15 @@
 pub mod Digits
 pub mod Covering
+pub mod Indexes
+pub mod Swapped
+pub mod Order
+pub mod Due
 pub mod Rows
+pub mod Same
+pub mod Stored
+pub mod Tables
 pub mod Consistent
 pub mod Agreement
 pub mod Unused
+pub mod Walks
 pub mod Deciding

@@ -1,60 +1,37 @@
 -- Which identifiers may be handed out: what the test of one says.
-use Rattle.std.proofs.Common.{◌≡◌, ◌↔◌, ℕ, Bool, true, false, not, ◌||◌, List, [], ◌∷◌, nat_eq}
-use Rattle.std.proofs.Common.{refl, sym, ◌∙◌, ap, cond, Some, None}
-use Rattle.std.specs.Prelude.{Contains, IsTrue}
+use Rattle.std.proofs.Common.{Bor, ◌≡◌, ◌↔◌, ℕ, Bool, true, false, not, List, nat_eq, refl, sym}
+use Rattle.std.proofs.Common.{◌∙◌}
+use Rattle.std.proofs.Common.{Some, None}
+use Rattle.std.specs.Prelude.{IsTrue, Option, is_some}
+use Rattle.std.specs.Option.{option_copied}
 use Rattle.std.specs.FinMap as fin
-use Rattle.std.specs.List.{find as find_first, list_any}
 use Rattle.std.specs.Cmp.Lexicographic.{pointwise}
-use Rattle.std.proofs.lemmas.Bool.{or_parts}
-use Rattle.keyed.proofs.Decide.{any_decides, some_none}
+use Rattle.keyed.proofs.Decide.{any_decides}
 use Rattle.ras_module.specs.Same.{texts_decide}
 use Rattle.ras_module.specs.Texts.{IsText}
 use Rattle.registrations.specs.declared.registration.Registration.{Registration}
-use Rattle.registrations.specs.Registry.{IsUnused, live_of}
-use Rattle.registrations.proofs.Covering.{has_id, not_among}
-use Rattle.registrations.proofs.Rows.{get_row, none_named}
+use Rattle.registrations.specs.Registry.{Live, IsUnused}
+use Rattle.registrations.proofs.Covering.{has_id}
 
--- some registration has this identifier
-abbrev is_named : List ℕ → List Registration → Bool
-is_named id rows = list_any (λ r. pointwise nat_eq r.identifier id) rows
-
-not_named : (rows : List Registration) (id : List ℕ) → fin.get (live_of rows) id ≡ None
-    → is_named id rows ≡ false
-not_named rows id none = no_row rows (get_row rows id ∙ none) where
-  no_row : (rows : List Registration)
-      → find_first (λ r. pointwise nat_eq r.identifier id) rows ≡ None
-      → is_named id rows ≡ false
-  no_row [] h = refl
-  no_row (r ∷ rows) h = cases (pointwise nat_eq r.identifier id) (no_row rows) h where
-    cases : (b : Bool)
-        → (find_first (λ r. pointwise nat_eq r.identifier id) rows ≡ None
-        → is_named id rows ≡ false)
-        → cond b (Some r) (find_first (λ r. pointwise nat_eq r.identifier id) rows) ≡ None
-        → (b || is_named id rows) ≡ false
-    cases true rest h = some_none h
-    cases false rest h = rest h
-
-has_not : (ids : List (List ℕ)) (id : List ℕ) → (Contains ids id → ⊥) → has_id ids id ≡ false
-has_not ids id without = cases (has_id ids id) refl where
-  cases : (b : Bool) → has_id ids id ≡ b → b ≡ false
-  cases true is = absurd (without ((any_decides (pointwise nat_eq) texts_decide ids id).0 is))
-  cases false is = refl
-
--- the test of an identifier fails exactly where it may be handed out
-pub unused_if : (rows : List Registration) (taken : List (List ℕ)) (id : List ℕ) (b : Bool)
-    → b ≡ (is_named id rows || has_id taken id) → IsText 128 id
-    → IsTrue (not b) ↔ IsUnused (live_of rows) taken id
-unused_if rows taken id true is text = (
+-- no registration has the identifier: it may be handed out if and only if it isn't taken
+pub unused_if : (live : Live) (taken : List (List ℕ)) (id : List ℕ) (b : Bool)
+    → fin.get live id ≡ None → b ≡ has_id taken id → IsText 128 id
+    → IsTrue (not b) ↔ IsUnused live taken id
+unused_if live taken id true none is text = (
   λ h. absurd (cc h),
-  λ u. absurd (cc (is ∙ (ap (λ a. a || has_id taken id) (not_named rows id u.not_live)
-      ∙ has_not taken id u.not_taken))),
+  λ u. absurd (u.not_taken ((any_decides (pointwise nat_eq) texts_decide taken id).0 (sym is))),
 )
-unused_if rows taken id false is text =
-    let parts = or_parts _ _ (sym is) in (
-      λ h. record {
-        not_live = none_named rows id parts.0;
-        not_taken = not_among taken id parts.1;
-        text = text;
-      },
-      λ u. refl,
-    )
+unused_if live taken id false none is text = (
+  λ h. record {
+    not_live = none;
+    not_taken = λ has. absurd (cc
+        (is ∙ (any_decides (pointwise nat_eq) texts_decide taken id).1 has));
+    text = text;
+  },
+  λ u. refl,
+)
+
+-- a look-up that found nothing
+pub none_copied : (w : Option (Bor Registration)) → is_some w ≡ false → option_copied w ≡ None
+none_copied None h = refl
+none_copied (Some x) h = absurd (cc h)

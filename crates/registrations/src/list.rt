@@ -1,12 +1,11 @@
 //! Lists of registrations.
 
-ghost use Rattle.std.specs.Prelude.{◌≡◌, IfOk};
+ghost use Rattle.std.specs.Prelude.{◌≡◌};
 ghost use Rattle.std.specs.FinMap as map;
 ghost use Rattle.keyed.specs.Places.{AreApart, row_in};
 ghost use Rattle.registrations.specs.Registry.{entries_of, live_of, identifier_of};
 
 use crate::registration::Registration;
-use std::alloc::{AllocError, Global};
 use std::marker::Model;
 
 /// Registrations in order. Contracts see the list.
@@ -48,26 +47,11 @@ impl RegistrationList {
     }
 }
 
-/// Copies of these registrations, by rising identifier.
-pub(crate) fn rising(alloc: Global, items: &[Registration]) -> Result<RegistrationList, AllocError>
-    requires { AreApart identifier_of (row_in items.now) }
-    ensures { IfOk result (λ list. entries_of list ≡ map.entries (live_of items.now)) }
+/// These registrations by rising identifier.
+pub(crate) fn rising(mut rows: Vec<Registration>) -> RegistrationList
+    requires { AreApart identifier_of (row_in rows.items) }
+    ensures { entries_of result ≡ map.entries (live_of rows.items) }
 {
-    let mut copies = copies_of(alloc, items)?;
-    copies.sort_unstable_by_key(|registration| registration.identifier);
-    Ok(RegistrationList { items: copies })
-}
-
-pub(crate) fn copies_of(
-    alloc: Global,
-    items: &[Registration],
-) -> Result<Vec<Registration>, AllocError>
-    ensures { IfOk result (λ copies. copies.items ≡ items.now) }
-{
-    let mut copies = Vec::new(alloc);
-    copies.reserve(items.len())?;
-    for registration in items {
-        copies.push(registration.copy()?)?;
-    }
-    Ok(copies)
+    rows.sort_unstable_by_key(|registration| registration.identifier);
+    RegistrationList { items: rows }
 }

@@ -2,7 +2,7 @@
 
 ghost use Rattle.std.specs.Prelude.{◌≡◌, ◌≤◌, ◌<◌, ◌-◌, ℕ, length, drop, slice_index};
 ghost use Rattle.ras_module.specs.Texts.{IsText};
-ghost use Rattle.registrations.specs.inside.Numbers.{number_of};
+ghost use Rattle.registrations.specs.inside.Numbers.{number_of, next_number};
 
 use ras_module::{BmpString, EndpointId};
 
@@ -43,15 +43,31 @@ fn first_of(digits: &[u16; 20]) -> usize
     start
 }
 
-/// The number that a text of decimal digits says, at least 1; the greatest one of another text.
-pub(crate) fn number_in(identifier: &EndpointId) -> u64 {
+/// The number that a text of decimal digits says: None of another text, and of a number that is
+/// too great.
+fn number_in(identifier: &EndpointId) -> Option<u64> {
     let mut number = 0u64;
     for character in identifier.as_slice() {
         if !(48..=57).contains(character) {
-            return u64::MAX;
+            return None;
         }
         let digit = u64::from(*character - 48);
-        number = number.saturating_mul(10).saturating_add(digit);
+        number = number.checked_mul(10)?.checked_add(digit)?;
     }
-    number.max(1)
+    Some(number)
+}
+
+/// The number behind this one: 1 behind the last.
+pub(crate) fn after(number: u64) -> u64
+    ensures { result ≡ next_number number }
+{
+    if number == u64::MAX { 1 } else { number + 1 }
+}
+
+/// Where the search for an unused identifier begins once this one is in use.
+pub(crate) fn raised(start: u64, identifier: &EndpointId) -> u64 {
+    match number_in(identifier) {
+        Some(number) if start <= number => after(number),
+        _ => start,
+    }
 }

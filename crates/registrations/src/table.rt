@@ -1,23 +1,29 @@
 //! The table of the registrations.
 
-ghost use Rattle.std.specs.Prelude.{◌≡◌, ◌≢◌, ◌≤◌, ◌<◌, ◌+◌, ◌↔◌, ℕ, List, nat_eq, Option, None, Some, Err, IsOk, IsSome, IfSome, IsTrue, IfOk, OnOk, OnErr, MatchOption, position, length, nat_le, slice_get};
-ghost use Rattle.std.specs.Option.{option_copied, IsSomeAnd};
-ghost use Rattle.std.specs.List.{find};
+ghost use Rattle.std.specs.Prelude.{◌≡◌, ◌≢◌, ◌≤◌, ◌<◌, ◌+◌, ◌++◌, ◌∷◌, [], ◌↔◌, ℕ, List, Option};
+ghost use Rattle.std.specs.Prelude.{None, Some, Err, IsOk, IsSome, IfSome, IsTrue, IfOk, OnOk};
+ghost use Rattle.std.specs.Prelude.{OnErr, nat_eq, slice_get};
+ghost use Rattle.std.specs.Option.{option_copied, option_map, IsSomeAnd};
 ghost use Rattle.std.specs.Cmp.Lexicographic.{pointwise};
 ghost use Rattle.std.specs.FinMap as map;
+ghost use Rattle.slab.specs.Slab as slots;
+ghost use Rattle.indexmap.specs.IndexMap as index;
 ghost use Rattle.keyed.specs.Maps.{update};
-ghost use Rattle.keyed.specs.Places.{IsPlaceOf};
-ghost use Rattle.ras_module.specs.Addresses.{same_address};
-ghost use Rattle.std.specs.Prelude.{All};
-ghost use Rattle.registrations.specs.inside.Stored.{IsIn};
-ghost use Rattle.registrations.specs.Registry.{at_address, IsUnused, IsListOf, IsConsistent, IsNumbered, IsSound, Stays, Updates, Becomes, Adds, live_of, identifier_of, with_identifier, with_deadline, after_rewrite, after_hear, after_ask, after_calm};
+ghost use Rattle.registrations.specs.inside.Stored.{IsIn, AreAllIn};
+ghost use Rattle.registrations.specs.Registry.{at_address, IsUnused, IsListOf, IsConsistent};
+ghost use Rattle.registrations.specs.Registry.{IsNumbered, IsSound, Stays, Updates, Becomes, Adds};
+ghost use Rattle.registrations.specs.Registry.{with_identifier, with_deadline, after_rewrite};
+ghost use Rattle.registrations.specs.Registry.{after_hear, after_ask, after_calm};
 
 use crate::fault::AddFault;
-use crate::fresh::{is_used, unused_from};
-use crate::list::{RegistrationList, copies_of, rising};
-use crate::number::{number_in, numbered};
+use crate::fresh::{is_taken, unused_from};
+use crate::list::{RegistrationList, rising};
+use crate::number::raised;
 use crate::registration::Registration;
+use deadlines::Deadlines;
+use indexmap::IndexMap;
 use ras_module::{Address, EndpointId, ReplyAliases};
+use slab::Slab;
 use std::alloc::{AllocError, Global};
 use std::marker::Model;
 
@@ -25,32 +31,31 @@ use std::marker::Model;
 /// Contracts see a finite map.
 #[derive(Drop)]
 pub struct Registrations {
-    items: Vec<Registration>,
+    rows: Slab<Registration>,
+    // where the row under each identifier stands, and where the one with each call signal address
+    by_identifier: IndexMap<EndpointId, usize>,
+    by_address: IndexMap<Address, usize>,
+    // the deadline of each row, by where its identifier stands in the index
+    deadlines: Deadlines,
     most: usize,
-    // each lower number is the identifier of a registration, so that the search for an unused one
-    // need not pass them
-    lowest: u64,
+    // where the search for an unused identifier begins, so that it need not pass those in use:
+    // behind each number that was, and at 1 again behind the last one of all
+    next_number: u64,
 }
 
 impl Model for Registrations {
-    ghost use Rattle.std.specs.Prelude.{◌-◌, vec_capacity, vec_len};
     ghost use Rattle.std.specs.Coded.{codes};
     ghost use Rattle.std.specs.FinMap as map;
-    ghost use Rattle.registrations.specs.Registry.{Registry, live_of};
-    ghost use Rattle.registrations.specs.inside.Stored.{IsTable};
+    ghost use Rattle.registrations.specs.Registry.{Registry};
+    ghost use Rattle.registrations.specs.inside.Stored.{IsTable, registry_of};
 
     ghost Value = { Registry };
 
     ghost coded = { Prim.hlevel (codes, map.code) };
 
-    ghost view = { λ t. record {
-      live = live_of t.items.items;
-      most = t.most;
-      room = vec_capacity t.items - vec_len t.items;
-      order = t.items.items;
-    } };
+    ghost view = { λ t. registry_of t.rows t.by_identifier t.by_address t.deadlines t.most };
 
-    ghost invariant = { λ t. IsTable t.items.items t.most t.lowest };
+    ghost invariant = { λ t. IsTable t.rows t.by_identifier t.by_address t.deadlines t.most };
 }
 
 impl Registrations {
@@ -62,9 +67,12 @@ impl Registrations {
         ensures sound { IsSound result }
     {
         Registrations {
-            items: Vec::new(alloc),
+            rows: Slab::new(alloc),
+            by_identifier: IndexMap::new(alloc),
+            by_address: IndexMap::new(alloc),
+            deadlines: Deadlines::new(alloc),
             most,
-            lowest: 1,
+            next_number: 1,
         }
     }
 
@@ -74,11 +82,32 @@ impl Registrations {
         ensures most { IfOk result (λ copy. copy.most ≡ self.now.most) }
         ensures order { IfOk result (λ copy. copy.order ≡ self.now.order) }
     {
-        let items = copies_of(*self.items.allocator(), &self.items)?;
+        let alloc = *self.by_identifier.allocator();
+        let mut copy = Registrations::with_room(alloc, self.most, self.len())?;
+        for i in 0..self.len() {
+            copy.put(self.nth(i).unwrap().copy()?);
+        }
+        copy.next_number = self.next_number;
+        Ok(copy)
+    }
+
+    /// No registration, with room for some.
+    fn with_room(alloc: Global, most: usize, room: usize) -> Result<Self, AllocError>
+        requires { most ≤ 20000 }
+        ensures most { IfOk result (λ t. t.most ≡ most) }
+        ensures order { IfOk result (λ t. t.order ≡ []) }
+        ensures live { IfOk result (λ t. t.live ≡ map.empty) }
+        ensures room { IfOk result (λ t. room ≤ t.room) }
+    {
+        let mut deadlines = Deadlines::new(alloc);
+        deadlines.reserve(room)?;
         Ok(Registrations {
-            items,
-            most: self.most,
-            lowest: self.lowest,
+            rows: Slab::with_capacity(alloc, room)?,
+            by_identifier: IndexMap::with_capacity(alloc, room)?,
+            by_address: IndexMap::with_capacity(alloc, room)?,
+            deadlines,
+            most,
+            next_number: 1,
         })
     }
 
@@ -86,14 +115,19 @@ impl Registrations {
     pub fn is_same(&self, other: &Self) -> bool
         ensures { IsTrue result ↔ (self.now.live ≡ other.now.live) }
     {
-        self.has_all(&other.items) && other.has_all(&self.items)
+        self.has_all(&other.rows) && other.has_all(&self.rows)
     }
 
     /// Whether each of these registrations is in the table.
-    fn has_all(&self, rows: &[Registration]) -> bool
-        ensures { IsTrue result ↔ All (IsIn self.now.live) rows.now }
+    fn has_all(&self, rows: &Slab<Registration>) -> bool
+        ensures { IsTrue result ↔ AreAllIn self.now.live rows.now }
     {
-        rows.iter().all(|row| self.has(row))
+        for (_place, row) in rows.iter() {
+            if !self.has(row) {
+                return false;
+            }
+        }
+        true
     }
 
     /// Whether this registration is in the table.
@@ -113,7 +147,7 @@ impl Registrations {
         ensures sound { IsConsistent self.now.live }
         ensures numbered { IsNumbered self.now }
     {
-        self.items.len()
+        self.by_identifier.len()
     }
 
     /// The registration under this identifier.
@@ -121,7 +155,8 @@ impl Registrations {
         ensures found { option_copied result ≡ map.get self.now.live id.now }
         ensures sound { IsConsistent self.now.live }
     {
-        row_of(&self.items, id)
+        let place = self.by_identifier.get(id)?;
+        self.rows.get(*place)
     }
 
     /// The registration with this call signal address.
@@ -129,49 +164,69 @@ impl Registrations {
         ensures found { option_copied result ≡ at_address self.now.live address }
         ensures sound { IsConsistent self.now.live }
     {
-        row_at(&self.items, address)
+        let place = self.by_address.get(&address)?;
+        self.rows.get(*place)
     }
 
-    /// A registration whose time to live is over: its deadline is not after `now`. None where there is
-    /// none.
+    /// A registration whose time to live is over: its deadline is not after `now`. None where there
+    /// is none.
     pub fn over(&self, now: u64) -> Option<&Registration>
         ensures over { IfSome result (λ r. r.now.deadline ≤ now) }
         ensures live { IfSome result (λ r. map.get self.now.live r.now.identifier ≡ Some r.now) }
         ensures none { result ≡ None → (id : List ℕ) (r : Registration)
             → map.get self.now.live id ≡ Some r → now < r.deadline }
     {
-        row_over(&self.items, now)
+        let (deadline, i) = self.deadlines.earliest()?;
+        if deadline > now {
+            return None;
+        }
+        self.nth(i)
     }
 
-    /// One registration for each `i` below `len`, and each of them once while the table stands as it
-    /// is.
+    /// One registration for each `i` below `len`, and each of them once while the table stands as
+    /// it is.
     pub fn nth(&self, i: usize) -> Option<&Registration>
         ensures nth { option_copied result ≡ slice_get self.now.order i }
         ensures some { IsSome result ↔ (i < map.len self.now.live) }
         ensures live { IfSome result (λ r. map.get self.now.live r.now.identifier ≡ Some r.now) }
     {
-        row_at_place(&self.items, i)
+        let (_identifier, place) = self.by_identifier.get_index(i)?;
+        self.rows.get(*place)
     }
 
     /// Copies, by rising identifier: character by character, a prefix before what it begins.
     pub fn list(&self) -> Result<RegistrationList, AllocError>
         ensures { IfOk result (IsListOf self.now.live) }
     {
-        rising(*self.items.allocator(), &self.items)
+        let copies = self.copies()?;
+        Ok(rising(copies))
+    }
+
+    /// Copies, in the order in which the registrations are numbered.
+    fn copies(&self) -> Result<Vec<Registration>, AllocError>
+        ensures copies { IfOk result (λ copies. copies.items ≡ self.now.order) }
+        ensures numbered { IsNumbered self.now }
+    {
+        let mut copies = Vec::new(*self.by_identifier.allocator());
+        copies.reserve(self.len())?;
+        for i in 0..self.len() {
+            copies.push(self.nth(i).unwrap().copy()?)?;
+        }
+        Ok(copies)
     }
 
     /// Whether the identifier may be handed out, where these are taken.
     pub fn is_unused(&self, id: &EndpointId, taken: &[EndpointId]) -> bool
         ensures { IsTrue result ↔ IsUnused self.now.live taken.now id.now }
     {
-        !is_used(&self.items, taken, id)
+        self.get(id).is_none() && !is_taken(taken, id)
     }
 
     /// An identifier that no registration has, and that is not taken: any such one.
     pub fn unused(&self, taken: &[EndpointId]) -> EndpointId
         ensures { IsUnused self.now.live taken.now result }
     {
-        unused_from(&self.items, taken, self.lowest)
+        unused_from(self, taken, self.next_number)
     }
 
     /// Makes room for so many more.
@@ -180,12 +235,18 @@ impl Registrations {
         ensures ok { OnOk result (more ≤ self.new.room) }
         ensures succeeds { more ≤ self.old.room → IsOk result }
     {
-        self.items.reserve(more)
+        self.rows.reserve(more)?;
+        self.by_identifier.reserve(more)?;
+        self.by_address.reserve(more)?;
+        // the capacity is what says that the sum fits
+        let _capacity = self.by_identifier.capacity();
+        let places = self.by_identifier.len() + more;
+        self.deadlines.reserve(places)
     }
 
     /// Registers an endpoint under an unused identifier, which is written into the registration.
-    /// Nothing is added where the table is full, and for want of memory, which is never where there is
-    /// room.
+    /// Nothing is added where the table is full, and for want of memory, which is never where there
+    /// is room.
     pub fn add(
         &mut self,
         registration: Registration,
@@ -218,16 +279,35 @@ impl Registrations {
         ensures reserved { 0 < self.old.room → result ≢ Err AddFault.Memory }
         ensures err { OnErr result (Stays self.old self.new) }
     {
-        if self.items.len() == self.most {
+        if self.len() == self.most {
             return Err(AddFault::Full);
         }
-        let lowest = raised(self.lowest, self.most, &registration.identifier);
-        match self.items.push(registration) {
+        match self.reserve(1) {
             Ok(()) => {}
             Err(_) => return Err(AddFault::Memory),
         }
-        self.lowest = lowest;
+        self.put(registration);
         Ok(())
+    }
+
+    /// Enters a registration behind all others, where there is room. This takes no memory.
+    fn put(&mut self, registration: Registration)
+        requires few { map.len self.old.live < self.old.most }
+        requires room { 0 < self.old.room }
+        requires identifier { map.get self.old.live registration.identifier ≡ None }
+        requires address { at_address self.old.live registration.call_signal ≡ None }
+        ensures adds { Adds self.old self.new
+            (map.insert self.old.live registration.identifier registration) }
+        ensures order { self.new.order ≡ self.old.order ++ registration ∷ [] }
+    {
+        self.next_number = raised(self.next_number, &registration.identifier);
+        let i = self.by_identifier.len();
+        self.deadlines.set(i, registration.deadline);
+        let identifier = registration.identifier;
+        let address = registration.call_signal;
+        let place = self.rows.insert_reserved(registration);
+        self.by_identifier.insert(identifier, place).unwrap();
+        self.by_address.insert(address, place).unwrap();
     }
 
     /// Takes a registration out.
@@ -235,9 +315,15 @@ impl Registrations {
         ensures found { result ≡ map.get self.old.live id.now }
         ensures removed { Becomes self.old self.new (map.remove self.old.live id.now) }
     {
-        let place = place_of(&self.items, id)?;
-        self.lowest = self.lowest.min(number_in(id));
-        Some(self.items.remove(place))
+        let (i, place) = entry_of(&self.by_identifier, id)?;
+        let registration = self.rows.remove(place);
+        self.by_address.swap_remove(&registration.call_signal);
+        self.by_identifier.swap_remove_index(i);
+        // the last one took its place there
+        let last = self.by_identifier.len();
+        self.deadlines.clear(i);
+        self.deadlines.rename(last, i);
+        Some(registration)
     }
 
     /// Grants a time to live anew.
@@ -245,8 +331,9 @@ impl Registrations {
         requires { IsSome (map.get self.old.live id.now) }
         ensures { Updates self.old self.new (update self.old.live id.now (with_deadline deadline)) }
     {
-        let place = live_place(&self.items, id);
-        self.items[place].deadline = deadline;
+        let (i, place) = live_entry(&self.by_identifier, id);
+        self.rows[place].deadline = deadline;
+        self.deadlines.set(i, deadline);
     }
 
     /// Replaces what an endpoint registered, but for its call signal address.
@@ -255,11 +342,12 @@ impl Registrations {
         ensures { Updates self.old self.new
             (update self.old.live id.now (after_rewrite ras aliases deadline)) }
     {
-        let place = live_place(&self.items, id);
-        let row = &mut self.items[place];
+        let (i, place) = live_entry(&self.by_identifier, id);
+        let row = &mut self.rows[place];
         row.ras = ras;
         row.aliases = aliases;
         row.deadline = deadline;
+        self.deadlines.set(i, deadline);
     }
 
     /// Notes that an endpoint was heard.
@@ -267,8 +355,8 @@ impl Registrations {
         requires { IsSome (map.get self.old.live id.now) }
         ensures { Updates self.old self.new (update self.old.live id.now (after_hear now)) }
     {
-        let place = live_place(&self.items, id);
-        let row = &mut self.items[place];
+        let place = live_place(&self.by_identifier, id);
+        let row = &mut self.rows[place];
         row.heard = now;
         row.tries = 0;
     }
@@ -278,8 +366,8 @@ impl Registrations {
         requires { IsSomeAnd (map.get self.old.live id.now) (λ r. r.tries < 16) }
         ensures { Updates self.old self.new (update self.old.live id.now (after_ask now)) }
     {
-        let place = live_place(&self.items, id);
-        let row = &mut self.items[place];
+        let place = live_place(&self.by_identifier, id);
+        let row = &mut self.rows[place];
         row.asked = now;
         row.tries += 1;
     }
@@ -289,66 +377,36 @@ impl Registrations {
         requires { IsSome (map.get self.old.live id.now) }
         ensures { Updates self.old self.new (update self.old.live id.now after_calm) }
     {
-        let place = live_place(&self.items, id);
-        self.items[place].tries = 0;
+        let place = live_place(&self.by_identifier, id);
+        self.rows[place].tries = 0;
     }
 }
 
-/// One more where this is the lowest identifier that is not in use, and goes into use.
-fn raised(lowest: u64, most: usize, identifier: &EndpointId) -> u64
-    requires few { most ≤ 20000 }
-    requires low { lowest ≤ most + 1 }
-    ensures { result ≤ most + 1 }
+/// Where the identifier stands in the index, and where its registration does.
+fn entry_of(by_identifier: &IndexMap<EndpointId, usize>, id: &EndpointId) -> Option<(usize, usize)>
+    ensures place { option_map (λ at. at.1) result
+        ≡ index.get (pointwise nat_eq) by_identifier.now id.now }
+    ensures entry { IfSome result (λ at. IsSomeAnd (slice_get by_identifier.now.entries at.0)
+        (λ e. e.1 ≡ at.1)) }
 {
-    if lowest <= most as u64 && *identifier == numbered(lowest) {
-        lowest + 1
-    } else {
-        lowest
-    }
-}
-
-fn row_of<'a>(items: &'a [Registration], id: &EndpointId) -> Option<&'a Registration>
-    ensures { option_copied result ≡ find (λ r. pointwise nat_eq r.identifier id.now) items.now }
-{
-    items.iter().find(|r| r.identifier == *id)
-}
-
-fn row_at(items: &[Registration], address: Address) -> Option<&Registration>
-    ensures { option_copied result ≡ find (λ r. same_address r.call_signal address) items.now }
-{
-    items.iter().find(|r| r.call_signal == address)
-}
-
-fn row_over(items: &[Registration], now: u64) -> Option<&Registration>
-    ensures { option_copied result ≡ find (λ r. nat_le r.deadline now) items.now }
-{
-    items.iter().find(|r| r.deadline <= now)
-}
-
-fn row_at_place(items: &[Registration], i: usize) -> Option<&Registration>
-    ensures { option_copied result ≡ slice_get items.now i }
-{
-    items.get(i)
-}
-
-fn index_of(items: &[Registration], id: &EndpointId) -> Option<usize>
-    ensures { result ≡ position (λ r. pointwise nat_eq r.identifier id.now) items.now }
-{
-    items.iter().position(|r| r.identifier == *id)
-}
-
-/// Where the registration under this identifier stands.
-fn place_of(items: &[Registration], id: &EndpointId) -> Option<usize>
-    ensures { MatchOption result (map.get (live_of items.now) id.now ≡ None)
-        (IsPlaceOf identifier_of id.now items.now) }
-{
-    index_of(items, id)
+    let (i, _identifier, place) = by_identifier.get_full(id)?;
+    Some((i, *place))
 }
 
 /// The same where there is one.
-fn live_place(items: &[Registration], id: &EndpointId) -> usize
-    requires { IsSome (map.get (live_of items.now) id.now) }
-    ensures { IsPlaceOf identifier_of id.now items.now result }
+fn live_entry(by_identifier: &IndexMap<EndpointId, usize>, id: &EndpointId) -> (usize, usize)
+    requires { IsSome (index.get (pointwise nat_eq) by_identifier.now id.now) }
+    ensures place { index.get (pointwise nat_eq) by_identifier.now id.now ≡ Some result.1 }
+    ensures entry { IsSomeAnd (slice_get by_identifier.now.entries result.0)
+        (λ e. e.1 ≡ result.1) }
 {
-    place_of(items, id).unwrap()
+    entry_of(by_identifier, id).unwrap()
+}
+
+/// Where the registration under this identifier stands, where there is one.
+fn live_place(by_identifier: &IndexMap<EndpointId, usize>, id: &EndpointId) -> usize
+    requires { IsSome (index.get (pointwise nat_eq) by_identifier.now id.now) }
+    ensures { index.get (pointwise nat_eq) by_identifier.now id.now ≡ Some result }
+{
+    *by_identifier.get(id).unwrap()
 }

@@ -1,14 +1,14 @@
 //! Running a script.
 
-ghost use Rattle.std.specs.Prelude.{◌≡◌, ◌↔◌, ◌⊎◌, map, Err, IfErr, IfOk, true, false};
-ghost use Rattle.script.specs.Runs.{IsRunAnswer, IsFlushedAfter, are_pools_of, start_of};
+ghost use Rattle.std.specs.Prelude.{◌≡◌, ◌≢◌, ◌↔◌, ◌⊎◌, map, Err, IfErr, IfOk, true, false};
+ghost use Rattle.script.specs.Runs.{IsRunAnswer, IsRunOf, IsFlushedAfter, are_pools_of, start_of};
 
 use crate::fault::RunFault;
 use crate::output::Output;
 use crate::print::write_outcomes;
 use crate::read::Script;
 use pools::{Pool, PoolSet};
-use ras_core::{Config, NewFault, StepFault, Zone};
+use ras_core::{Config, Event, NewFault, StepFault, Zone};
 use std::alloc::Global;
 use std::io::Write;
 
@@ -53,8 +53,25 @@ pub fn run_script<P: Pool, W: Write + Drop>(
         Ok(zone) => zone,
         Err(fault) => return Err(fault),
     };
+    run_zone(alloc, &mut zone, events.as_slice(), out)
+}
+
+// A zone that is dropped at each of many exits makes a function costly to prove, so what is done with
+// it stands in a function that borrows it.
+
+/// Runs events on a zone, one after the other, writes a line for each outcome, and flushes the writer.
+fn run_zone<P: Pool, W: Write + Drop>(
+    alloc: Global,
+    zone: &mut Zone<P>,
+    events: &[Event],
+    out: &mut Output<W>,
+) -> Result<(), RunFault>
+    ensures answer { IsRunOf zone.old events.now out.old.contents out.new.contents result }
+    ensures flushed { IsFlushedAfter result out.new.flushed }
+    ensures pools { result ≢ Err RunFault.WrongPools }
+{
     let mut outcomes = Vec::new(alloc);
-    let ran = zone.run(events.as_slice(), &mut outcomes);
+    let ran = zone.run(events, &mut outcomes);
     if write_outcomes(&outcomes, out).is_err() {
         return Err(RunFault::Stream);
     }

@@ -80,17 +80,17 @@ fn is_removed(table: &mut Registrations) -> bool {
 
 /// Whether the second identifier is unused, unless it is taken.
 fn is_unused_again(table: &Registrations) -> bool {
-    table.unused(&[]) == endpoint(b'2')
+    table.unused(&[]) == endpoint(b'4')
         && table.unused(&[endpoint(b'4'), endpoint(b'2')]) == endpoint(b'5')
         && !table.is_unused(&endpoint(b'1'), &[])
         && table.is_unused(&endpoint(b'2'), &[])
         && !table.is_unused(&endpoint(b'2'), &[endpoint(b'2')])
 }
 
-/// Whether the table of four is filled, the second identifier last, since it is taken before.
+/// Whether the table of four is filled, and the identifier of the one that went isn't handed out.
 fn is_filled(table: &mut Registrations, alloc: Global) -> bool {
     gets(table, alloc, 4, &[endpoint(b'2')], endpoint(b'4'))
-        && gets(table, alloc, 5, &[], endpoint(b'2'))
+        && gets(table, alloc, 5, &[], endpoint(b'5'))
         && is_refused_as_full(table, alloc, 6)
 }
 

@@ -143,3 +143,26 @@ fn a_holder_goes_with_all_its_aliases(rt: HostRuntime) -> Result<(), Fail> {
     assert!(rt; is_free);
     Ok(())
 }
+
+/// Whether an endpoint gives up the aliases of a list that are its own: not its others, and none of
+/// another endpoint.
+fn gives_up_its_own(table: &mut AliasTable, own: &[Alias; 2], other: &Alias, free: &Alias) -> bool {
+    if !is_set(table, other, b'2', 2) {
+        return false;
+    }
+    table.drop_all(&[own[0], *other, *free], &endpoint(b'1'));
+    table.holder(&own[0]).is_none() && is_held(table, &own[1], b'1') && is_held(table, other, b'2')
+}
+
+#[test]
+fn an_endpoint_gives_up_aliases_of_its_own(rt: HostRuntime) -> Result<(), Fail> {
+    let one = digits(&[49]).ok_or("digits")?;
+    let two = digits(&[50]).ok_or("digits")?;
+    let three = digits(&[51]).ok_or("digits")?;
+    let four = digits(&[52]).ok_or("digits")?;
+    let mut table = table_of_two(rt.alloc(), &one, &two)?;
+    let gives_up = gives_up_its_own(&mut table, &[one, two], &three, &four);
+    drop(table);
+    assert!(rt; gives_up);
+    Ok(())
+}

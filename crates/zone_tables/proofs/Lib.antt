@@ -1,5 +1,6 @@
 pub mod Answered
 pub mod Agreeing
+pub mod OwnAliases
 pub mod Fitting
 pub mod Members
 pub mod OnePool

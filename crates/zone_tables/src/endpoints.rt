@@ -6,7 +6,8 @@ ghost use Rattle.std.specs.Option.{option_copied, IsSomeAnd};
 ghost use Rattle.std.specs.FinMap as map;
 ghost use Rattle.keyed.specs.Maps.{update};
 ghost use Rattle.registrations.specs.Registry.{at_address, IsConsistent, IsListOf, IsUnused, after_ask, after_calm, with_deadline};
-ghost use Rattle.registrations.specs.Agreement.{registered_elsewhere};
+ghost use Rattle.aliases.specs.Held.{Becomes, without_holder};
+ghost use Rattle.registrations.specs.Agreement.{Agree, registered_elsewhere};
 ghost use Rattle.zone_tables.specs.Tables.{heard_now};
 ghost use Rattle.zone_tables.specs.Translation.{registered_with, translation};
 ghost use Rattle.zone_tables.specs.Changes.{IsAddable, IsEndpointChange, IsRewritable, after_endpoint_change};
@@ -224,7 +225,7 @@ impl Endpoints {
             aliases,
         } = entry;
         self.aliases.reserve(aliases.as_slice().len())?;
-        self.aliases.drop_holder(&id);
+        drop_aliases(&self.registrations, &mut self.aliases, &id);
         self.aliases.set_all(aliases.as_slice(), id, call_signal);
         self.registrations.rewrite(&id, ras, aliases, deadline);
         self.registrations.hear(&id, now.milliseconds());
@@ -253,7 +254,18 @@ impl Endpoints {
         ensures most { self.new.most ≡ self.old.most }
         ensures sound { IsSoundRoll self.new }
     {
-        self.aliases.drop_holder(id);
+        drop_aliases(&self.registrations, &mut self.aliases, id);
         self.registrations.remove(id);
+    }
+}
+
+/// Takes out all aliases of an endpoint, if it is registered, in time that grows with the number of
+/// its aliases alone.
+fn drop_aliases(registrations: &Registrations, aliases: &mut AliasTable, id: &EndpointId)
+    requires { Agree registrations.now.live aliases.old.held }
+    ensures { Becomes aliases.old aliases.new (without_holder aliases.old.held id.now) }
+{
+    if let Some(registration) = registrations.get(id) {
+        aliases.drop_all(registration.aliases.as_slice(), id);
     }
 }

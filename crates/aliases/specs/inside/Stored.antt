@@ -1,15 +1,21 @@
--- How the aliases are stored: in rows, each with an alias of its own.
-use Rattle.std.specs.Prelude.{List}
-use Rattle.keyed.specs.Places.{map_of}
+-- How the aliases are stored: each with who holds it.
+use Rattle.std.specs.Prelude.{◌≡◌, List, ℕ, filter, not, nat_eq}
+use Rattle.std.specs.Cmp.Lexicographic.{pointwise}
+use Rattle.std.specs.FinMap as map
+use Rattle.indexmap.specs.IndexMap.{IndexMap, IsUnique, KeepsRoom}
 use Rattle.ras_module.specs.declared.alias.Alias.{Alias}
-use Rattle.aliases.specs.declared.table.Row.{Row}
+use Rattle.ras_module.specs.Aliases.{same_alias}
 use Rattle.aliases.specs.Held.{Held, Holding}
 
-abbrev pub alias_of : Row → Alias
-alias_of r = r.alias
+abbrev pub key_of : Alias × Holding → Alias
+key_of e = e.0
 
-abbrev pub holding_of : Row → Holding
-holding_of r = record { holder = r.holder; address = r.address }
+abbrev pub held_of : List (Alias × Holding) → Held
+held_of entries = map.from_entries entries
 
-abbrev pub held_in : List Row → Held
-held_in rows = map_of alias_of holding_of rows
+-- the aliases that others than this endpoint hold are left, with no memory taken
+pub record OthersLeft {S : Type 0} (old new : IndexMap Alias Holding S) (id : List ℕ)
+    : Type 0 where
+  pub entries : new.entries ≡ filter (λ e. not (pointwise nat_eq e.1.holder id)) old.entries
+  pub room : KeepsRoom old new
+  pub unique : IsUnique same_alias new

@@ -1,8 +1,10 @@
 -- How what is kept is stored.
-use Rattle.std.specs.Prelude.{◌≡◌, ◌≢◌, ◌≤◌, ◌+◌, ℕ, Bool, false, List, Option, Some, None, length}
-use Rattle.std.specs.Prelude.{nat_eq, is_some, IfSome, if◌then◌else◌}
+use Rattle.std.specs.Prelude.{◌≡◌, ◌≢◌, ◌≤◌, ◌+◌, ℕ, Bool, true, false, List, Option, Some, None}
+use Rattle.std.specs.Prelude.{[], ◌∷◌, ◌++◌, length, slice_get, nat_eq, is_some, IfSome}
+use Rattle.std.specs.Prelude.{if◌then◌else◌}
 use Rattle.std.specs.List.{filter_map}
 use Rattle.std.specs.Cmp.Lexicographic.{pointwise}
+use Rattle.std.specs.Map.{set_value}
 use Rattle.std.specs.FinMap as map
 use Rattle.indexmap.specs.IndexMap.{IndexMap, get, spare, IsUnique, Updates}
 use Rattle.keyed.specs.Places.{AreApart, row_in}
@@ -55,15 +57,36 @@ pub record Rewrites {S : Type 0} (change : KeptEntry → KeptEntry)
     (old new : IndexMap KeptKey KeptEntry S) (key : KeptKey) : Type 0 where
   pub updates : (entry : KeptEntry) → get same_key old key ≡ Some entry
       → Updates same_key old new key (Some (change entry))
+  pub entries : (entry : KeptEntry) → get same_key old key ≡ Some entry
+      → new.entries ≡ set_value (same_key key) old.entries (change entry)
   pub unique : IsUnique same_key new
   pub same_length : length new.entries ≡ length old.entries
   pub same_room : spare new ≡ spare old
+
+-- the row is put behind the others
+abbrev pub Appends : List (KeptKey × KeptEntry) → List (KeptKey × KeptEntry) → KeptKey × KeptEntry
+    → Type 0
+Appends old new row = new ≡ old ++ row ∷ []
+
+-- no row passes a test
+abbrev pub NoRowPasses : (KeptEntry → Bool) → List (KeptKey × KeptEntry) → Type 0
+NoRowPasses test rows =
+    (i : ℕ) (row : KeptKey × KeptEntry) → slice_get rows i ≡ Some row → test row.1 ≡ false
+
+-- a row with this birth passes it
+pub record RowPasses (test : KeptEntry → Bool) (rows : List (KeptKey × KeptEntry)) (born : ℕ)
+    : Type 0 where
+  pub place : ℕ
+  pub row : KeptKey × KeptEntry
+  pub there : slice_get rows place ≡ Some row
+  pub passes : test row.1 ≡ true
+  pub is_born : row.1.born ≡ born
 
 -- the row is removed, where it is one, with no memory taken
 pub record Removes {S : Type 0} (old new : IndexMap KeptKey KeptEntry S)
     (row : Option (KeptKey × KeptEntry)) : Type 0 where
   pub updates : IfSome row (λ row. Updates same_key old new row.0 None)
   pub unchanged : row ≡ None → new.entries ≡ old.entries
-  pub unique : IsUnique same_key new
+  pub unique : IfSome row (λ row. IsUnique same_key new)
   pub shorter : length new.entries + (if is_some row then 1 else 0) ≡ length old.entries
   pub room : spare old ≤ spare new

@@ -2,6 +2,7 @@ use Rattle.std.proofs.Common.{ap, sym, ◌∙◌}
 use Rattle.std.specs.Map.Iter.{deref_pair}
 use Rattle.std.specs.Option.{option_map}
 use Rattle.indexmap.specs.IndexMap.{insert_entry}
+use Rattle.keyed.proofs.Entries.{AreApart-entries}
 use Rattle.keyed.proofs.Inserted.{insert_next}
 use Rattle.kept_replies.specs.Keys.{same_key}
 use Rattle.kept_replies.proofs.KeyOrder.{key_decides}
@@ -17,4 +18,5 @@ loop-i-preserved c =
     ∙ (ap (λ entry. insert_entry same_key c.loop-i.copies.entries row.0 entry)
     c.in_ok-copy-2.ensures
     ∙ (ap (λ es. insert_entry same_key es row.0 row.1) c.loop-i.invariant
-    ∙ insert_next key_decides c.args.rows.now.entries c.loop-i.i row c.requires here)))
+    ∙ insert_next key_decides c.args.rows.now.entries c.loop-i.i row
+    (AreApart-entries key_decides c.args.rows.now.entries c.len.ensures.unique) here)))

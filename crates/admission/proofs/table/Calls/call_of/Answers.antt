@@ -1,13 +1,25 @@
-use Rattle.std.proofs.Common.{sym, subst}
-use Rattle.std.specs.Prelude.{Option, MatchOption, IsSome}
+use Rattle.std.proofs.Common.{Some, sym, ◌∙◌, ap, subst}
+use Rattle.std.specs.Prelude.{Option, MatchOption, IsSome, nat_eq}
+use Rattle.std.specs.Option.{option_eq}
 use Rattle.ras_module.specs.declared.call_key.CallKey.{CallKey}
-use Rattle.admission.specs.Calls.{IsInNoCall, leg_at}
-use Rattle.admission.proofs.StoredCalls.{call_found}
+use Rattle.admission.specs.Calls.{CallTable, IsInNoCall, leg_at, legs_of}
+use Rattle.admission.proofs.KeptLegs.{none_known}
+use Rattle.admission.proofs.Soundness.{IsInNoCall-zero}
+use Rattle.admission.proofs.StoredCalls.{open_of, call_found}
 use Rattle.admission.proofs.table.Calls.call_of.Goals as goal
+
+pub returns-then-eq : goal.returns-then-eq
+returns-then-eq c =
+    let calls = open_of c.self.inside.calls in
+    let none = none_known c.self.inside.leg_counts (legs_of calls) c.self.invariant.legs
+    c.args.endpoint.now (ap (λ w. option_eq nat_eq w (Some 0)) (sym c.of.ensures)
+    ∙ (sym c.eq.ensures ∙ c.if-eq.true)) in
+    subst (λ (t : CallTable). IsInNoCall t.calls c.args.endpoint.now) c.self.view_is
+    (IsInNoCall-zero calls c.args.endpoint.now none)
 
 pub returns : goal.returns
 returns c =
     subst (λ (w : Option CallKey). MatchOption w (IsInNoCall c.args.self.now.calls
     c.args.endpoint.now) (λ key. IsSome (leg_at c.args.self.now.calls key c.args.endpoint.now)))
     (sym c.call_in.ensures) (call_found c.self.inside.calls c.self.inside.most c.args.self.now
-    c.self.invariant c.self.view_is c.args.endpoint.now)
+    c.self.invariant.stored c.self.view_is c.args.endpoint.now)

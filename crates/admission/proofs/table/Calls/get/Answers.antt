@@ -9,4 +9,4 @@ returns-clause-found c = c.get.ensures.value ∙ (get_call c.self.inside.calls c
 
 pub returns-clause-sound : goal.returns-clause-sound
 returns-clause-sound c = IsConsistent-stored c.self.inside.calls c.self.inside.most c.args.self.now
-    c.self.invariant c.self.view_is
+    c.self.invariant.stored c.self.view_is

@@ -4,8 +4,8 @@ use Rattle.admission.proofs.table.Calls.len.Goals as goal
 
 pub returns-clause-len : goal.returns-clause-len
 returns-clause-len c = c.len.ensures.len ∙ sym (len_stored c.self.inside.calls c.self.inside.most
-    c.args.self.now c.self.invariant c.self.view_is)
+    c.args.self.now c.self.invariant.stored c.self.view_is)
 
 pub returns-clause-sound : goal.returns-clause-sound
 returns-clause-sound c = IsConsistent-stored c.self.inside.calls c.self.inside.most c.args.self.now
-    c.self.invariant c.self.view_is
+    c.self.invariant.stored c.self.view_is

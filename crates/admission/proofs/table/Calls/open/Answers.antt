@@ -1,68 +1,94 @@
-use Rattle.std.proofs.Common.{◌≡◌, List, length, ap, subst, sym, ◌∙◌, refl}
+use Rattle.std.proofs.Common.{◌≡◌, List, length, Some, ap, arith, subst, sym, ◌∙◌, refl}
 use Rattle.std.specs.FinMap as map
+use Rattle.indexmap.specs.IndexMap.{Updates}
+use Rattle.ras_module.specs.CallKeys.{same_call_key}
 use Rattle.admission.specs.declared.leg.Leg.{Leg}
-use Rattle.admission.specs.Calls.{IsCall, Adds}
-use Rattle.admission.proofs.LegLemmas.{IsCall-open}
-use Rattle.admission.proofs.StoredCalls.{table_of, get_call, longer_by_one, AreStored-open}
-use Rattle.admission.proofs.StoredCalls.{AreStored-same, Adds-open, len_stored}
+use Rattle.admission.specs.Calls.{new_call, legs_of}
+use Rattle.admission.proofs.CountedCalls.{AreCounted-same, AreCounted-keeps, AreCounted-open}
+use Rattle.admission.proofs.KeptLegs.{AreLegCounts-keeps, small_count}
+use Rattle.admission.proofs.KeptSums.{small_total, small_sum}
+use Rattle.admission.proofs.StoredCalls.{open_of, get_call, longer_by_one, Adds-open, full_stored}
 use Rattle.admission.proofs.table.Calls.open.Goals as goal
-use Rattle.admission.proofs.table.Calls.open.Goals.{in-Ok, in-Err}
+
+pub add-requires-clause-total : goal.add-requires-clause-total
+add-requires-clause-total c =
+    omega (
+      arith,
+      small_total c.self.inside.calls c.self.inside.most c.self.invariant.stored
+          c.self.inside.in_use c.self.invariant.sums,
+      c.ranges.units.fits,
+    )
+
+pub add-requires-clause-pool : goal.add-requires-clause-pool
+add-requires-clause-pool c below =
+    omega (
+      arith,
+      small_sum c.self.inside.calls c.self.inside.most c.self.invariant.stored
+          c.self.inside.in_use c.self.invariant.sums c.args.pool below,
+      c.ranges.units.fits,
+    )
+
+opened : (c : goal.After-come) → Updates same_call_key c.self.inside.calls c.insert.new.self
+    c.args.key (Some (new_call c.args.pool c.args.units c.args.leg))
+opened c =
+    subst (λ (legs : List Leg). Updates same_call_key c.self.inside.calls c.insert.new.self
+    c.args.key (Some (record { pool = c.args.pool; units = c.args.units; legs = legs })))
+    c.one.ensures c.in-Ok.ensures.updates
+
+pub come-requires : goal.come-requires
+come-requires c =
+    small_count c.self.inside.calls c.self.inside.most c.self.invariant.stored c.reserve.new.self
+    (AreLegCounts-keeps c.self.inside.leg_counts c.reserve.new.self
+    (legs_of (open_of c.self.inside.calls)) c.self.invariant.legs c.reserve.ensures)
+    c.args.leg.endpoint
 
 pub invariant_of-self : goal.invariant_of-self
 invariant_of-self c =
     let old = c.self.inside.calls in
-    let absent = get_call old c.args.key
-    ∙ (ap (λ t. map.get t.calls c.args.key) c.self.view_is ∙ c.requires) in
-    elim c.match-insert.branch [
-      | in-Ok w ↦
-          let longer = longer_by_one w.in-Ok.field-0 (length c.insert.new.self.entries)
-          (length old.entries) w.in-Ok.ensures.len (w.in-Ok.ensures.old ∙ absent) in
-          let is = subst (λ (legs : List Leg). IsCall (record {
-            pool = c.args.pool;
-            units = c.args.units;
-            legs = legs;
-          })) (sym c.one.ensures)
-          (IsCall-open c.args.pool c.args.units c.args.leg c.ranges.units.fits) in
-          AreStored-open old c.insert.new.self c.self.inside.most c.self.invariant c.args.key
-          w.in-Ok.ensures.unique _ w.in-Ok.ensures.updates longer
-          (λ e. c.if-len-self.false (c.len.ensures.len ∙ e)) is
-      | in-Err w ↦ AreStored-same old c.insert.new.self c.self.inside.most
-          c.self.invariant w.in-Err.ensures.err
-    ]
+    let new = c.insert.new.self in
+    let absent = ap (λ t. map.get t.calls c.args.key) c.self.view_is ∙ c.requires in
+    let longer = longer_by_one c.in-Ok.field-0 (length new.entries) (length old.entries)
+    c.in-Ok.ensures.len (c.in-Ok.ensures.old ∙ (get_call old c.args.key ∙ absent)) in
+    AreCounted-open old new c.self.inside.most c.self.inside.in_use c.reserve.new.self
+    (AreCounted-keeps old old c.self.inside.most c.self.inside.in_use c.self.inside.leg_counts
+    c.self.invariant c.reserve.new.self c.reserve.ensures)
+    c.args.key c.add.new.self c.come.new.self c.args.pool c.args.units c.args.leg absent
+    c.ranges.units.fits (λ e. c.if-len-self.false (c.len.ensures.len ∙ e))
+    c.in-Ok.ensures.unique (opened c) longer c.add.ensures c.come.ensures.comes
 
-pub returns-clause-ok : goal.returns-clause-ok
-returns-clause-ok c =
-    elim c.match-insert.branch [
-      | in-Ok w ↦ rw w.result-is
-          (subst (λ (legs : List Leg). Adds c.args.self.now (table_of c.insert.new.self
-          c.self.inside.most) (map.insert c.args.self.now.calls c.args.key
-          (record { pool = c.args.pool; units = c.args.units; legs = legs }))) c.one.ensures
-          (Adds-open c.self.inside.calls c.insert.new.self c.args.key c.self.inside.most
-          c.args.self.now c.self.view_is (invariant_of-self c) _
-          w.in-Ok.ensures.updates w.in-Ok.ensures.spare))
-      | in-Err w ↦ rw w.result-is tt
-    ]
+pub invariant_of-self-in-Err : goal.invariant_of-self-in-Err
+invariant_of-self-in-Err c = AreCounted-same c.self.inside.calls c.insert.new.self
+    c.self.inside.most c.self.inside.in_use c.self.inside.leg_counts c.self.invariant
+    c.in-Err.ensures.err
 
-is_full : (c : goal.Then-len-self) → map.len c.args.self.now.calls ≡ c.args.self.now.most
-is_full c =
-    len_stored c.self.inside.calls c.self.inside.most c.args.self.now
-    c.self.invariant c.self.view_is
-    ∙ (sym c.len.ensures.len ∙ (c.if-len-self.true ∙ ap (λ t. t.most) c.self.view_is))
+pub returns-in-Ok-clause-ok : goal.returns-in-Ok-clause-ok
+returns-in-Ok-clause-ok c =
+    Adds-open c.self.inside.calls c.insert.new.self c.args.key c.self.inside.most
+    c.args.self.now c.self.view_is (invariant_of-self c).stored
+    (new_call c.args.pool c.args.units c.args.leg) (opened c) c.in-Ok.ensures.spare
+
+full : (c : goal.Then-len-self) → map.len c.args.self.now.calls ≡ c.args.self.now.most
+full c = (full_stored c.self.inside.calls c.self.inside.most c.args.self.now
+    c.self.invariant.stored c.self.view_is).1 (sym c.len.ensures.len ∙ c.if-len-self.true)
 
 pub returns-then-len-self-clause-full : goal.returns-then-len-self-clause-full
-returns-then-len-self-clause-full c = (λ e. is_full c, λ h. refl)
+returns-then-len-self-clause-full c = (λ e. full c, λ h. refl)
 
 pub returns-then-len-self-clause-other : goal.returns-then-len-self-clause-other
-returns-then-len-self-clause-other c = λ differ. absurd (differ (is_full c))
+returns-then-len-self-clause-other c = λ differ. absurd (differ (full c))
 
-pub returns-clause-full : goal.returns-clause-full
-returns-clause-full c = (
-  λ e. elim c.match-insert.branch [
-    | in-Ok w ↦ absurd (cc (sym w.result-is ∙ e))
-    | in-Err w ↦ absurd (cc (sym w.result-is ∙ e))
-  ],
+pub returns-in-Ok-clause-full : goal.returns-in-Ok-clause-full
+returns-in-Ok-clause-full c = (
+  λ e. absurd (cc e),
   λ h. absurd (c.if-len-self.false (c.len.ensures.len
-      ∙ (sym (len_stored c.self.inside.calls c.self.inside.most c.args.self.now
-      c.self.invariant c.self.view_is)
-      ∙ (h ∙ sym (ap (λ t. t.most) c.self.view_is))))),
+      ∙ (full_stored c.self.inside.calls c.self.inside.most c.args.self.now
+      c.self.invariant.stored c.self.view_is).0 h)),
+)
+
+pub returns-in-Err-clause-full : goal.returns-in-Err-clause-full
+returns-in-Err-clause-full c = (
+  λ e. absurd (cc e),
+  λ h. absurd (c.if-len-self.false (c.len.ensures.len
+      ∙ (full_stored c.self.inside.calls c.self.inside.most c.args.self.now
+      c.self.invariant.stored c.self.view_is).0 h)),
 )

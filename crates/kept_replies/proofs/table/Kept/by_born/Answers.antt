@@ -15,7 +15,7 @@ returns-in_err-place-clause-found c =
 pub returns-clause-found : goal.returns-clause-found
 returns-clause-found c =
     let i = c.self.inside in
-    c.get_index.ensures.entry
+    c.get_index.ensures
     ∙ row_born i.rows i.most c.args.self.now c.self.invariant c.self.view_is c.args.born
     (Some c.in_ok-place.place) c.in_ok-place.ensures
 

@@ -10,12 +10,12 @@ use Rattle.kept_replies.proofs.table.Kept.drop_born.Goals as goal
 pub invariant_of-self : goal.invariant_of-self
 invariant_of-self c =
     let i = c.self.inside in
-    AreStored-less i.rows c.remove_at.new.rows i.most c.args.self.now c.self.invariant
+    AreStored-less i.rows c.remove_at.new.self i.most c.args.self.now c.self.invariant
     c.self.view_is (slice_get i.rows.entries c.in-Some.place) c.remove_at.ensures
 
 pub returns-in-Some-clause-sound : goal.returns-in-Some-clause-sound
 returns-in-Some-clause-sound c =
-    IsConsistent-stored c.remove_at.new.rows c.self.inside.most _ (invariant_of-self c) refl
+    IsConsistent-stored c.remove_at.new.self c.self.inside.most _ (invariant_of-self c) refl
 
 pub returns-in_default-clause-sound : goal.returns-in_default-clause-sound
 returns-in_default-clause-sound c =
@@ -24,7 +24,7 @@ returns-in_default-clause-sound c =
 pub returns-in-Some-clause-becomes : goal.returns-in-Some-clause-becomes
 returns-in-Some-clause-becomes c =
     let i = c.self.inside in
-    Becomes-found i.rows c.remove_at.new.rows i.most c.args.self.now c.self.invariant
+    Becomes-found i.rows c.remove_at.new.self i.most c.args.self.now c.self.invariant
     c.self.view_is (slice_get i.rows.entries c.in-Some.place) _
     (row_born i.rows i.most c.args.self.now c.self.invariant c.self.view_is c.args.born
     (Some c.in-Some.place) c.in-Some.ensures) c.remove_at.ensures

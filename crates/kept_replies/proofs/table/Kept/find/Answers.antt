@@ -5,7 +5,7 @@ use Rattle.kept_replies.proofs.table.Kept.find.Goals as goal
 
 pub returns-clause-found : goal.returns-clause-found
 returns-clause-found c =
-    c.get.ensures.value
+    c.get.ensures
     ∙ (get_row c.self.inside.rows c.args.key.now
     ∙ ap (λ t. map.get t.kept c.args.key.now) c.self.view_is)
 

@@ -9,17 +9,17 @@ pub invariant_of-self : goal.invariant_of-self
 invariant_of-self c =
     let i = c.self.inside in
     let entry = some_entry (map.get c.args.self.now.kept c.args.key.now) c.requires in
-    AreStored-rewrite i.rows c.write_done.new.rows c.args.key.now i.most c.args.self.now
-    c.self.view_is (finished c.args.reply c.args.until) c.write_done.ensures entry.0 entry.1
+    AreStored-rewrite i.rows c.finish.new.self c.args.key.now i.most c.args.self.now
+    c.self.view_is (finished c.args.reply c.args.until) c.finish.ensures entry.0 entry.1
     c.self.invariant refl (λ h. tt)
 
 pub returns-clause-sound : goal.returns-clause-sound
 returns-clause-sound c =
-    IsConsistent-stored c.write_done.new.rows c.self.inside.most _ (invariant_of-self c) refl
+    IsConsistent-stored c.finish.new.self c.self.inside.most _ (invariant_of-self c) refl
 
 pub returns-clause-becomes : goal.returns-clause-becomes
 returns-clause-becomes c =
     let i = c.self.inside in
     let entry = some_entry (map.get c.args.self.now.kept c.args.key.now) c.requires in
-    Becomes-rewrite i.rows c.write_done.new.rows c.args.key.now i.most c.args.self.now
-    c.self.view_is (finished c.args.reply c.args.until) c.write_done.ensures entry.0 entry.1
+    Becomes-rewrite i.rows c.finish.new.self c.args.key.now i.most c.args.self.now
+    c.self.view_is (finished c.args.reply c.args.until) c.finish.ensures entry.0 entry.1

@@ -5,4 +5,5 @@ pub returns : goal.returns
 returns c =
     let i = c.self.inside in
     all_named i.rows i.most c.args.self.now c.self.invariant c.self.view_is
-    (λ ids. ids.items) c.identifiers_in.result c.identifiers_in.ensures
+    (λ ids. ids.items) c.identifiers_in.result
+    (rw c.as_map-rows.ensures at c.identifiers_in.ensures)

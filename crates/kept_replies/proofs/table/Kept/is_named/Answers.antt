@@ -5,4 +5,5 @@ pub returns : goal.returns
 returns c =
     let i = c.self.inside in
     any_named i.rows i.most c.args.self.now c.self.invariant c.self.view_is c.args.id.now
-    c.is_named_in.result c.is_named_in.ensures
+    c.is_named.result
+    c.is_named.ensures

@@ -5,7 +5,7 @@ use Rattle.kept_replies.proofs.table.Kept.len.Goals as goal
 pub returns-clause-len : goal.returns-clause-len
 returns-clause-len c =
     let i = c.self.inside in
-    c.len.ensures.len
+    c.len.ensures
     ∙ sym (len_stored i.rows i.most c.args.self.now c.self.invariant c.self.view_is)
 
 pub returns-clause-sound : goal.returns-clause-sound

@@ -7,7 +7,7 @@ pub returns-clause-found : goal.returns-clause-found
 returns-clause-found c =
     let i = c.self.inside in
     search_born i.rows i.most c.args.self.now c.self.invariant c.self.view_is (is_over c.args.now)
-    c.over_in.result c.over_in.ensures
+    c.over.result c.over.ensures
 
 pub returns-clause-sound : goal.returns-clause-sound
 returns-clause-sound c =

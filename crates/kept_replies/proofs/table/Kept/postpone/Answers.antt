@@ -8,8 +8,8 @@ use Rattle.kept_replies.proofs.StoredKept.{AreStored-rewrite, Becomes-rewrite, I
 use Rattle.kept_replies.proofs.StoredKept.{IsConsistent-stored}
 use Rattle.kept_replies.proofs.table.Kept.postpone.Goals as goal
 
-pub write_retry-requires : goal.write_retry-requires
-write_retry-requires c =
+pub postpone-requires : goal.postpone-requires
+postpone-requires c =
     let i = c.self.inside in
     passing_stays (hash.get same_key i.rows c.args.key.now)
     (map.get c.args.self.now.kept c.args.key.now) (λ entry. 2 ≤ left_in entry.state)
@@ -22,18 +22,18 @@ invariant_of-self c =
     let i = c.self.inside in
     let entry = passing_entry (map.get c.args.self.now.kept c.args.key.now)
     (λ entry. 2 ≤ left_in entry.state) c.requires in
-    AreStored-rewrite i.rows c.write_retry.new.rows c.args.key.now i.most c.args.self.now
-    c.self.view_is (postponed c.args.retry) c.write_retry.ensures entry.0 entry.1
+    AreStored-rewrite i.rows c.postpone.new.self c.args.key.now i.most c.args.self.now
+    c.self.view_is (postponed c.args.retry) c.postpone.ensures entry.0 entry.1
     c.self.invariant refl (λ h. IsEntry-postponed c.args.retry entry.0 entry.2)
 
 pub returns-clause-sound : goal.returns-clause-sound
 returns-clause-sound c =
-    IsConsistent-stored c.write_retry.new.rows c.self.inside.most _ (invariant_of-self c) refl
+    IsConsistent-stored c.postpone.new.self c.self.inside.most _ (invariant_of-self c) refl
 
 pub returns-clause-becomes : goal.returns-clause-becomes
 returns-clause-becomes c =
     let i = c.self.inside in
     let entry = passing_entry (map.get c.args.self.now.kept c.args.key.now)
     (λ entry. 2 ≤ left_in entry.state) c.requires in
-    Becomes-rewrite i.rows c.write_retry.new.rows c.args.key.now i.most c.args.self.now
-    c.self.view_is (postponed c.args.retry) c.write_retry.ensures entry.0 entry.1
+    Becomes-rewrite i.rows c.postpone.new.self c.args.key.now i.most c.args.self.now
+    c.self.view_is (postponed c.args.retry) c.postpone.ensures entry.0 entry.1

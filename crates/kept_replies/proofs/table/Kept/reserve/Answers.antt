@@ -6,4 +6,5 @@ pub returns-clause-sound : goal.returns-clause-sound
 returns-clause-sound c =
     let i = c.self.inside in
     IsConsistent-stored c.reserve.new.self i.most _
-    (AreStored-same i.rows c.reserve.new.self i.most c.self.invariant c.reserve.ensures.entries) refl
+    (AreStored-same i.rows c.reserve.new.self i.most c.self.invariant c.reserve.ensures.entries)
+    refl

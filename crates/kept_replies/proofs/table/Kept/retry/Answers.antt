@@ -7,7 +7,7 @@ pub returns-clause-found : goal.returns-clause-found
 returns-clause-found c =
     let i = c.self.inside in
     search_born i.rows i.most c.args.self.now c.self.invariant c.self.view_is (is_retry c.args.now)
-    c.retry_in.result c.retry_in.ensures
+    c.retry.result c.retry.ensures
 
 pub returns-clause-sound : goal.returns-clause-sound
 returns-clause-sound c =

@@ -1,17 +1,32 @@
-use Rattle.std.proofs.Common.{ap, subst, ◌∙◌}
-use Rattle.registrations.specs.Registry.{Registry, IsConsistent, at_address}
-use Rattle.registrations.proofs.Rows.{address_row, IsConsistent-rows}
+use Rattle.std.proofs.Common.{ap, sym, ◌∙◌}
+use Rattle.std.specs.Option.{option_copied}
+use Rattle.registrations.proofs.Stored.{consistent, found_by, not_found_by}
 use Rattle.registrations.proofs.table.Registrations.by_address.Goals as goal
+
+pub returns-in_err-place-clause-found : goal.returns-in_err-place-clause-found
+returns-in_err-place-clause-found c =
+    let i = c.self.inside in
+    ap option_copied c.from_residual.ensures
+    ∙ not_found_by i.rows i.by_identifier i.by_address i.deadlines i.most c.self.invariant.stored _
+    c.self.view_is
+    c.args.address (sym c.in_err-place.ensures.value)
+
+pub returns-in_err-place-clause-sound : goal.returns-in_err-place-clause-sound
+returns-in_err-place-clause-sound c =
+    let i = c.self.inside in
+    consistent i.rows i.by_identifier i.by_address i.deadlines i.most c.self.invariant.stored _
+    c.self.view_is
 
 pub returns-clause-found : goal.returns-clause-found
 returns-clause-found c =
     let i = c.self.inside in
-    rw c.deref.ensures.value at c.row_at.ensures
-    ∙ (address_row i.items.items i.most i.lowest c.args.address c.self.invariant
-    ∙ ap (λ t. at_address t.live c.args.address) c.self.view_is)
+    c.get-2.ensures
+    ∙ found_by i.rows i.by_identifier i.by_address i.deadlines i.most c.self.invariant.stored _
+    c.self.view_is
+    c.args.address c.in_ok-place.place.now (sym c.in_ok-place.ensures.value)
 
 pub returns-clause-sound : goal.returns-clause-sound
 returns-clause-sound c =
-    subst (λ (t : Registry). IsConsistent t.live) c.self.view_is
-    (IsConsistent-rows c.self.inside.items.items c.self.inside.most
-    c.self.inside.lowest c.self.invariant)
+    let i = c.self.inside in
+    consistent i.rows i.by_identifier i.by_address i.deadlines i.most c.self.invariant.stored _
+    c.self.view_is

@@ -1,17 +1,32 @@
-use Rattle.std.proofs.Common.{ap, subst, ◌∙◌}
-use Rattle.std.specs.FinMap as map
-use Rattle.registrations.specs.Registry.{Registry, IsConsistent}
-use Rattle.registrations.proofs.Rows.{get_row, IsConsistent-rows}
+use Rattle.std.proofs.Common.{ap, sym, ◌∙◌}
+use Rattle.std.specs.Option.{option_copied}
+use Rattle.registrations.proofs.Stored.{consistent, found_at, not_found}
 use Rattle.registrations.proofs.table.Registrations.get.Goals as goal
+
+pub returns-in_err-place-clause-found : goal.returns-in_err-place-clause-found
+returns-in_err-place-clause-found c =
+    let i = c.self.inside in
+    ap option_copied c.from_residual.ensures
+    ∙ not_found i.rows i.by_identifier i.by_address i.deadlines i.most c.self.invariant.stored _
+    c.self.view_is
+    c.args.id.now (sym c.in_err-place.ensures.value)
+
+pub returns-in_err-place-clause-sound : goal.returns-in_err-place-clause-sound
+returns-in_err-place-clause-sound c =
+    let i = c.self.inside in
+    consistent i.rows i.by_identifier i.by_address i.deadlines i.most c.self.invariant.stored _
+    c.self.view_is
 
 pub returns-clause-found : goal.returns-clause-found
 returns-clause-found c =
-    rw c.deref.ensures.value at c.row_of.ensures
-    ∙ (get_row c.self.inside.items.items c.args.id.now
-    ∙ ap (λ t. map.get t.live c.args.id.now) c.self.view_is)
+    let i = c.self.inside in
+    c.get-2.ensures
+    ∙ found_at i.rows i.by_identifier i.by_address i.deadlines i.most c.self.invariant.stored _
+    c.self.view_is
+    c.args.id.now c.in_ok-place.place.now (sym c.in_ok-place.ensures.value)
 
 pub returns-clause-sound : goal.returns-clause-sound
 returns-clause-sound c =
-    subst (λ (t : Registry). IsConsistent t.live) c.self.view_is
-    (IsConsistent-rows c.self.inside.items.items c.self.inside.most
-    c.self.inside.lowest c.self.invariant)
+    let i = c.self.inside in
+    consistent i.rows i.by_identifier i.by_address i.deadlines i.most c.self.invariant.stored _
+    c.self.view_is

@@ -1,10 +1,14 @@
-use Rattle.std.proofs.Common.{refl, subst, sym}
-use Rattle.registrations.specs.inside.Stored.{IsTable}
-use Rattle.registrations.proofs.Rows.{IsSound-rows, IsTable-empty}
+use Rattle.registrations.proofs.Stored.{IsSound-stored}
+use Rattle.registrations.proofs.Tables.{IsTable-empty}
 use Rattle.registrations.proofs.table.Registrations.new.Goals as goal
+
+pub invariant_of-result : goal.invariant_of-result
+invariant_of-result c =
+    IsTable-empty c.new.result c.new-2.result c.new-3.result c.new-4.result c.args.most
+    c.new.ensures.empty c.new-2.ensures.empty c.new-3.ensures.empty c.new-4.ensures.moments
+    c.requires
 
 pub returns-clause-sound : goal.returns-clause-sound
 returns-clause-sound c =
-    IsSound-rows c.new.result.items c.args.most 1
-    (subst (λ rows. IsTable rows c.args.most 1) (sym c.new.ensures.items)
-    (IsTable-empty c.args.most c.requires)) _ refl refl
+    IsSound-stored c.new.result c.new-2.result c.new-3.result c.args.most
+    (invariant_of-result c).stored c.new-4.result

@@ -1,38 +1,66 @@
-use Rattle.std.proofs.Common.{◌≡◌, ap, sym, subst, ◌∙◌, arith}
-use Rattle.std.specs.Prelude.{Option, Some, IfSome, slice_get}
+use Rattle.std.proofs.Common.{◌≡◌, Some, refl, ap, sym, ◌∙◌, arith}
+use Rattle.std.specs.Prelude.{slice_get}
+use Rattle.std.specs.Option.{option_copied}
 use Rattle.std.specs.FinMap as map
 use Rattle.registrations.specs.declared.registration.Registration.{Registration}
-use Rattle.registrations.proofs.Rows.{len_live, placed_live, if_copied, some_placed, placed_some}
+use Rattle.registrations.proofs.Order.{order_at, order_none}
+use Rattle.registrations.proofs.Stored.{leads, len_stored, live_map, copied_is, copied_some}
 use Rattle.registrations.proofs.table.Registrations.nth.Goals as goal
+
+pub returns-in_err-_identifier-clause-nth : goal.returns-in_err-_identifier-clause-nth
+returns-in_err-_identifier-clause-nth c =
+    let i = c.self.inside in
+    let none = order_none i.rows i.by_identifier.entries
+    (leads i.rows i.by_identifier i.by_address i.most c.self.invariant.stored) c.args.i
+    (sym c.in_err-_identifier.ensures.entry) in
+    ap option_copied c.from_residual.ensures
+    ∙ (sym none ∙ ap (λ t. slice_get t.order c.args.i) c.self.view_is)
+
+pub returns-in_err-_identifier-clause-some : goal.returns-in_err-_identifier-clause-some
+returns-in_err-_identifier-clause-some c =
+    let i = c.self.inside in (
+      λ some. absurd (cc (rw c.from_residual.ensures at some)),
+      λ below. absurd (cc (c.in_err-_identifier.ensures.found.1 (omega (
+        arith,
+        below,
+        len_stored i.rows i.by_identifier i.by_address i.most c.self.invariant.stored,
+        ap (λ t. map.len t.live) c.self.view_is,
+      )))),
+    )
+
+pub returns-clause-nth : goal.returns-clause-nth
+returns-clause-nth c =
+    let i = c.self.inside in
+    let at = order_at i.rows i.by_identifier.entries
+    (leads i.rows i.by_identifier i.by_address i.most c.self.invariant.stored) c.args.i
+    (c.in_ok-_identifier._identifier.now, c.in_ok-_identifier.place.now)
+    (sym c.in_ok-_identifier.ensures.entry) in
+    c.get.ensures ∙ (sym at ∙ ap (λ t. slice_get t.order c.args.i) c.self.view_is)
 
 pub returns-clause-some : goal.returns-clause-some
 returns-clause-some c =
     let i = c.self.inside in
-    let read = rw c.deref.ensures.value at c.row_at_place.ensures in
-    let len = len_live i.items.items i.most i.lowest c.self.invariant in
-    let same = ap (λ t. map.len t.live) c.self.view_is in (
+    let row = leads i.rows i.by_identifier i.by_address i.most c.self.invariant.stored c.args.i
+    (c.in_ok-_identifier._identifier.now, c.in_ok-_identifier.place.now)
+    (sym c.in_ok-_identifier.ensures.entry) in (
       λ some. omega (
         arith,
-        some_placed i.items.items c.args.i c.row_at_place.result read some,
-        len,
-        same,
+        c.in_ok-_identifier.ensures.found.0 refl,
+        len_stored i.rows i.by_identifier i.by_address i.most c.self.invariant.stored,
+        ap (λ t. map.len t.live) c.self.view_is,
       ),
-      λ below. placed_some i.items.items c.args.i c.row_at_place.result read
-          (omega (arith, below, len, same)),
+      λ below. copied_some c.get.result row.0 (c.get.ensures ∙ row.1),
     )
 
 pub returns-clause-live : goal.returns-clause-live
 returns-clause-live c =
     let i = c.self.inside in
-    let read = rw c.deref.ensures.value at c.row_at_place.ensures in
-    if_copied c.row_at_place.result
+    let row = leads i.rows i.by_identifier i.by_address i.most c.self.invariant.stored c.args.i
+    (c.in_ok-_identifier._identifier.now, c.in_ok-_identifier.place.now)
+    (sym c.in_ok-_identifier.ensures.entry) in
+    copied_is c.get.result row.0
     (λ (r : Registration). map.get c.args.self.now.live r.identifier ≡ Some r)
-    (subst (λ (w : Option Registration). IfSome w
-    (λ r. map.get c.args.self.now.live r.identifier ≡ Some r)) (sym read)
-    (placed_live i.items.items i.most i.lowest c.self.invariant c.args.self.now.live
-    (ap (λ t. t.live) c.self.view_is) c.args.i))
-
-pub returns-clause-nth : goal.returns-clause-nth
-returns-clause-nth c =
-    rw c.deref.ensures.value at c.row_at_place.ensures
-    ∙ ap (λ t. slice_get t.order c.args.i) c.self.view_is
+    (c.get.ensures ∙ row.1)
+    ((live_map i.rows i.by_identifier i.by_address i.deadlines i.most c.self.invariant.stored _
+    c.self.view_is).has
+    c.in_ok-_identifier.place.now row.0 row.1)

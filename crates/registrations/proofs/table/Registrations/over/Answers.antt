@@ -1,34 +1,44 @@
-use Rattle.std.proofs.Common.{◌≡◌, ap, sym, subst, ◌∙◌, true, nat_le}
-use Rattle.std.specs.Prelude.{Option, Some, IfSome}
+use Rattle.std.proofs.Common.{ap, sym, ◌∙◌, refl, arith}
+use Rattle.std.specs.Prelude.{slice_get}
+use Rattle.std.specs.Option.{option_copied, option_map}
+use Rattle.std.specs.Ordering.{nat_cmp}
 use Rattle.std.specs.FinMap as map
-use Rattle.registrations.specs.declared.registration.Registration.{Registration}
-use Rattle.registrations.proofs.Rows.{found_live, found_none, found_passes, none_copied, if_copied}
-use Rattle.registrations.proofs.Rows.{deadline_past, deadline_later}
+use Rattle.keyed.proofs.Decide.{some_none}
+use Rattle.registrations.specs.inside.Stored.{deadline_of}
+use Rattle.registrations.proofs.Stored.{copied_due, due_of}
 use Rattle.registrations.proofs.table.Registrations.over.Goals as goal
+
+pub returns-in_err-deadline-clause-none : goal.returns-in_err-deadline-clause-none
+returns-in_err-deadline-clause-none c none id r there =
+    let i = c.self.inside in
+    let due = due_of i.rows i.by_identifier i.by_address i.deadlines i.most
+    c.self.invariant.stored _ c.self.view_is c.self.invariant.due id r there in
+    some_none (sym due.1 ∙ (ap (λ m. map.get m due.0) (c.in_err-deadline.ensures.none.0 refl)
+    ∙ map.get-empty nat_cmp due.0))
+
+pub returns-then-deadline-now-clause-none : goal.returns-then-deadline-now-clause-none
+returns-then-deadline-now-clause-none c none id r there =
+    let i = c.self.inside in
+    let due = due_of i.rows i.by_identifier i.by_address i.deadlines i.most
+    c.self.invariant.stored _ c.self.view_is c.self.invariant.due id r there in
+    omega (
+      arith,
+      c.if-deadline-now.true,
+      c.in_ok-deadline.ensures.least due.0 r.deadline due.1,
+    )
 
 pub returns-clause-over : goal.returns-clause-over
 returns-clause-over c =
-    let read = rw c.deref.ensures.value at c.row_over.ensures in
-    deadline_past c.args.now c.row_over.result (subst (λ (w : Option Registration). IfSome w
-    (λ r. nat_le r.deadline c.args.now ≡ true)) (sym read)
-    (found_passes c.self.inside.items.items (λ r. nat_le r.deadline c.args.now)))
-
-pub returns-clause-live : goal.returns-clause-live
-returns-clause-live c =
-    let i = c.self.inside in
-    let read = rw c.deref.ensures.value at c.row_over.ensures in
-    if_copied c.row_over.result
-    (λ (r : Registration). map.get c.args.self.now.live r.identifier ≡ Some r)
-    (subst (λ (w : Option Registration). IfSome w
-    (λ r. map.get c.args.self.now.live r.identifier ≡ Some r)) (sym read)
-    (found_live i.items.items i.most i.lowest c.self.invariant c.args.self.now.live
-    (ap (λ t. t.live) c.self.view_is) (λ r. nat_le r.deadline c.args.now)))
+    let at = ap (λ t. option_map deadline_of (slice_get t.order c.in_ok-deadline.i))
+    (sym c.self.view_is)
+    ∙ (sym (c.self.invariant.due c.in_ok-deadline.i) ∙ c.in_ok-deadline.ensures.there) in
+    copied_due c.nth.result c.in_ok-deadline.deadline c.args.now
+    (ap (option_map deadline_of) c.nth.ensures.nth ∙ at) c.if-deadline-now.false
 
 pub returns-clause-none : goal.returns-clause-none
 returns-clause-none c none id r there =
-    let i = c.self.inside in
-    let read = rw c.deref.ensures.value at c.row_over.ensures in
-    deadline_later c.args.now r
-    (found_none i.items.items i.most i.lowest c.self.invariant c.args.self.now.live
-    (ap (λ t. t.live) c.self.view_is) (λ r. nat_le r.deadline c.args.now)
-    (sym read ∙ none_copied c.row_over.result none) id r there)
+    let at = ap (λ t. option_map deadline_of (slice_get t.order c.in_ok-deadline.i))
+    (sym c.self.view_is)
+    ∙ (sym (c.self.invariant.due c.in_ok-deadline.i) ∙ c.in_ok-deadline.ensures.there) in
+    some_none (sym (ap (option_map deadline_of) c.nth.ensures.nth ∙ at)
+    ∙ ap (λ w. option_map deadline_of (option_copied w)) none)

@@ -1,69 +1,90 @@
-use Rattle.std.proofs.Common.{ap, sym, refl, ◌∙◌, arith, subst}
-use Rattle.std.specs.FinMap as map
-use Rattle.std.proofs.lemmas.Cmp.{nat_list_cmp_total}
-use Rattle.std.proofs.lemmas.Map.Lookups.{exact_bytes}
-use Rattle.keyed.proofs.Maps.{remove_absent}
-use Rattle.keyed.proofs.Searches.{place_below}
-use Rattle.registrations.specs.Registry.{IsSound, live_of, identifier_of}
-use Rattle.registrations.proofs.Rows.{IsSound-rows}
-use Rattle.registrations.proofs.Rows.{IsTable-remove, IsRowOf-place, live_remove, length-remove}
+use Rattle.std.proofs.Common.{sym, ◌∙◌, arith}
+use Rattle.deadlines.specs.Deadlines.{renamed}
+use Rattle.registrations.proofs.Stored.{Becomes-remove, Becomes-same, entry_at, is_stored}
+use Rattle.registrations.proofs.Stored.{not_found, registered}
+use Rattle.registrations.proofs.Tables.{IsTable-remove, entry_within}
 use Rattle.registrations.proofs.table.Registrations.remove.Goals as goal
 
-pub returns-in_err-place-clause-removed : goal.returns-in_err-place-clause-removed
-returns-in_err-place-clause-removed c =
+pub returns-in_err-i-clause-found : goal.returns-in_err-i-clause-found
+returns-in_err-i-clause-found c =
     let i = c.self.inside in
-    let none = sym (ap (λ t. map.get t.live c.args.id.now) c.self.view_is)
-    ∙ rw c.deref.ensures.value at c.in_err-place.ensures in
-    record {
-      rows = remove_absent nat_list_cmp_total exact_bytes c.args.self.now.live c.args.id.now
-          none;
-      most = refl;
-      room = omega arith;
-      sound = subst IsSound c.self.view_is
-          (IsSound-rows i.items.items i.most i.lowest c.self.invariant _ refl refl);
-    }
+    c.from_residual.ensures
+    ∙ not_found i.rows i.by_identifier i.by_address i.deadlines i.most c.self.invariant.stored _
+    c.self.view_is c.args.id.now (sym c.in_err-i.ensures.place)
 
-pub remove-requires : goal.remove-requires
-remove-requires c =
+pub returns-in_err-i-clause-removed : goal.returns-in_err-i-clause-removed
+returns-in_err-i-clause-removed c =
+    let i = c.self.inside in
+    Becomes-same i.rows i.by_identifier i.by_address i.deadlines i.most c.self.invariant.stored _
+    c.self.view_is c.args.id.now (sym c.in_err-i.ensures.place)
+
+pub remove-registration-requires : goal.remove-registration-requires
+remove-registration-requires c =
+    let i = c.self.inside in
+    is_stored i.rows i.by_identifier i.by_address i.most c.self.invariant.stored c.args.id.now
+    c.in_ok-i.place (sym c.in_ok-i.ensures.place)
+
+pub rename-requires : goal.rename-requires
+rename-requires c =
+    let i = c.self.inside in
     omega (
       arith,
-      place_below identifier_of c.args.id.now c.deref.result.now
-          c.in_ok-place.place c.in_ok-place.ensures,
-      c.deref.ensures.len,
+      c.clear.ensures.room,
+      entry_within i.rows i.by_identifier i.by_address i.deadlines i.most c.self.invariant
+          c.in_ok-i.i _ c.in_ok-i.ensures.entry,
     )
 
 pub invariant_of-self : goal.invariant_of-self
 invariant_of-self c =
     let i = c.self.inside in
-    rw c.remove.ensures.items (IsTable-remove i.items.items i.most i.lowest c.min-self-inside.result
-    c.in_ok-place.place c.self.invariant
-    (length-remove i.items.items c.in_ok-place.place) (omega (arith, c.min-self-inside.ensures)))
+    let named = sym c.in_ok-i.ensures.place in
+    let out = c.swap_remove_index.ensures.entry
+    ∙ entry_at i.rows i.by_identifier i.by_address i.most c.self.invariant.stored c.args.id.now
+    c.in_ok-i.place c.in_ok-i.i named c.in_ok-i.ensures.entry in
+    IsTable-remove i.rows i.by_identifier i.by_address i.deadlines i.most c.self.invariant
+    c.remove-registration.new.self c.swap_remove_index.new.self c.swap_remove.new.self
+    c.rename.new.self c.args.id.now c.in_ok-i.place c.in_ok-i.i c.remove-registration.result named
+    c.in_ok-i.ensures.entry c.remove-registration.ensures.updates
+    c.remove-registration.ensures.value (rw out at c.swap_remove_index.ensures.updates)
+    c.swap_remove.ensures.updates c.swap_remove_index.ensures.unique
+    (rw out at c.swap_remove_index.ensures.entries) (rw out at c.swap_remove_index.ensures.len)
+    (omega (arith, c.remove-registration.ensures.room))
+    (c.rename.ensures.moments
+    ∙ (λ k. renamed (c.clear.ensures.moments k) (c.len-last.ensures.len k) c.in_ok-i.i))
+    (c.rename.ensures.room ∙ c.clear.ensures.room)
 
 pub returns-clause-found : goal.returns-clause-found
 returns-clause-found c =
     let i = c.self.inside in
-    let place = rw c.deref.ensures.value at c.in_ok-place.ensures in
-    sym (IsRowOf-place i.items.items i.most i.lowest c.args.self.now.live c.args.id.now
-    c.in_ok-place.place c.remove.result c.self.invariant
-    (ap (λ t. t.live) c.self.view_is) place c.remove.ensures.value).found
+    let has = registered i.rows i.by_identifier i.by_address i.deadlines i.most
+    c.self.invariant.stored _ c.self.view_is c.args.id.now c.in_ok-i.place
+    (sym c.in_ok-i.ensures.place) c.remove-registration.result c.remove-registration.ensures.value
+    in
+    sym has.1
 
 pub returns-clause-removed : goal.returns-clause-removed
 returns-clause-removed c =
     let i = c.self.inside in
-    let live = ap (λ t. t.live) c.self.view_is in
-    let place = rw c.deref.ensures.value at c.in_ok-place.ensures in
-    let row = IsRowOf-place i.items.items i.most i.lowest c.args.self.now.live c.args.id.now
-    c.in_ok-place.place c.remove.result c.self.invariant live place c.remove.ensures.value in
-    record {
-      rows = ap live_of c.remove.ensures.items ∙ live_remove i.items.items i.most i.lowest
-          c.args.self.now.live c.args.id.now c.in_ok-place.place c.remove.result
-          c.self.invariant live row;
-      most = ap (λ t. t.most) c.self.view_is;
-      room = omega (
-        arith,
-        ap (λ t. t.room) c.self.view_is,
-        c.remove.ensures.capacity,
-        c.remove.ensures.len,
-      );
-      sound = IsSound-rows _ i.most c.min-self-inside.result (invariant_of-self c) _ refl refl;
-    }
+    let named = sym c.in_ok-i.ensures.place in
+    let out = c.swap_remove_index.ensures.entry
+    ∙ entry_at i.rows i.by_identifier i.by_address i.most c.self.invariant.stored c.args.id.now
+    c.in_ok-i.place c.in_ok-i.i named c.in_ok-i.ensures.entry in
+    let r = c.remove-registration.result in
+    let has = registered i.rows i.by_identifier i.by_address i.deadlines i.most
+    c.self.invariant.stored _ c.self.view_is c.args.id.now c.in_ok-i.place named r
+    c.remove-registration.ensures.value in
+    Becomes-remove i.rows i.by_identifier i.by_address i.deadlines i.most c.self.invariant.stored _
+    c.self.view_is c.remove-registration.new.self c.swap_remove_index.new.self
+    c.swap_remove.new.self c.rename.new.self c.in_ok-i.place r c.args.id.now has.0
+    c.remove-registration.ensures.updates c.remove-registration.ensures.value
+    (invariant_of-self c).stored
+    (omega (
+      arith,
+      c.remove-registration.ensures.capacity,
+      c.remove-registration.ensures.len,
+      rw out at c.swap_remove_index.ensures.len,
+      c.swap_remove_index.ensures.room.0,
+      c.swap_remove.ensures.room.0,
+      c.rename.ensures.room,
+      c.clear.ensures.room,
+    ))

@@ -1,19 +1,42 @@
 use Rattle.std.proofs.Common.{refl}
 use Rattle.registrations.specs.Registry.{with_deadline}
-use Rattle.registrations.proofs.Rows.{Updates-changed, IsTable-changed}
+use Rattle.registrations.proofs.Stored.{Updates-change, is_named, is_stored}
+use Rattle.registrations.proofs.Tables.{IsTable-set, entry_within}
 use Rattle.registrations.proofs.table.Registrations.renew.Goals as goal
+
+pub live_entry-i-requires : goal.live_entry-i-requires
+live_entry-i-requires c =
+    let i = c.self.inside in
+    is_named i.rows i.by_identifier i.by_address i.deadlines i.most c.self.invariant.stored _
+    c.self.view_is c.args.id.now c.requires
+
+pub index_mut-requires : goal.index_mut-requires
+index_mut-requires c =
+    let i = c.self.inside in
+    is_stored i.rows i.by_identifier i.by_address i.most c.self.invariant.stored c.args.id.now
+    c.live_entry-i.result.1 c.live_entry-i.ensures.place
+
+pub set-requires : goal.set-requires
+set-requires c =
+    let i = c.self.inside in
+    entry_within i.rows i.by_identifier i.by_address i.deadlines i.most c.self.invariant
+    c.live_entry-i.result.0 _ c.live_entry-i.ensures.entry
 
 pub invariant_of-self : goal.invariant_of-self
 invariant_of-self c =
     let i = c.self.inside in
-    IsTable-changed i.items.items i.most i.lowest c.args.id.now c.live_place-place.result
-    c.index_mut.result.now (with_deadline c.args.deadline) c.self.invariant
-    (rw c.deref.ensures.value at c.live_place-place.ensures) c.index_mut.ensures.value refl refl
+    let old = c.index_mut.result.now in
+    IsTable-set i.rows i.by_identifier i.by_address i.deadlines i.most c.self.invariant
+    c.args.id.now c.live_entry-i.result.1 c.live_entry-i.ensures.place old
+    (with_deadline c.args.deadline old)
+    c.index_mut.ensures.value refl refl c.live_entry-i.result.0 c.live_entry-i.ensures.entry
+    c.set.new.self
+    c.set.ensures.moments c.set.ensures.room
 
 pub returns : goal.returns
 returns c =
     let i = c.self.inside in
-    Updates-changed i.items.items i.most i.lowest c.args.id.now c.live_place-place.result
-    c.index_mut.result.now (with_deadline c.args.deadline) c.self.invariant
-    (rw c.deref.ensures.value at c.live_place-place.ensures) c.index_mut.ensures.value refl refl
-    _ _ _ c.self.view_is refl refl refl refl refl
+    Updates-change i.rows i.by_identifier i.by_address i.deadlines i.most c.self.invariant.stored _
+    c.self.view_is c.args.id.now c.live_entry-i.result.1 c.live_entry-i.ensures.place
+    c.index_mut.result.now c.index_mut.ensures.value (with_deadline c.args.deadline) refl refl
+    c.set.new.self c.set.ensures.room

@@ -21,8 +21,8 @@ set_all-requires-clause-free c alias has other =
     let sound =
     subst (λ (t : Roll). IsConsistent t.live) c.self.view_is c.self.invariant.sound.consistent in
     let id = c.args.id in
-    let dropped : c.drop_holder.new.self.held ≡ without_holder held id =
-    c.drop_holder.ensures.rows ∙ ap (λ h. without_holder h id) c.reserve.ensures.held in
+    let dropped : c.drop_aliases.new.aliases.held ≡ without_holder held id =
+    c.drop_aliases.ensures.rows ∙ ap (λ h. without_holder h id) c.reserve.ensures.held in
     not_held (without_holder held id) alias id
     (free_to_rewrite c.args.self.now held agree sound id c.args.entry c.requires alias
     (subst (λ (xs : List Alias). Contains xs alias) c.as_slice-2.ensures.items has))
@@ -62,8 +62,8 @@ invariant_of-self-2 c =
     let id = c.args.id in
     let e = c.args.entry in
     let now = c.milliseconds.result in
-    let dropped : c.drop_holder.new.self.held ≡ without_holder held id =
-    c.drop_holder.ensures.rows ∙ ap (λ h. without_holder h id) c.reserve.ensures.held in
+    let dropped : c.drop_aliases.new.aliases.held ≡ without_holder held id =
+    c.drop_aliases.ensures.rows ∙ ap (λ h. without_holder h id) c.reserve.ensures.held in
     let held_is : c.set_all.new.self.held
     ≡ with_aliases (without_holder held id) e.aliases id e.call_signal =
     c.set_all.ensures.held

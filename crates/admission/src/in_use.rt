@@ -1,0 +1,56 @@
+//! The bandwidth in use, added up.
+
+ghost use Rattle.std.specs.Prelude.{◌≡◌, ◌≤◌, ◌<◌, ◌+◌, ◌^◌, length, slice_get};
+ghost use Rattle.std.specs.Option.{option_copied};
+ghost use Rattle.admission.specs.inside.Sums.{sum_of, AreZero, Grows};
+
+/// The units of the calls: of all, and of each pool. A zone has at most 16 pools; those of a pool
+/// with a larger number aren't kept.
+#[derive(Clone, Copy)]
+pub struct InUse {
+    pub total: u64,
+    by_pool: [u64; 16],
+}
+
+impl InUse {
+    /// What no calls use.
+    pub fn none() -> Self
+        ensures { AreZero result }
+    {
+        InUse {
+            total: 0,
+            by_pool: [0; 16],
+        }
+    }
+
+    /// The units of the calls of one pool, where they are kept.
+    pub fn of_pool(&self, pool: usize) -> Option<&u64>
+        ensures { option_copied result ≡ slice_get self.now.by_pool pool }
+    {
+        self.by_pool.get(pool)
+    }
+
+    /// The calls of this pool use so many units more.
+    pub fn add(&mut self, pool: usize, units: u32)
+        requires total { self.old.total + units < 2 ^ 64 }
+        requires pool { pool < length self.old.by_pool → sum_of self.old pool + units < 2 ^ 64 }
+        ensures { Grows self.old self.new pool units }
+    {
+        self.total += u64::from(units);
+        if pool < self.by_pool.len() {
+            self.by_pool[pool] += u64::from(units);
+        }
+    }
+
+    /// The calls of this pool use so many units fewer.
+    pub fn take(&mut self, pool: usize, units: u32)
+        requires total { units ≤ self.old.total }
+        requires pool { pool < length self.old.by_pool → units ≤ sum_of self.old pool }
+        ensures { Grows self.new self.old pool units }
+    {
+        self.total -= u64::from(units);
+        if pool < self.by_pool.len() {
+            self.by_pool[pool] -= u64::from(units);
+        }
+    }
+}

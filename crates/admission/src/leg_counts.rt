@@ -1,0 +1,139 @@
+//! How many legs each endpoint has.
+
+ghost use Rattle.std.specs.Prelude.{◌≡◌, ◌≢◌, ◌≤◌, ◌<◌, ◌^◌, IsTrue, IfOk, nat_eq};
+ghost use Rattle.std.specs.Cmp.Lexicographic.{pointwise};
+ghost use Rattle.indexmap.specs.IndexMap.{spare, ContainsKey};
+ghost use Rattle.admission.specs.inside.LegCounts.{count_of, known, AreZero, Keeps};
+ghost use Rattle.admission.specs.inside.LegCounts.{Puts, Comes, Goes};
+
+use indexmap::IndexMap;
+use ras_module::EndpointId;
+use std::alloc::{AllocError, Global};
+
+/// In how many calls each endpoint has a leg. Where a leg can't be counted for want of memory, the
+/// counts are given up, and nothing is known until they start anew.
+#[derive(Drop)]
+pub struct LegCounts {
+    // an endpoint without an entry has no leg
+    counts: IndexMap<EndpointId, usize>,
+    // no leg was left out
+    whole: bool,
+    // of all endpoints together; it decides only how much room is made
+    legs: usize,
+}
+
+impl LegCounts {
+    /// Of no calls. This takes no memory.
+    pub fn new(alloc: Global) -> Self
+        ensures zero { AreZero result }
+        ensures whole { IsTrue result.whole }
+    {
+        LegCounts {
+            counts: IndexMap::new(alloc),
+            whole: true,
+            legs: 0,
+        }
+    }
+
+    /// Equal counts.
+    pub fn copy(&self) -> Result<Self, AllocError>
+        ensures { IfOk result (Keeps self.now) }
+    {
+        let counts = self.counts.clone()?;
+        Ok(LegCounts {
+            counts,
+            whole: self.whole,
+            legs: self.legs,
+        })
+    }
+
+    /// In how many calls this endpoint has a leg, where it is known.
+    pub fn of(&self, endpoint: &EndpointId) -> Option<usize>
+        ensures { result ≡ known self.now endpoint.now }
+    {
+        if !self.whole {
+            return None;
+        }
+        Some(self.count(endpoint))
+    }
+
+    fn count(&self, endpoint: &EndpointId) -> usize
+        ensures { result ≡ count_of self.now endpoint.now }
+    {
+        match self.counts.get(endpoint) {
+            Some(count) => *count,
+            None => 0,
+        }
+    }
+
+    /// Makes room for both legs of each of so many calls, where there is memory.
+    pub fn reserve(&mut self, calls: usize)
+        ensures { Keeps self.old self.new }
+    {
+        let missing = calls.saturating_mul(2).saturating_sub(self.legs);
+        // where there was none, a leg that comes and finds no room shows it
+        let _ = self.counts.reserve(missing);
+    }
+
+    /// Counts one leg more. This takes no memory: where there is no room for it, the counts are
+    /// given up.
+    pub fn come(&mut self, endpoint: &EndpointId)
+        requires { IsTrue self.old.whole → count_of self.old endpoint.now < 2 ^ 63 }
+        ensures comes { Comes self.old self.new endpoint.now }
+        ensures counted { 0 < spare self.old.counts → IsTrue self.old.whole → IsTrue self.new.whole }
+    {
+        self.legs = self.legs.saturating_add(1);
+        if !self.whole {
+            return;
+        }
+        let count = self.count(endpoint);
+        if count == 0 && self.counts.capacity() == self.counts.len() {
+            self.whole = false;
+            return;
+        }
+        self.put(*endpoint, count + 1);
+    }
+
+    /// Counts one leg fewer.
+    pub fn go(&mut self, endpoint: &EndpointId)
+        requires { IsTrue self.old.whole → 1 ≤ count_of self.old endpoint.now }
+        ensures { Goes self.old self.new endpoint.now }
+    {
+        self.legs = self.legs.saturating_sub(1);
+        if !self.whole {
+            return;
+        }
+        let count = self.count(endpoint);
+        if count == 1 {
+            self.counts.swap_remove(endpoint);
+            return;
+        }
+        self.put(*endpoint, count - 1);
+    }
+
+    /// The endpoint has so many legs.
+    fn put(&mut self, endpoint: EndpointId, count: usize)
+        ensures puts { Puts self.old self.new endpoint count }
+        ensures new { 0 < spare self.old.counts → self.new.whole ≡ self.old.whole }
+        ensures there { ContainsKey (pointwise nat_eq) self.old.counts endpoint
+            → self.new.whole ≡ self.old.whole }
+    {
+        match self.counts.insert(endpoint, count) {
+            Ok(_) => {}
+            Err(_) => self.whole = false,
+        }
+    }
+
+    /// So many calls are left: where there is none, the counts start anew.
+    pub fn calls_left(&mut self, calls: usize)
+        requires { calls ≡ 0 → AreZero self.old }
+        ensures none { calls ≡ 0 → AreZero self.new }
+        ensures anew { calls ≡ 0 → IsTrue self.new.whole }
+        ensures some { calls ≢ 0 → self.new ≡ self.old }
+    {
+        if calls == 0 && !self.whole {
+            self.counts.clear();
+            self.whole = true;
+        }
+    }
+}

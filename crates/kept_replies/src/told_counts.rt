@@ -1,0 +1,169 @@
+//! How often kept RegistrationConfirms tell each identifier.
+
+ghost use Rattle.std.specs.Prelude.{◌≡◌, ◌+◌, ℕ, List, [], Some, IsSome, IsTrue};
+ghost use Rattle.std.specs.List.{list_any};
+ghost use Rattle.std.specs.Option.{option_copied};
+ghost use Rattle.indexmap.specs.IndexMap.{get, Updates};
+ghost use Rattle.kept_replies.specs.Kept.{named_by};
+ghost use Rattle.kept_replies.specs.Keys.{same_key};
+ghost use Rattle.kept_replies.specs.inside.Stored.{is_named_by};
+ghost use Rattle.kept_replies.specs.inside.Told.{AreTold, same_id, count_of, times, once};
+ghost use Rattle.kept_replies.specs.declared.entry.KeptEntry.{KeptEntry};
+
+use crate::entry::KeptEntry;
+use crate::key::KeptKey;
+use crate::searches::is_named_in;
+use indexmap::IndexMap;
+use ras_module::EndpointId;
+use std::alloc::Global;
+use std::marker::Model;
+
+/// Identifiers by how often they are told. It is whole but where memory was wanting: then rows are
+/// searched, until there is memory for it again.
+#[derive(Drop)]
+pub(crate) struct ToldCounts {
+    counts: IndexMap<EndpointId, usize>,
+    is_whole: bool,
+}
+
+impl Model for ToldCounts {
+    ghost use Rattle.kept_replies.specs.inside.Told.{ToldTable};
+
+    ghost Value = { ToldTable };
+
+    ghost view = { λ t. record { counts = t.counts.entries; is_whole = t.is_whole } };
+}
+
+impl ToldCounts {
+    /// No identifier. This takes no memory.
+    pub(crate) fn new(alloc: Global) -> Self
+        ensures { AreTold [] result }
+    {
+        ToldCounts {
+            counts: IndexMap::new(alloc),
+            is_whole: true,
+        }
+    }
+
+    /// The identifiers that these rows tell.
+    pub(crate) fn of(alloc: Global, rows: &IndexMap<KeptKey, KeptEntry>) -> Self
+        ensures { AreTold rows.now.entries result }
+    {
+        let mut all = ToldCounts::new(alloc);
+        all.make_room(rows.len());
+        for (_key, entry) in rows.iter() {
+            all.add(entry.identifier());
+        }
+        all
+    }
+
+    /// Makes it whole again, and ready for one more row, where there is memory for it.
+    pub(crate) fn prepare(&mut self, rows: &IndexMap<KeptKey, KeptEntry>)
+        requires { AreTold rows.now.entries self.old }
+        ensures { AreTold rows.now.entries self.new }
+    {
+        if !self.is_whole {
+            *self = ToldCounts::of(*rows.allocator(), rows);
+        }
+        self.make_room(1);
+    }
+
+    /// Makes room for more identifiers, where there is memory for it.
+    fn make_room(&mut self, more: usize)
+        ensures { self.new ≡ self.old }
+    {
+        // one besides, since a reply goes by adding another first
+        let _room = self.counts.reserve(more.saturating_add(1));
+    }
+
+    /// Whether a row tells this identifier.
+    pub(crate) fn is_told(&self, rows: &IndexMap<KeptKey, KeptEntry>, id: &EndpointId) -> bool
+        requires { AreTold rows.now.entries self.now }
+        ensures { result ≡ list_any (λ row. is_named_by id.now row.1) rows.now.entries }
+    {
+        if self.is_whole {
+            times_of(&self.counts, id) > 0
+        } else {
+            is_named_in(rows, id)
+        }
+    }
+
+    /// One more reply is kept, which may tell an identifier. This takes no memory.
+    pub(crate) fn add(&mut self, named: Option<&EndpointId>)
+        ensures still { IsTrue self.new.is_whole → IsTrue self.old.is_whole }
+        ensures times { IsTrue self.new.is_whole → (id : List ℕ)
+            → times self.new id ≡ times self.old id + once (option_copied named.entry) id }
+    {
+        let Some(id) = named else {
+            return;
+        };
+        let times = times_of(&self.counts, id);
+        self.is_whole = self.is_whole
+            && times < usize::MAX
+            && write_times(&mut self.counts, id, times + 1);
+    }
+
+    /// A reply, which may tell an identifier, is kept no more.
+    pub(crate) fn take_out(&mut self, named: Option<&EndpointId>)
+        ensures still { IsTrue self.new.is_whole → IsTrue self.old.is_whole }
+        ensures times { IsTrue self.new.is_whole → (id : List ℕ)
+            → times self.new id + once (option_copied named.entry) id ≡ times self.old id }
+    {
+        let Some(id) = named else {
+            return;
+        };
+        let times = times_of(&self.counts, id);
+        if times > 1 {
+            self.is_whole = self.is_whole && write_times(&mut self.counts, id, times - 1);
+        } else {
+            self.counts.swap_remove(id);
+            self.is_whole = self.is_whole && times == 1;
+        }
+    }
+
+    /// The entry under this key gets another reply, which may tell an identifier. This takes no
+    /// memory.
+    pub(crate) fn replace(
+        &mut self,
+        rows: &IndexMap<KeptKey, KeptEntry>,
+        key: &KeptKey,
+        named: Option<&EndpointId>,
+    )
+        ensures still { IsTrue self.new.is_whole → IsTrue self.old.is_whole }
+        ensures times { (was : KeptEntry) → get same_key rows.now key.now ≡ Some was
+            → IsTrue self.new.is_whole → (id : List ℕ)
+            → times self.new id + once (named_by was) id
+            ≡ times self.old id + once (option_copied named.entry) id }
+    {
+        if let Some(was) = rows.get(key) {
+            self.add(named);
+            self.take_out(was.identifier());
+        }
+    }
+}
+
+fn times_of(counts: &IndexMap<EndpointId, usize>, id: &EndpointId) -> usize
+    ensures { result ≡ count_of (get same_id counts.now id.now) }
+{
+    counts.get(id).copied().unwrap_or(0)
+}
+
+// writes how often an identifier is told, and answers whether there was room for it
+fn write_times(counts: &mut IndexMap<EndpointId, usize>, id: &EndpointId, times: usize) -> bool
+    ensures { IsTrue result → Updates same_id counts.old counts.new id.now (Some times) }
+{
+    if counts.contains_key(id) {
+        rewrite_times(counts, id, times);
+        return true;
+    }
+    counts.len() < counts.capacity() && counts.insert(*id, times).is_ok()
+}
+
+fn rewrite_times(counts: &mut IndexMap<EndpointId, usize>, id: &EndpointId, times: usize)
+    requires { IsSome (get same_id counts.old id.now) }
+    ensures { Updates same_id counts.old counts.new id.now (Some times) }
+{
+    if let Some(count) = counts.get_mut(id) {
+        *count = times;
+    }
+}
