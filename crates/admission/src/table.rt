@@ -33,13 +33,25 @@ pub struct Left {
 }
 
 /// The calls of a zone by their keys. Contracts see a finite map.
-#[derive(Drop)]
 pub struct Calls {
     calls: IndexMap<CallKey, Call>,
     most: usize,
     // what the calls use, and how many legs each endpoint has: changed with the calls
     in_use: InUse,
     leg_counts: LegCounts,
+}
+
+// By hand, so that it is one call where such a table is dropped: a derived one is written out at each
+// exit of each function that owns a table, field by field down to the buffers.
+impl Drop for Calls {
+    fn drop(self) {
+        let Calls {
+            calls: _,
+            most: _,
+            in_use: _,
+            leg_counts: _,
+        } = self;
+    }
 }
 
 impl Model for Calls {

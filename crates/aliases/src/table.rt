@@ -17,9 +17,16 @@ use std::alloc::{AllocError, Global};
 use std::marker::Model;
 
 /// Who holds each alias, with the call signal address of its holder. Contracts see a finite map.
-#[derive(Drop)]
 pub struct AliasTable {
     rows: IndexMap<Alias, Holder>,
+}
+
+// By hand, so that it is one call where such a table is dropped: a derived one is written out at each
+// exit of each function that owns a table, field by field down to the buffers.
+impl Drop for AliasTable {
+    fn drop(self) {
+        let AliasTable { rows: _ } = self;
+    }
 }
 
 impl Model for AliasTable {

@@ -26,7 +26,6 @@ use std::marker::Model;
 
 /// Rows by their datagrams, each with its birth and the moment at which it is due. Contracts see an
 /// `IndexMap`.
-#[derive(Drop)]
 pub(crate) struct KeptRows {
     rows: IndexMap<KeptKey, KeptEntry>,
     // by the places of the rows
@@ -34,6 +33,19 @@ pub(crate) struct KeptRows {
     due: DueMoments,
     // how often identifiers are told
     told: ToldCounts,
+}
+
+// By hand, so that it is one call where rows are dropped: a derived one is written out at each
+// exit of each function that owns some, field by field down to the buffers.
+impl Drop for KeptRows {
+    fn drop(self) {
+        let KeptRows {
+            rows: _,
+            births: _,
+            due: _,
+            told: _,
+        } = self;
+    }
 }
 
 impl Model for KeptRows {

@@ -24,10 +24,16 @@ use std::marker::Model;
 
 /// The replies that a gatekeeper keeps, by the datagrams that they answer. Contracts see a finite
 /// map.
-#[derive(Drop)]
 pub struct Kept {
     rows: KeptRows,
     most: usize,
+}
+
+// By hand, as that of the rows.
+impl Drop for Kept {
+    fn drop(self) {
+        let Kept { rows: _, most: _ } = self;
+    }
 }
 
 impl Model for Kept {

@@ -31,10 +31,19 @@ use zone_tables::PoolFigures;
 /// The zone of one gatekeeper, with the pools from which its calls have their bandwidth. Contracts see
 /// its state, which is always sound, and beside it of each pool the last request with its answer, how
 /// often it was asked for units, and how many turns it made.
-#[derive(Drop)]
 pub struct Zone<P: Pool> {
     machine: Machine,
     pools: PoolSet<P>,
+}
+
+// By hand, as that of the machine, so that it is one call where a zone is dropped.
+impl<P: Pool> Drop for Zone<P> {
+    fn drop(self) {
+        let Zone {
+            machine: _,
+            pools: _,
+        } = self;
+    }
 }
 
 impl<P: Pool> Model for Zone<P> {
@@ -183,7 +192,7 @@ impl<P: Pool> Zone<P> {
         ensures lasts { lasts_of (map P.account result.items)
             ≡ map (λ t. t.last) self.tallies }
     {
-        let Zone { pools, .. } = self;
+        let Zone { machine: _, pools } = self;
         pools.close()
     }
 

@@ -24,7 +24,6 @@ const MOST_STEPS: u64 = 1 << 62;
 /// The tables, the replies that are kept, the clock, the number of the next interrogation, the moment
 /// of the next turn of the pools, and the number of steps made. By its type all of it is sound, but
 /// for two facts that hold between steps: the pools' counts are small, and what is kept was born before.
-#[derive(Drop)]
 pub struct Machine {
     pub(crate) alloc: Global,
     pub(crate) tables: ZoneTables,
@@ -33,6 +32,22 @@ pub struct Machine {
     pub(crate) next_pool_turn: u64,
     pub(crate) steps: u64,
     clock: Moment,
+}
+
+// By hand, so that it is one call where a machine is dropped: a derived one is written out at each
+// exit of each function that owns a machine, field by field down to the tables' buffers.
+impl Drop for Machine {
+    fn drop(self) {
+        let Machine {
+            alloc: _,
+            tables: _,
+            kept: _,
+            interrogation_number: _,
+            next_pool_turn: _,
+            steps: _,
+            clock: _,
+        } = self;
+    }
 }
 
 impl Model for Machine {

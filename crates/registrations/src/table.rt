@@ -29,7 +29,6 @@ use std::marker::Model;
 
 /// The registrations of a zone, of which no two share an identifier or a call signal address.
 /// Contracts see a finite map.
-#[derive(Drop)]
 pub struct Registrations {
     rows: Slab<Registration>,
     // where the row under each identifier stands, and where the one with each call signal address
@@ -41,6 +40,21 @@ pub struct Registrations {
     // where the search for an unused identifier begins, so that it need not pass those in use:
     // behind each number that was, and at 1 again behind the last one of all
     next_number: u64,
+}
+
+// By hand, so that it is one call where such a table is dropped: a derived one is written out at each
+// exit of each function that owns a table, field by field down to the buffers.
+impl Drop for Registrations {
+    fn drop(self) {
+        let Registrations {
+            rows: _,
+            by_identifier: _,
+            by_address: _,
+            deadlines: _,
+            most: _,
+            next_number: _,
+        } = self;
+    }
 }
 
 impl Model for Registrations {

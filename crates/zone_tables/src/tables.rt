@@ -37,11 +37,21 @@ use zone_config::{Config, Moment};
 
 /// The settings of a zone, its endpoints, and its calls with the figures of its pools. Each change of them says
 /// that they are sound after it.
-#[derive(Drop)]
 pub struct ZoneTables {
     config: Config,
     endpoints: Endpoints,
     bandwidth: Bandwidth,
+}
+
+// By hand, so that it is one call where they are dropped.
+impl Drop for ZoneTables {
+    fn drop(self) {
+        let ZoneTables {
+            config: _,
+            endpoints: _,
+            bandwidth: _,
+        } = self;
+    }
 }
 
 impl Model for ZoneTables {
