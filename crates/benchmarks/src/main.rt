@@ -1,6 +1,7 @@
 //! Measurements of a zone's work, one by each word of the command line.
 #![tactic(auto)]
 
+mod days;
 mod replays;
 mod requests;
 mod servers;
@@ -17,7 +18,7 @@ use std::sync::Wait;
 use std::thread::Threads;
 use std::time::Clock;
 
-const USAGE: &str = "usage: benchmarks replays [ENDPOINTS STEPS] | serve DATAGRAMS | \
+const USAGE: &str = "usage: benchmarks days DAYS | replays [ENDPOINTS STEPS] | serve DATAGRAMS | \
     snapshot ENDPOINTS CALLS REPLIES | steps ENDPOINTS CALLS REPLIES";
 
 /// Measures what the command line names, and prints what it finds. Without a word it does nothing.
@@ -34,6 +35,10 @@ fn chosen<R: Threads + Wait + Clock + Files + Print + Sync>(
 ) -> Result<()> {
     match words {
         [] | [_] => Ok(()),
+        [_, name, days] if name.as_str() == "days" => {
+            let days = days.parse::<u64>().context("DAYS")?;
+            days::measure(rt, alloc, days)
+        }
         [_, name] if name.as_str() == "replays" => replays::measure(rt, alloc, 1_000, 100_000),
         [_, name, endpoints, steps] if name.as_str() == "replays" => {
             let endpoints = endpoints.parse::<usize>().context("ENDPOINTS")?;

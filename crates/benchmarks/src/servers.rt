@@ -126,7 +126,7 @@ fn serve<R: Threads + Wait + Clock + Sync>(
 }
 
 /// Prints how much memory this program had at most, and how much it has.
-fn print_memory(rt: &(impl Files + Print), alloc: Global) -> Result<()> {
+pub fn print_memory(rt: &(impl Files + Print), alloc: Global) -> Result<()> {
     let status = fs::read_to_string(&(rt, alloc), STATUS)?;
     for line in status.lines() {
         if line.starts_with("VmHWM:") || line.starts_with("VmRSS:") {

@@ -20,8 +20,13 @@ pub fn datagram(number: u16, octets: Octets, moment: Moment) -> Event {
 pub const MOST_KEPT: u64 = 65_536;
 
 /// A zone without endpoints over one pool, which keeps so many replies and whose other tables are as
-/// large as they may be.
+/// large as they may be. Registrations live for an hour.
 pub fn zone_of(alloc: Global, kept: u64) -> Result<Zone<FixedPool>> {
+    zone_with(alloc, kept, 3_600)
+}
+
+/// The same where registrations live for so many seconds.
+pub fn zone_with(alloc: Global, kept: u64, time_to_live: u64) -> Result<Zone<FixedPool>> {
     let identifier = Name::new(&[103, 107]).context("a name")?;
     let address = Address {
         ip: [10, 0, 0, 1],
@@ -31,7 +36,7 @@ pub fn zone_of(alloc: Global, kept: u64) -> Result<Zone<FixedPool>> {
     networks.push(None)?;
     let mut parts = ConfigParts::new(identifier, address, Networks::from_vec(networks));
     parts.limit = 1_000_000_000;
-    parts.time_to_live = 3_600;
+    parts.time_to_live = time_to_live;
     parts.endpoints = 20_000;
     parts.calls = 20_000;
     parts.kept = kept;
@@ -48,9 +53,14 @@ pub fn zone_of(alloc: Global, kept: u64) -> Result<Zone<FixedPool>> {
 }
 
 /// The endpoint with this number registers.
-fn register(alloc: Global, zone: &mut Zone<FixedPool>, number: u16) -> Result<Endpoint> {
+pub fn register(
+    alloc: Global,
+    zone: &mut Zone<FixedPool>,
+    number: u16,
+    moment: Moment,
+) -> Result<Endpoint> {
     let octets = registration(alloc, number)?;
-    let outcome = zone.step(datagram(number, octets, Moment::START))?;
+    let outcome = zone.step(datagram(number, octets, moment))?;
     let identifier = outcome.given.context("an endpoint isn't registered")?;
     Ok(Endpoint { number, identifier })
 }
@@ -64,7 +74,7 @@ pub fn register_all(
     ensure!(0 < count && count <= 20_000, "ENDPOINTS is 1 to 20000");
     let mut endpoints = Vec::new(alloc);
     for number in 0..count as u16 {
-        endpoints.push(register(alloc, zone, number)?)?;
+        endpoints.push(register(alloc, zone, number, Moment::START)?)?;
     }
     Ok(endpoints)
 }

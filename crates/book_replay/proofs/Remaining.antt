@@ -1,5 +1,5 @@
 -- What is left of a book that is run again.
-use Rattle.std.proofs.Common.{◌≡◌, ◌<◌, ◌≤◌, ◌+◌, ◌∙◌, ℕ, suc, Bool, true, false, List, [], ◌∷◌, length}
+use Rattle.std.proofs.Common.{◌≡◌, ◌<◌, ◌≤◌, ◌+◌, ◌∙◌, ℕ, suc, Bool, true, false, List, ◌∷◌, length}
 use Rattle.std.proofs.Common.{drop, get_or, sym, ap, subst, arith}
 use Rattle.std.specs.Prelude.{IsTrue, ◌↔◌}
 use Rattle.std.proofs.Math.ListN.{drop_of_length-le}
@@ -12,7 +12,7 @@ use Rattle.ras_machine.specs.Soundness.{Sound}
 use Rattle.ras_machine.specs.Steps.{Step}
 use Rattle.books.specs.declared.book.Entry.{Entry}
 use Rattle.books.specs.Books.{BookRun}
-use Rattle.step_check.specs.Redoing.{NoStep, Redoes}
+use Rattle.step_check.specs.Redoing.{Redoes}
 
 -- an event and an outcome leave one state
 one_after : (s : State) (event : Event) (outcome : Outcome) (a b : State)

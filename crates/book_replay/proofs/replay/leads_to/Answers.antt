@@ -1,7 +1,12 @@
-use Rattle.std.proofs.Common.{◌≡◌, ◌<◌, ◌≤◌, List, length, get_or, subst}
+use Rattle.std.proofs.Common.{◌≡◌, ◌<◌, ◌≤◌, List, length, get_or, rules, subst}
 use Rattle.books.specs.declared.book.Entry.{Entry}
-use Rattle.book_replay.proofs.Remaining.{at_end, goes_on, stops}
+use Rattle.book_replay.proofs.Remaining.{at_end, at_first, goes_on, stops}
 use Rattle.book_replay.proofs.replay.leads_to.Goals as goal
+
+pub loop-entry-init : goal.loop-entry-init
+loop-entry-init c =
+    at_first c.args.book.now.base c.into_machine-machine.result c.args.book.now.entries.items
+    (search rules) c.into_machine-machine.ensures.sound
 
 pub returns-then-not-is_step : goal.returns-then-not-is_step
 returns-then-not-is_step c =

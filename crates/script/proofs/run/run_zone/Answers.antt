@@ -8,7 +8,7 @@ use Rattle.script.proofs.run.run_zone.Goals as goal
 pub returns-in-Memory-clause-answer : goal.returns-in-Memory-clause-answer
 returns-in-Memory-clause-answer g c =
     let events = c.args.events.now in
-    let before = c.in-Err-ran.before in
+    let before = c.in-Err.before in
     let first = c.args.zone.now in
     let start = c.args.out.now.contents in
     let end = c.flush.new.self.contents in
@@ -26,10 +26,10 @@ returns-in-Memory-clause-answer g c =
     ) in
     no_memory_at first events before after start end below
     (record { outcomes = outcomes; run = ran; lines = lines })
-    (λ e. absurd (cc (c.in-Err-ran.ensures.closed.1 e, c.in-Memory.is)))
+    (λ e. absurd (cc (c.in-Err.ensures.closed.1 e, c.in-Memory.is)))
 
-pub returns-in-Ok-ran-clause-answer : goal.returns-in-Ok-ran-clause-answer
-returns-in-Ok-ran-clause-answer g c =
+pub returns-in-Ok-clause-answer : goal.returns-in-Ok-clause-answer
+returns-in-Ok-clause-answer g c =
     let events = c.args.events.now in
     let first = c.args.zone.now in
     let start = c.args.out.now.contents in
@@ -50,7 +50,7 @@ returns-in-Ok-ran-clause-answer g c =
 pub returns-clause-answer : goal.returns-clause-answer
 returns-clause-answer g c =
     let events = c.args.events.now in
-    let before = c.in-Err-ran.before in
+    let before = c.in-Err.before in
     let first = c.args.zone.now in
     let start = c.args.out.now.contents in
     let end = c.flush.new.self.contents in
@@ -68,4 +68,4 @@ returns-clause-answer g c =
     ) in
     closed_at first events before after start end below
     (record { outcomes = outcomes; run = ran; lines = lines })
-    (c.in-Err-ran.ensures.closed.0 c.in-Closed.is)
+    (c.in-Err.ensures.closed.0 c.in-Closed.is)
