@@ -146,8 +146,8 @@ fn act(
 fn make_turns(zone: &mut Zone<FixedPool>, moment: Moment, tally: &mut Tally) -> Result<()> {
     for _turn in 0..MOST_TURNS {
         let outcome = zone.step(Event::Turn(moment))?;
-        match outcome.note {
-            Note::Done(item) => tally.count(&item),
+        match &outcome.note {
+            Note::Done(item) => tally.count(item),
             _ => return Ok(()),
         }
     }
