@@ -12,7 +12,7 @@ use crate::serving_fault::{RunningFault, ServingFault};
 use crate::settings_input::{PassedOver, ReadInput, read_input};
 use crate::stopwatch::Stopwatch;
 use log::{Log, info, warn};
-use pools::{Pool, PoolSet, PoolSpec};
+use pools::{Pool, PoolSet};
 use ras_core::{Config, NewFault, Zone};
 use ras_module::{Address, Name};
 use script::Output;
@@ -177,11 +177,7 @@ fn warn_of_faults<P: Pool, R: Log>(rt: &R, report: &Report<P>) {
 }
 
 /// Serves the zone that is set with pools that were made for it.
-fn serve_made<
-    P: Pool + Send,
-    R: Threads + Wait + Clock + Net + Log + Sync,
-    S: Stop + Sync,
->(
+fn serve_pools<P: Pool + Send, R: Threads + Wait + Clock + Net + Log + Sync, S: Stop + Sync>(
     rt: &R,
     alloc: Global,
     config: Config,
@@ -206,22 +202,37 @@ fn serve_made<
     Ok(report)
 }
 
-/// The pools of the settings, each in a box.
-fn boxes_of(alloc: Global, pools: &[PoolSpec]) -> Result<Vec<Box<dyn Pool + Send>>, AllocError> {
-    let mut boxes: Vec<Box<dyn Pool + Send>> = Vec::new(alloc);
-    for pool in pools_of(alloc, pools)? {
-        let boxed: Box<dyn Pool + Send> = Box::new(alloc, pool).map_err(AllocError::from)?;
-        boxes.push(boxed).map_err(AllocError::from)?;
-    }
-    Ok(boxes)
-}
-
-/// Makes the pools of the settings, each in a box, serves their zone, and prints the report.
-fn serve_settings<
+/// The same, and prints the report.
+fn serve_and_print<
+    P: Pool + Send,
     R: Threads + Wait + Clock + Net + Log + Sync,
     S: Stop + Sync,
     W: Write + Drop,
 >(
+    rt: &R,
+    alloc: Global,
+    config: Config,
+    pools: Vec<P>,
+    service: Service,
+    stop: &S,
+    out: &mut Output<W>,
+) -> Result<(), RunningFault>
+    requires receivers { service.receivers ≤ 15 }
+    requires plan { IsPlan service.plan }
+    ensures { IsReportWritten out.old out.new result }
+{
+    let report = match serve_pools(rt, alloc, config, pools, service, stop) {
+        Ok(report) => report,
+        Err(fault) => return Err(fault),
+    };
+    match print_report(&report, out) {
+        Ok(()) => Ok(()),
+        Err(_) => Err(RunningFault::Stream),
+    }
+}
+
+/// Makes the pools of the settings, each in a box, serves their zone, and prints the report.
+fn serve_settings<R: Threads + Wait + Clock + Net + Log + Sync, S: Stop + Sync, W: Write + Drop>(
     rt: &R,
     alloc: Global,
     settings: Settings,
@@ -242,17 +253,21 @@ fn serve_settings<
         tick: _,
         buffer: _,
     } = settings;
-    let Ok(boxes) = boxes_of(alloc, pools.as_slice()) else {
+    // A function that hands out a box hides what is in it, so the boxes are made here.
+    let mut boxes: Vec<Box<dyn Pool + Send>> = Vec::new(alloc);
+    let Ok(made) = pools_of(alloc, pools.as_slice()) else {
         return Err(RunningFault::Memory);
     };
-    let report = match serve_made(rt, alloc, config, boxes, service, stop) {
-        Ok(report) => report,
-        Err(fault) => return Err(fault),
-    };
-    match print_report(&report, out) {
-        Ok(()) => Ok(()),
-        Err(_) => Err(RunningFault::Stream),
+    for pool in made {
+        let Ok(boxed) = Box::new(alloc, pool) else {
+            return Err(RunningFault::Memory);
+        };
+        let boxed: Box<dyn Pool + Send> = boxed;
+        if boxes.push(boxed).is_err() {
+            return Err(RunningFault::Memory);
+        }
     }
+    serve_and_print(rt, alloc, config, boxes, service, stop, out)
 }
 
 /// Reads settings, and serves their zone: each receiving thread until it received so often, if a number
