@@ -1,0 +1,2 @@
+pub mod Silences
+pub mod inside

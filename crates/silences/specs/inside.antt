@@ -1,0 +1,2 @@
+-- What the functions inside the crate owe one another. No public contract speaks of it.
+pub mod Stored

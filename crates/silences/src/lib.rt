@@ -1,0 +1,6 @@
+//! When the silence of each registered endpoint ends.
+#![tactic(auto)]
+
+mod table;
+
+pub use table::Silences;
