@@ -13,14 +13,15 @@ use Rattle.keyed.proofs.Rows.{IsMapOf-rows, len_rows}
 use Rattle.admission.specs.Calls.{OpenCalls, legs_of}
 use Rattle.registrations.specs.Registry.{Live, Registry, IsConsistent, IsNumbered, identifier_of}
 use Rattle.registrations.specs.declared.registration.Registration.{Registration}
-use Rattle.expiry.specs.Due.{IsInCall, IsLiveAnd, is_to_be_asked, is_silent}
-use Rattle.expiry.specs.inside.Searched.{item_of, IsEndpointItem, IsNoEndpointDue}
+use Rattle.expiry.specs.Due.{IsEndpointItem, IsInCall, IsLiveAnd, IsNoEndpointDue}
+use Rattle.expiry.specs.Due.{is_to_be_asked, is_silent}
+use Rattle.expiry.specs.inside.Searched.{item_of}
 use Rattle.expiry.specs.declared.times.Times.{Times}
 use Rattle.zone_events.specs.declared.due_item.DueItem.{DueItem}
 use Rattle.zone_events.specs.declared.due_item.DueItem.TheVariants.{RegistrationOver, Interrogate}
 use Rattle.zone_events.specs.declared.due_item.DueItem.TheVariants.{Silent, Retry, KeptOver, PoolTurn}
 
-the_live : (test : Registration → Bool) (live : Live) (id : List ℕ) → IsLiveAnd test live id
+pub the_live : (test : Registration → Bool) (live : Live) (id : List ℕ) → IsLiveAnd test live id
     → (r : Registration) × (fin.get live id ≡ Some r) × (test r ≡ true)
 the_live test live id h = cases (fin.get live id) refl h where
   cases : (w : Option Registration) → fin.get live id ≡ w → IsSomeAnd w (λ r. IsTrue (test r))

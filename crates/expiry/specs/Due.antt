@@ -3,7 +3,8 @@
 -- an InfoRequest, some times on end (H.323, 8.4.2, status); where no answer comes, it loses its
 -- legs and stays registered. A request that was told to wait is served again, and a reply is kept
 -- for some time only (H.225.0, RAS timers and request in progress).
-use Rattle.std.specs.Prelude.{◌≤◌, ◌+◌, ◌&&◌, ◌||◌, ℕ, Bool, List, nat_eq, nat_le, nat_lt, IsTrue}
+use Rattle.std.specs.Prelude.{◌≤◌, ◌+◌, ◌&&◌, ◌||◌, ℕ, Bool, List, Option, Some, None}
+use Rattle.std.specs.Prelude.{nat_eq, nat_le, nat_lt, IsTrue, if◌then◌else◌}
 use Rattle.std.specs.Option.{IsSomeAnd}
 use Rattle.std.specs.FinMap.{get}
 use Rattle.admission.specs.Calls.{OpenCalls, legs_of}
@@ -47,6 +48,25 @@ IsLiveAnd test live id = IsSomeAnd (get live id) (λ r. IsTrue (test r))
 -- it takes part in a call
 abbrev pub IsInCall : OpenCalls → List ℕ → Type 0
 IsInCall calls id = 1 ≤ legs_of calls id
+
+-- what is due of an endpoint if it takes part in a call
+abbrev pub item_in_call : ℕ → Times → Registration → Option DueItem
+item_in_call now times r =
+    if is_to_be_asked times now r then Some (Interrogate r.identifier)
+    else if is_silent times now r then Some (Silent r.identifier) else None
+
+-- this is due of an endpoint that takes part in a call
+abbrev pub IsEndpointItem : ℕ → Times → Live → OpenCalls → DueItem → Type 0
+IsEndpointItem now times live calls (Interrogate id) =
+    IsInCall calls id × IsLiveAnd (is_to_be_asked times now) live id
+IsEndpointItem now times live calls (Silent id) =
+    IsInCall calls id × IsLiveAnd (is_silent times now) live id
+IsEndpointItem now times live calls other = ⊥
+
+-- nothing is due of any endpoint that takes part in a call
+abbrev pub IsNoEndpointDue : ℕ → Times → Live → OpenCalls → Type 0
+IsNoEndpointDue now times live calls =
+    (item : DueItem) → IsEndpointItem now times live calls item → ⊥
 
 -- the item is due now, where the pools' next turn is at the moment `next`
 abbrev pub IsDue : ℕ → ℕ → Times → Live → OpenCalls → KeptReplies → DueItem → Type 0

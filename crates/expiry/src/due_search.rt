@@ -1,8 +1,11 @@
 //! The search for what is due.
 
 ghost use Rattle.std.specs.Prelude.{◌≡◌, ◌+◌, ◌↔◌, nat_le, IsTrue, MatchOption};
-ghost use Rattle.expiry.specs.Due.{IsDue, IsNothingDue, IsInCall, is_to_be_asked, is_silent};
-ghost use Rattle.expiry.specs.inside.Searched.{item_of, item_in_call, IsNoEndpointDue, IsEndpointItem};
+ghost use Rattle.expiry.specs.Due.{IsDue, IsEndpointItem, IsInCall, IsNoEndpointDue, IsNothingDue};
+ghost use Rattle.expiry.specs.Due.{is_to_be_asked, is_silent, item_in_call};
+ghost use Rattle.expiry.specs.declared.times.Times.{Times};
+ghost use Rattle.admission.specs.Calls.{OpenCalls};
+ghost use Rattle.expiry.specs.inside.Searched.{item_of};
 
 use crate::times::Times;
 use admission::Calls;
@@ -25,10 +28,29 @@ pub fn due(
         (IsNothingDue now next_turn times.now registrations.now.live calls.now.calls kept.now.kept)
         (IsDue now next_turn times.now registrations.now.live calls.now.calls kept.now.kept) }
 {
+    let endpoint = endpoint_due(registrations, calls, now, times);
+    due_beside(endpoint, registrations, kept, now, next_turn)
+}
+
+/// The same, by what is due of an endpoint in a call, if anything is.
+pub fn due_beside(
+    endpoint: Option<DueItem>,
+    registrations: &Registrations,
+    kept: &Kept,
+    now: u64,
+    next_turn: u64,
+) -> Option<DueItem>
+    ensures { (times : Times) (calls : OpenCalls)
+        → MatchOption endpoint (IsNoEndpointDue now times registrations.now.live calls)
+        (IsEndpointItem now times registrations.now.live calls)
+        → MatchOption result
+        (IsNothingDue now next_turn times registrations.now.live calls kept.now.kept)
+        (IsDue now next_turn times registrations.now.live calls kept.now.kept) }
+{
     if let Some(registration) = registrations.over(now) {
         return Some(DueItem::RegistrationOver(registration.identifier));
     }
-    if let Some(item) = endpoint_due(registrations, calls, now, times) {
+    if let Some(item) = endpoint {
         return Some(item);
     }
     if let Some(born) = kept.retry(now) {
@@ -85,7 +107,7 @@ pub(crate) fn is_in_call(calls: &Calls, endpoint: &EndpointId) -> bool
 }
 
 /// What is due of this endpoint if it takes part in a call.
-fn item_in_call(registration: &Registration, now: u64, times: &Times) -> Option<DueItem>
+pub fn item_in_call(registration: &Registration, now: u64, times: &Times) -> Option<DueItem>
     ensures { result ≡ item_in_call now times.now registration.now }
 {
     if is_to_be_asked(registration, now, times) {

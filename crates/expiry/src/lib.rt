@@ -7,6 +7,6 @@ mod due_search;
 mod times;
 
 pub use due_item::is_due;
-pub use due_search::due;
+pub use due_search::{due, due_beside, item_in_call};
 pub use times::Times;
 pub use zone_events::DueItem;

@@ -13,19 +13,10 @@ use Rattle.zone_events.specs.declared.due_item.DueItem.TheVariants.{Registration
 use Rattle.zone_events.specs.declared.due_item.DueItem.TheVariants.{Silent, Retry, KeptOver, PoolTurn}
 use Rattle.expiry.specs.Due.{IsDue, IsNothingDue}
 use Rattle.zone_events.specs.declared.outcome.Datagram.{Datagram}
+use Rattle.zone_tables.specs.Silence.{times_of}
 use Rattle.zone_tables.specs.Tables.{with_live}
-use Rattle.zone_config.specs.declared.config.ConfigParts.{ConfigParts}
-use Rattle.expiry.specs.declared.times.Times.{Times}
 use Rattle.ras_machine.specs.State.{State}
 use Rattle.zone_tables.specs.Disengaging.{without_endpoint, without_silent}
-
--- how long an endpoint in a call may be silent
-abbrev pub times_of : ConfigParts → Times
-times_of config = record {
-  silence = config.silence;
-  asks = config.asks;
-  ask_wait = config.ask_wait;
-}
 
 -- the item is due in this state, or nothing is
 abbrev pub IsDueIn : State → ℕ → DueItem → Type 0

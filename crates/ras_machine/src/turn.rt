@@ -5,13 +5,14 @@ ghost use Rattle.std.specs.FinMap as fin;
 ghost use Rattle.kept_replies.specs.Kept.{births};
 ghost use Rattle.ras_machine.specs.Machine.{Doing, retry_course, turn_course};
 ghost use Rattle.ras_machine.specs.Soundness.{Sound};
-ghost use Rattle.ras_machine.specs.Turns.{IsDueIn, IsNothingDueIn, number_after, times_of};
+ghost use Rattle.ras_machine.specs.Turns.{IsDueIn, IsNothingDueIn, number_after};
+ghost use Rattle.zone_tables.specs.Silence.{times_of};
 ghost use Rattle.ras_machine.specs.Courses.{CallsFor, Does, IsWaitingRequest};
 
 use crate::course::Course;
 use crate::job::{Job, Occasion};
 use crate::machine::Machine;
-use expiry::{Times, due};
+use expiry::{Times, due_beside};
 use kept_replies::KeptState;
 use ras_module::{EndpointId, Reply, Request, RequestSeqNum};
 use std::alloc::AllocError;
@@ -24,12 +25,10 @@ impl Machine {
         ensures { MatchOption result (IsNothingDueIn self.now now)
             (IsDueIn self.now now) }
     {
-        let times = self.times();
         let moment = now.milliseconds();
+        let endpoint = self.tables.endpoint_due(now);
         let registrations = self.tables.registrations();
-        let calls = self.tables.calls_table();
-        let next = self.next_pool_turn;
-        due(registrations, calls, &self.kept, moment, next, &times)
+        due_beside(endpoint, registrations, &self.kept, moment, self.next_pool_turn)
     }
 
     /// How long an endpoint in a call may be silent.

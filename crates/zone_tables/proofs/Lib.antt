@@ -12,3 +12,5 @@ pub mod ButLent
 pub mod Departing
 pub mod SoundParts
 pub mod Deciding
+pub mod Watching
+pub mod Ending

@@ -3,14 +3,15 @@ use Rattle.std.proofs.Common.{◌≡◌, ◌≤◌, ◌<◌, ◌^◌, ℕ, subst
 use Rattle.std.specs.Prelude.{Err, Ok, OnErr, OnOk, Result}
 use Rattle.std.specs.FinMap as map
 use Rattle.admission.specs.Calls.{EachCall, in_use}
+use Rattle.silences.specs.Silences.{Ends}
 use Rattle.zone_config.specs.declared.config.ConfigParts.{ConfigParts}
 use Rattle.zone_tables.specs.Parts.{AreSoundParts, Roll, Usage}
 use Rattle.zone_tables.specs.Soundness.{SoundTables}
 
 pub SoundTables-parts : (config : ConfigParts) (roll : Roll) (u : Usage)
-    → AreSoundParts config roll u
+    (ends : Ends) → AreSoundParts config roll u ends
     → SoundTables (record { config = config; live = roll.live; calls = u.calls; pools = u.pools })
-SoundTables-parts config roll u sound =
+SoundTables-parts config roll u ends sound =
     let parts = sound.parts in
     let backed = sound.calls.backed in
     record {
@@ -32,9 +33,9 @@ SoundTables-parts config roll u sound =
     }
 
 -- the bandwidth of a call fits into a BandWidth
-pub small_call_limit : (config : ConfigParts) (roll : Roll) (u : Usage)
-    → AreSoundParts config roll u → config.call_limit < 2 ^ 32
-small_call_limit config roll u sound =
+pub small_call_limit : (config : ConfigParts) (roll : Roll) (u : Usage) (ends : Ends)
+    → AreSoundParts config roll u ends → config.call_limit < 2 ^ 32
+small_call_limit config roll u ends sound =
     subst (λ (most : ℕ). most < 2 ^ 32) sound.parts.call_limit sound.calls.backed.small
 
 -- what holds after a change that was made holds, too, where nothing changed

@@ -1,10 +1,10 @@
 -- How an endpoint leaves all its calls, whatever their order.
-use Rattle.std.specs.Prelude.{ℕ, ◌≡◌, ◌<◌, ◌≤◌, List, length, Option, option_and_then}
+use Rattle.std.specs.Prelude.{ℕ, ◌≡◌, ◌≢◌, ◌<◌, ◌≤◌, List, length, Option, option_and_then}
 use Rattle.std.specs.FinMap.{get}
 use Rattle.ras_module.specs.declared.call_key.CallKey.{CallKey}
 use Rattle.admission.specs.declared.call.Call.{Call}
 use Rattle.admission.specs.declared.leg.Leg.{Leg}
-use Rattle.admission.specs.Calls.{OpenCalls, rest_of_call}
+use Rattle.admission.specs.Calls.{OpenCalls, legs_of, rest_of_call}
 use Rattle.pools.specs.declared.interface.Figures.{Figures}
 use Rattle.zone_tables.specs.Pools.{figures_at}
 use Rattle.zone_tables.specs.Parts.{Usage}
@@ -39,3 +39,8 @@ pub record HaveLeft (endpoint : List ℕ) (old new : Usage) : Type 0 where
 -- a leg of another endpoint
 abbrev pub IsOther : List ℕ → Leg → Type 0
 IsOther endpoint leg = leg.endpoint ≡ endpoint → ⊥
+
+-- all others have as many legs as before
+abbrev pub HaveOthersLegs : List ℕ → OpenCalls → OpenCalls → Type 0
+HaveOthersLegs endpoint old new =
+    (q : List ℕ) → q ≢ endpoint → legs_of new q ≡ legs_of old q

@@ -7,4 +7,5 @@ pub mod UnitRequests
 pub mod Leaving
 pub mod Disengaging
 pub mod Translation
+pub mod Silence
 pub mod inside

@@ -8,6 +8,9 @@ use Rattle.zone_tables.specs.Tables.{Tables}
 use Rattle.zone_tables.specs.Pools.{AreWithinLimits}
 use Rattle.zone_config.specs.declared.config.ConfigParts.{ConfigParts}
 use Rattle.zone_config.specs.Ranges.{IsConfig}
+use Rattle.silences.specs.Silences.{Ends}
+use Rattle.zone_tables.specs.Silence.{times_of}
+use Rattle.zone_tables.specs.inside.Watched.{AreWatched}
 use Rattle.zone_tables.specs.Soundness.{HaveAliasesApart, HaveEndpoints, IsLentTo}
 
 -- the endpoints, and how many there may be
@@ -79,9 +82,11 @@ pub record AreParts (config : ConfigParts) (roll : Roll) (u : Usage) : Type 0 wh
   pub pools : length u.pools ≡ length config.networks
   pub legs : HaveEndpoints roll.live u.calls
 
--- the settings, the endpoints and the calls of a zone
-pub record AreSoundParts (config : ConfigParts) (roll : Roll) (u : Usage) : Type 0 where
+-- the settings, the endpoints and the calls of a zone, and when the silence of each endpoint ends
+pub record AreSoundParts (config : ConfigParts) (roll : Roll) (u : Usage) (ends : Ends)
+    : Type 0 where
   pub settings : IsConfig config
   pub endpoints : IsSoundRoll roll
   pub calls : IsSoundUsage u
   pub parts : AreParts config roll u
+  pub watched : AreWatched (times_of config) roll.live u.calls ends

@@ -17,7 +17,7 @@ ghost use Rattle.zone_tables.specs.UnitRequests.{units_requested, calls_after_an
 ghost use Rattle.zone_tables.specs.Changes.{calls_after, pools_after};
 ghost use Rattle.zone_config.specs.Ranges.{IsConfig};
 ghost use Rattle.zone_tables.specs.Parts.{IsSoundUsage, with_usage};
-ghost use Rattle.zone_tables.specs.Leaving.{HaveLeft};
+ghost use Rattle.zone_tables.specs.Leaving.{HaveLeft, HaveOthersLegs};
 ghost use Rattle.zone_tables.specs.Soundness.{HasCounts};
 
 use crate::change::CallChange;
@@ -239,6 +239,7 @@ impl Bandwidth {
     /// An endpoint leaves all its calls.
     pub fn leave_all(&mut self, endpoint: &EndpointId)
         ensures left { HaveLeft endpoint.now self.old.usage self.new.usage }
+        ensures others { HaveOthersLegs endpoint.now self.old.usage.calls self.new.usage.calls }
         ensures sound { IsSoundUsage self.new.usage }
     {
         while let Some(call) = self.calls.call_of(endpoint) {

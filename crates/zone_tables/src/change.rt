@@ -1,5 +1,8 @@
 //! What may change in the tables.
 
+ghost use Rattle.std.specs.Prelude.{◌≡◌};
+ghost use Rattle.zone_tables.specs.inside.Watched.{endpoint_of_change, mover_of_change};
+
 use crate::entry::Entry;
 use admission::Leg;
 use ras_module::{CallKey, EndpointId};
@@ -16,6 +19,20 @@ pub enum EndpointChange {
     Removal(EndpointId),
 }
 
+impl EndpointChange {
+    /// The endpoint whose registration it is about.
+    pub(crate) fn endpoint(&self) -> EndpointId
+        ensures { result ≡ endpoint_of_change self.now }
+    {
+        match self {
+            EndpointChange::Renewal(id, _) => *id,
+            EndpointChange::Rewriting(id, _, _) => *id,
+            EndpointChange::Addition(registration) => registration.identifier,
+            EndpointChange::Removal(id) => *id,
+        }
+    }
+}
+
 /// What a request changes among the calls without asking a pool. Units are of 100 bit/s.
 #[derive(Clone, Copy)]
 pub enum CallChange {
@@ -27,6 +44,20 @@ pub enum CallChange {
     Lowering(CallKey, u32, usize, u32),
     /// An endpoint leaves a call.
     Leaving(CallKey, EndpointId),
+}
+
+impl CallChange {
+    /// The endpoint that has a leg more after it, or a leg less.
+    pub(crate) fn mover(&self) -> Option<EndpointId>
+        ensures { result ≡ mover_of_change self.now }
+    {
+        match self {
+            CallChange::Opening(_, _, leg) => Some(leg.endpoint),
+            CallChange::Joining(_, leg) => Some(leg.endpoint),
+            CallChange::Lowering(_, _, _, _) => None,
+            CallChange::Leaving(_, endpoint) => Some(*endpoint),
+        }
+    }
 }
 
 /// What a request changes.

@@ -1,7 +1,7 @@
 //! The tables of a zone: its endpoints and its calls, under its settings.
 
 ghost use Rattle.std.specs.Prelude.{◌↔◌};
-ghost use Rattle.std.specs.Prelude.{◌≡◌, ◌<◌, ◌≤◌, ◌^◌, All, IfOk, IfSome, IsTrue, OnErr, OnOk, Some, length, map};
+ghost use Rattle.std.specs.Prelude.{◌≡◌, ◌<◌, ◌≤◌, ◌^◌, All, IfOk, IfSome, IsTrue, MatchOption, OnErr, OnOk, Some, length, map, ℕ};
 ghost use Rattle.std.specs.Option.{IsSomeAnd, option_copied};
 ghost use Rattle.std.specs.FinMap as fin;
 ghost use Rattle.keyed.specs.Maps.{update};
@@ -20,20 +20,26 @@ ghost use Rattle.zone_tables.specs.UnitRequests.{IsUnitRequest};
 ghost use Rattle.zone_tables.specs.UnitRequests.{units_requested, calls_after_answer, leg_of_purpose};
 ghost use Rattle.zone_tables.specs.Changes.{after_change, heard};
 ghost use Rattle.zone_tables.specs.Soundness.{HasCounts, SoundTables};
+ghost use Rattle.zone_tables.specs.Silence.{times_of};
+ghost use Rattle.expiry.specs.Due.{IsEndpointItem, IsNoEndpointDue};
 
 use crate::bandwidth::Bandwidth;
-use crate::change::Change;
+use crate::change::{CallChange, Change, EndpointChange};
 use crate::endpoints::Endpoints;
 use crate::lender::Lender;
 use crate::pool_figures::PoolFigures;
-use crate::unit_request::UnitRequest;
+use crate::silence::{make_place, watch};
+use crate::unit_request::{Purpose, UnitRequest};
 use admission::{Call, CallList, Calls, Leg};
+use expiry::{Times, item_in_call};
 use pools::Lend;
 use ras_module::{Address, Alias, CallKey, EndpointId, ReplyAliases};
 use registrations::{Registration, RegistrationList, Registrations};
+use silences::Silences;
 use std::alloc::{AllocError, Global};
 use std::marker::Model;
 use zone_config::{Config, Moment};
+use zone_events::DueItem;
 
 /// The settings of a zone, its endpoints, and its calls with the figures of its pools. Each change of them says
 /// that they are sound after it.
@@ -41,6 +47,8 @@ pub struct ZoneTables {
     config: Config,
     endpoints: Endpoints,
     bandwidth: Bandwidth,
+    // when the silence of each registered endpoint ends, if it takes part in a call
+    silences: Silences,
 }
 
 // By hand, so that it is one call where they are dropped.
@@ -50,6 +58,7 @@ impl Drop for ZoneTables {
             config: _,
             endpoints: _,
             bandwidth: _,
+            silences: _,
         } = self;
     }
 }
@@ -72,7 +81,8 @@ impl Model for ZoneTables {
       pools = m.bandwidth.usage.pools;
     } };
 
-    ghost invariant = { λ m. AreSoundParts m.config m.endpoints m.bandwidth.usage };
+    ghost invariant = { λ m.
+        AreSoundParts m.config m.endpoints m.bandwidth.usage m.silences.ends };
 }
 
 impl ZoneTables {
@@ -89,6 +99,7 @@ impl ZoneTables {
             config,
             endpoints,
             bandwidth,
+            silences: Silences::new(alloc),
         }
     }
 
@@ -100,6 +111,7 @@ impl ZoneTables {
             config: self.config.copy()?,
             endpoints: self.endpoints.copy()?,
             bandwidth: self.bandwidth.copy()?,
+            silences: self.silences.copy()?,
         })
     }
 
@@ -136,6 +148,19 @@ impl ZoneTables {
         ensures sound { SoundTables self.now }
     {
         &self.config
+    }
+
+    /// How long an endpoint in a call may be silent.
+    pub fn times(&self) -> Times
+        ensures same { result ≡ times_of self.now.config }
+        ensures asks { result.asks ≤ 16 }
+    {
+        let parts = self.config.parts();
+        Times {
+            silence: parts.silence,
+            asks: parts.asks as u8,
+            ask_wait: parts.ask_wait,
+        }
     }
 
     /// The table of the registrations.
@@ -255,9 +280,39 @@ impl ZoneTables {
         let _ = &self.config;
         match change {
             Change::Nothing => Ok(()),
-            Change::Endpoint(change) => self.endpoints.apply(now, change),
-            Change::Calls(change) => self.bandwidth.apply(change),
+            Change::Endpoint(change) => self.change_endpoints(now, change),
+            Change::Calls(change) => self.change_calls(change),
         }
+    }
+
+    fn change_endpoints(&mut self, now: Moment, change: EndpointChange) -> Result<(), AllocError>
+        requires { IsPossible self.old (Change.Endpoint change) }
+        ensures ok { OnOk result (self.new ≡ after_change now (Change.Endpoint change) self.old) }
+        ensures sound { SoundTables self.new }
+        ensures err { OnErr result (self.new ≡ self.old) }
+    {
+        let times = self.times();
+        let id = change.endpoint();
+        make_place(&mut self.silences, &self.endpoints, &id)?;
+        self.endpoints.apply(now, change)?;
+        watch(&mut self.silences, &times, &self.endpoints, &self.bandwidth, &id);
+        Ok(())
+    }
+
+    fn change_calls(&mut self, change: CallChange) -> Result<(), AllocError>
+        requires { IsPossible self.old (Change.Calls change) }
+        ensures ok { (now : ℕ)
+            → OnOk result (self.new ≡ after_change now (Change.Calls change) self.old) }
+        ensures sound { SoundTables self.new }
+        ensures err { OnErr result (self.new ≡ self.old) }
+    {
+        let times = self.times();
+        let mover = change.mover();
+        self.bandwidth.apply(change)?;
+        if let Some(id) = mover {
+            watch(&mut self.silences, &times, &self.endpoints, &self.bandwidth, &id);
+        }
+        Ok(())
     }
 
     /// Notes that the endpoint was heard that a request names, if it is registered.
@@ -267,7 +322,9 @@ impl ZoneTables {
     {
         let _ = &self.endpoints;
         if let Some(id) = endpoint {
+            let times = self.times();
             self.endpoints.hear(now, &id);
+            watch(&mut self.silences, &times, &self.endpoints, &self.bandwidth, &id);
         }
     }
 
@@ -294,8 +351,13 @@ impl ZoneTables {
         ensures err { OnErr result (self.new ≡ self.old) }
         ensures not_asked { OnErr result (lender.new ≡ lender.old) }
     {
+        let times = self.times();
         self.bandwidth.reserve(1)?;
-        Ok(self.bandwidth.request_units(request, lender))
+        let answer = self.bandwidth.request_units(request, lender);
+        if let Purpose::Opening(leg) = request.purpose {
+            watch(&mut self.silences, &times, &self.endpoints, &self.bandwidth, &leg.endpoint);
+        }
+        Ok(answer)
     }
 
     /// An endpoint leaves all its calls.
@@ -304,7 +366,9 @@ impl ZoneTables {
         ensures pools { AreSameButLent self.old.pools self.new.pools }
         ensures gone { EachLeg (IsOther id.now) self.new.calls }
     {
+        let times = self.times();
         self.bandwidth.leave_all(id);
+        watch(&mut self.silences, &times, &self.endpoints, &self.bandwidth, id);
     }
 
     /// Removes a registration, with the endpoint's legs.
@@ -314,7 +378,9 @@ impl ZoneTables {
         ensures pools { AreSameButLent self.old.pools self.new.pools }
     {
         self.leave_all(id);
+        let times = self.times();
         self.endpoints.remove(id);
+        watch(&mut self.silences, &times, &self.endpoints, &self.bandwidth, id);
     }
 
     /// Removes the legs of a silent endpoint, which stays registered.
@@ -324,7 +390,9 @@ impl ZoneTables {
         ensures pools { AreSameButLent self.old.pools self.new.pools }
     {
         self.leave_all(id);
+        let times = self.times();
         self.endpoints.calm(id);
+        watch(&mut self.silences, &times, &self.endpoints, &self.bandwidth, id);
     }
 
     /// Notes that an endpoint is asked for a sign of life now.
@@ -334,6 +402,24 @@ impl ZoneTables {
             ≡ with_live self.old (update self.old.live id.now (after_ask now)) }
         ensures sound { SoundTables self.new }
     {
+        let times = self.times();
         self.endpoints.interrogated(now, id);
+        watch(&mut self.silences, &times, &self.endpoints, &self.bandwidth, id);
+    }
+
+    /// What is due of an endpoint in a call, of any that something is due of: it is asked for a sign
+    /// of life, or counts as silent.
+    pub fn endpoint_due(&self, now: Moment) -> Option<DueItem>
+        ensures { MatchOption result
+            (IsNoEndpointDue now (times_of self.now.config) self.now.live self.now.calls)
+            (IsEndpointItem now (times_of self.now.config) self.now.live self.now.calls) }
+    {
+        let times = self.times();
+        let moment = now.milliseconds();
+        let (end, id) = self.silences.earliest()?;
+        if moment < end {
+            return None;
+        }
+        item_in_call(self.endpoints.get(id)?, moment, &times)
     }
 }

@@ -4,7 +4,7 @@ use Rattle.std.specs.FinMap as fin
 use Rattle.zone_events.specs.declared.due_item.DueItem.TheVariants.{Interrogate}
 use Rattle.ras_machine.specs.State.{State}
 use Rattle.zone_tables.specs.Tables.{Tables}
-use Rattle.ras_machine.specs.Turns.{times_of}
+use Rattle.zone_tables.specs.Silence.{times_of}
 use Rattle.ras_machine.specs.Turns.{IsDueIn, inquiry}
 use Rattle.zone_tables.specs.Leaving.{AreSameButLent}
 use Rattle.ras_machine.specs.inside.Parts.{state_of}

@@ -6,11 +6,13 @@ use Rattle.zone_tables.specs.Leaving.{AreSameButLent, rest_of}
 use Rattle.zone_tables.specs.Parts.{IsSoundUsage, Lending, Usage}
 use Rattle.zone_tables.proofs.ButLent.{same_after_end, same_through}
 use Rattle.zone_tables.proofs.Departing.{all_left, fewer_legs, rest_after, same_after_leave}
+use Rattle.zone_tables.proofs.Watching.{legs_after_leave}
 use Rattle.zone_tables.proofs.bandwidth.Bandwidth.leave_all.Goals as goal
 
 pub loop-call-init : goal.loop-call-init
 loop-call-init c = record {
   calls = λ key. refl;
+  others = λ q differ. refl;
   pools = same_after_end c.args.self.now.usage.pools None;
   most = refl;
   limit = refl;
@@ -33,7 +35,12 @@ loop-call-preserved c =
     let now = c.loop-call.self.usage in
     let so_far = c.loop-call.invariant in
     let usage = c.leave.ensures in
+    let has = subst (λ (l : Lending). IsSome (leg_at l.usage.calls c.in-Some.call e)) c.self.view_is
+    c.in-Some.ensures in
     record {
+      others = λ q differ. ap (λ (u : Usage). legs_of u.calls q) usage
+          ∙ (legs_after_leave now.calls c.in-Some.call e has q (λ is. differ (sym is))
+          ∙ so_far.others q differ);
       calls = λ key. ap (λ (u : Usage). rest_of e (fin.get u.calls key)) usage
           ∙ (rest_after e now.calls c.in-Some.call key ∙ so_far.calls key);
       pools = same_through old.pools now.pools c.leave.new.self.usage.pools so_far.pools

@@ -2,7 +2,7 @@ use Rattle.std.proofs.Common.{◌≡◌}
 use Rattle.std.specs.FinMap as fin
 use Rattle.ras_module.specs.declared.call_key.CallKey.{CallKey}
 use Rattle.admission.specs.Calls.{legs_of}
-use Rattle.zone_tables.specs.Leaving.{AreSameButLent, rest_of}
+use Rattle.zone_tables.specs.Leaving.{AreSameButLent, HaveOthersLegs, rest_of}
 use Rattle.zone_tables.proofs.bandwidth.Bandwidth.leave_all.Given as goal
 
 -- some calls were left so far, and what is left of all is the same
@@ -10,6 +10,7 @@ abbrev pub invariant-loop-call : goal.invariant-loop-call
 invariant-loop-call l = record {
   calls : (key : CallKey) → rest_of l.endpoint (fin.get l.self.usage.calls key)
       ≡ rest_of l.endpoint (fin.get l.fn.self.usage.calls key);
+  others : HaveOthersLegs l.endpoint l.fn.self.usage.calls l.self.usage.calls;
   pools : AreSameButLent l.fn.self.usage.pools l.self.usage.pools;
   most : l.self.usage.most ≡ l.fn.self.usage.most;
   limit : l.self.usage.limit ≡ l.fn.self.usage.limit;

@@ -1,5 +1,8 @@
-use Rattle.std.proofs.Common.{◌≡◌, ◌∙◌, subst, sym}
+use Rattle.std.proofs.Common.{◌≡◌, ◌∙◌, ap, refl, subst, sym}
+use Rattle.zone_tables.specs.Silence.{times_of}
+use Rattle.zone_tables.specs.inside.Watched.{AreWatched}
 use Rattle.zone_tables.specs.Tables.{Tables}
+use Rattle.zone_tables.proofs.Watching.{others_watched}
 use Rattle.zone_tables.specs.Parts.{IsBacked, Usage, usage_of}
 use Rattle.zone_tables.specs.Changes.{IsRegistered}
 use Rattle.zone_tables.specs.Leaving.{HaveLeft, IsOther}
@@ -7,6 +10,17 @@ use Rattle.zone_tables.specs.Disengaging.{without_legs_of}
 use Rattle.zone_tables.proofs.Departing.{all_gone, legs_left}
 use Rattle.zone_tables.proofs.Legs.{usage_is}
 use Rattle.zone_tables.proofs.tables.ZoneTables.leave_all.Goals as goal
+
+pub watch-requires-clause-others : goal.watch-requires-clause-others
+watch-requires-clause-others c =
+    let i = c.self.inside in
+    let u = i.bandwidth.usage in
+    let same = c.times-times.ensures.same ∙ ap (λ (m : Tables). times_of m.config) (sym c.self.view_is) in
+    let watched = subst (λ t. AreWatched t i.endpoints.live u.calls i.silences.ends)
+    (sym same) c.self.invariant.watched in
+    others_watched c.times-times.result i.endpoints.live u.calls i.silences.ends watched
+    i.endpoints.live c.leave_all.new.self.usage.calls c.args.id.now
+    (λ q differ. refl) c.leave_all.ensures.others
 
 pub invariant_of-self : goal.invariant_of-self
 invariant_of-self c =
@@ -28,6 +42,9 @@ invariant_of-self c =
             (λ leg other is. is) i.bandwidth.usage.calls
             c.leave_all.new.self.usage.calls left.calls parts.legs;
       };
+      watched = subst (λ t. AreWatched t i.endpoints.live c.leave_all.new.self.usage.calls c.watch.new.silences.ends)
+          (c.times-times.ensures.same ∙ ap (λ (m : Tables). times_of m.config) (sym c.self.view_is))
+          c.watch.ensures;
     }
 
 pub returns-clause-tables : goal.returns-clause-tables

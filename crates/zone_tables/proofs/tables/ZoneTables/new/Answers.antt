@@ -1,4 +1,9 @@
-use Rattle.std.proofs.Common.{All, refl, sym, subst}
+use Rattle.std.proofs.Common.{◌∙◌, All, ap, refl, sym, subst}
+use Rattle.std.specs.Option.{option_map}
+use Rattle.admission.specs.Calls.{legs_of}
+use Rattle.silences.specs.Silences.{Ends}
+use Rattle.zone_tables.specs.Silence.{times_of}
+use Rattle.zone_tables.specs.inside.Watched.{end_of}
 use Rattle.std.specs.FinMap as fin
 use Rattle.admission.proofs.Soundness.{EachCall-empty}
 use Rattle.zone_tables.specs.Changes.{IsRegistered}
@@ -29,7 +34,12 @@ invariant_of-result c =
             pools = c.requires.each;
             legs = EachCall-empty (λ call. All (IsRegistered fin.empty) call.legs);
           }));
+      watched = λ id. ap (λ (m : Ends). fin.get m id) c.new.ensures
+          ∙ (fin.get-empty _ id
+          ∙ sym (ap (λ (roll : Roll). option_map (end_of (times_of c.args.config) (legs_of c.new-bandwidth.result.usage.calls id))
+          (fin.get roll.live id)) c.new-endpoints.ensures.empty
+          ∙ ap (option_map (end_of (times_of c.args.config) (legs_of c.new-bandwidth.result.usage.calls id))) (fin.get-empty _ id)));
     }
 
 pub returns-clause-sound : goal.returns-clause-sound
-returns-clause-sound c = SoundTables-parts _ _ _ (invariant_of-result c)
+returns-clause-sound c = SoundTables-parts _ _ _ _ (invariant_of-result c)

@@ -1,0 +1,170 @@
+-- Something is due of an endpoint in a call if and only if its silence has ended.
+use Rattle.std.proofs.Common.{◌≡◌, ◌<◌, ◌≤◌, ◌+◌, ◌^◌, ℕ, Bool, true, false, not, List, refl, sym}
+use Rattle.std.proofs.Common.{◌∙◌, ap, subst, cond, Some, None, arith, nat_eq, leb, suc, zero, []}
+use Rattle.std.proofs.Common.{◌∷◌, get_or, length}
+use Rattle.std.specs.List.{find}
+use Rattle.std.specs.Prelude.{◌&&◌, Option, IsTrue, MatchOption}
+use Rattle.std.specs.Option.{IsSomeAnd, option_map}
+use Rattle.std.specs.FinMap as fin
+use Rattle.std.proofs.lemmas.Bool.{leb-true}
+use Rattle.std.proofs.lemmas.Bool.Decides.{Decides-eqb, nat_tests}
+use Rattle.keyed.proofs.Decide.{by_place, same_some, some_none, test_false}
+use Rattle.expiry.proofs.Endpoints.{the_live}
+use Rattle.admission.specs.Calls.{OpenCalls, legs_of}
+use Rattle.expiry.specs.Due.{IsEndpointItem, IsInCall, IsLiveAnd, IsNoEndpointDue, item_in_call}
+use Rattle.expiry.specs.Due.{is_silent, is_to_be_asked}
+use Rattle.expiry.specs.declared.times.Times.{Times}
+use Rattle.registrations.specs.Registry.{Live}
+use Rattle.registrations.specs.declared.registration.Registration.{Registration}
+use Rattle.silences.specs.Silences.{Ends}
+use Rattle.zone_config.proofs.RangesKept.{keys_inside, passes}
+use Rattle.zone_config.specs.Keys.{all_keys}
+use Rattle.zone_config.specs.Ranges.{is_outside, range_fault}
+use Rattle.zone_config.specs.declared.key.Key.{Key}
+use Rattle.zone_config.specs.declared.key.Key.TheVariants.{Limit}
+use Rattle.zone_config.specs.declared.config.ConfigParts.{ConfigParts}
+use Rattle.zone_events.specs.declared.due_item.DueItem.{DueItem}
+use Rattle.zone_events.specs.declared.due_item.DueItem.TheVariants.{RegistrationOver, Interrogate}
+use Rattle.zone_events.specs.declared.due_item.DueItem.TheVariants.{Silent, Retry, KeptOver, PoolTurn}
+use Rattle.zone_tables.specs.inside.Watched.{AreWatched, end_in_call, end_of}
+
+-- what no key of a list passes, the one at this place doesn't pass
+none_passes : (p : Key → Bool) (keys : List Key) (i : ℕ) → find p keys ≡ None → i < length keys
+    → p (get_or keys i Limit) ≡ false
+none_passes p [] i none below = absurd (omega (arith, below))
+none_passes p (key ∷ keys) zero none below = (passes (p key) key (find p keys) none).0
+none_passes p (key ∷ keys) (suc i) none below =
+    none_passes p keys i (passes (p key) key (find p keys) none).1 (omega (arith, below))
+
+-- an endpoint is asked once at least
+pub some_asks : (parts : ConfigParts) → range_fault parts ≡ None → 1 ≤ parts.asks
+some_asks parts e = cases (leb 1 parts.asks) refl
+    (none_passes (λ key. is_outside parts key) all_keys 10 (keys_inside parts e) (omega arith)) where
+      cases : (b : Bool) → leb 1 parts.asks ≡ b
+          → not (leb 1 parts.asks && leb parts.asks 16) ≡ false → 1 ≤ parts.asks
+      cases true is h = leb-true 1 parts.asks is
+      cases false is h = absurd (cc (sym h ∙ ap (λ b. not (b && leb parts.asks 16)) is))
+
+module _ (times : Times) (some : 1 ≤ times.asks) (now : ℕ) (r : Registration) where
+  unheard_end : r.tries ≡ 0 → r.heard + times.silence < 2 ^ 64
+      → end_in_call times r ≡ Some (r.heard + times.silence)
+  unheard_end none fits = grind (arith, nat_tests)
+
+  unanswered_end : 1 ≤ r.tries → r.tries ≤ times.asks → r.asked + times.ask_wait < 2 ^ 64
+      → end_in_call times r ≡ Some (r.asked + times.ask_wait)
+  unanswered_end one few fits = grind (arith, nat_tests)
+
+  asked_unheard : is_to_be_asked times now r ≡ true → r.tries ≡ 0 → r.heard + times.silence ≤ now
+  asked_unheard h none = grind (arith, nat_tests)
+
+  asked_again : is_to_be_asked times now r ≡ true → 1 ≤ r.tries
+      → (r.tries < times.asks) × (r.asked + times.ask_wait ≤ now)
+  asked_again h one = (grind (arith, nat_tests), grind (arith, nat_tests))
+
+  silent_at_last : is_silent times now r ≡ true
+      → (r.tries ≡ times.asks) × (r.asked + times.ask_wait ≤ now)
+  silent_at_last h = (grind (arith, nat_tests), grind (arith, nat_tests))
+
+  ended_due : (m : ℕ) → end_in_call times r ≡ Some m → m ≤ now
+      → is_to_be_asked times now r ≡ false → is_silent times now r ≡ false → ⊥
+  ended_due m is below asked silent = grind (arith, nat_tests)
+
+module _ (times : Times) (some : 1 ≤ times.asks) (now : ℕ) (fits : now < 2 ^ 64) (live : Live)
+    (calls : OpenCalls) (ends : Ends) (watched : AreWatched times live calls ends) where
+  -- what is entered for an endpoint in a call
+  end_there : (id : List ℕ) (r : Registration) → fin.get live id ≡ Some r → IsInCall calls id
+      → fin.get ends id ≡ Some (end_in_call times r)
+  end_there id r there in_call =
+      let some_leg = test_false (nat_eq (legs_of calls id) 0) (Decides-eqb (legs_of calls id) 0)
+      (λ none. absurd (omega (arith, none, in_call))) in
+      watched id
+      ∙ (ap (option_map (end_of times (legs_of calls id))) there
+      ∙ ap (λ b. Some (cond b None (end_in_call times r))) some_leg)
+
+  asked_has_end : (id : List ℕ) → IsLiveAnd (is_to_be_asked times now) live id → IsInCall calls id
+      → (m : ℕ) × (fin.get ends id ≡ Some (Some m)) × (m ≤ now)
+  asked_has_end id h in_call =
+      let r = the_live (is_to_be_asked times now) live id h in
+      let there = end_there id r.0 r.1 in_call in
+      by_place r.0.tries 0 ((m : ℕ) × (fin.get ends id ≡ Some (Some m)) × (m ≤ now))
+      (λ none. (
+        r.0.heard + times.silence,
+        there ∙ ap (λ (w : Option ℕ). Some w) (unheard_end times some now r.0 none
+        (omega (arith, fits, asked_unheard times some now r.0 r.2 none))),
+        asked_unheard times some now r.0 r.2 none,
+      ))
+      (λ differ.
+      (let again = asked_again times some now r.0 r.2 (omega (arith, differ)) in (
+        r.0.asked + times.ask_wait,
+        there ∙ ap (λ (w : Option ℕ). Some w) (unanswered_end times some now r.0
+        (omega (arith, differ)) (omega (arith, again.0)) (omega (arith, fits, again.1))),
+        again.1,
+      )))
+
+  silent_has_end : (id : List ℕ) → IsLiveAnd (is_silent times now) live id → IsInCall calls id
+      → (m : ℕ) × (fin.get ends id ≡ Some (Some m)) × (m ≤ now)
+  silent_has_end id h in_call =
+      let r = the_live (is_silent times now) live id h in
+      let last = silent_at_last times some now r.0 r.2 in
+      (
+        r.0.asked + times.ask_wait,
+        end_there id r.0 r.1 in_call
+        ∙ ap (λ (w : Option ℕ). Some w) (unanswered_end times some now r.0
+        (omega (arith, some, last.0)) (omega (arith, last.0)) (omega (arith, fits, last.1))),
+        last.1,
+      )
+
+  -- where no silence has ended, nothing is due
+  pub nothing_ended : ((id : List ℕ) (m : ℕ) → fin.get ends id ≡ Some (Some m) → m ≤ now → ⊥)
+      → IsNoEndpointDue now times live calls
+  nothing_ended none = due where
+    due : (item : DueItem) → IsEndpointItem now times live calls item → ⊥
+    due (RegistrationOver id) h = h
+    due (Interrogate id) h =
+        let e = asked_has_end id h.1 h.0 in
+        none id e.0 e.1 e.2
+    due (Silent id) h =
+        let e = silent_has_end id h.1 h.0 in
+        none id e.0 e.1 e.2
+    due (Retry born) h = h
+    due (KeptOver born) h = h
+    due PoolTurn h = h
+
+  -- whose silence has ended takes part in a call
+  ended_in_call : (id : List ℕ) (r : Registration) (m : ℕ) → fin.get live id ≡ Some r
+      → fin.get ends id ≡ Some (Some m) → IsInCall calls id
+  ended_in_call id r m there end =
+      by_place (legs_of calls id) 0 (IsInCall calls id)
+      (λ none. some_none (same_some _ _ (sym end
+      ∙ (watched id
+      ∙ (ap (option_map (end_of times (legs_of calls id))) there
+      ∙ ap (λ (legs : ℕ). Some (end_of times legs r)) none)))))
+      (λ differ. omega (arith, differ))
+
+  -- what is due of an endpoint whose silence has ended
+  pub ended_item : (id : List ℕ) (r : Registration) (m : ℕ) → fin.get live id ≡ Some r
+      → r.identifier ≡ id → fin.get ends id ≡ Some (Some m) → m ≤ now
+      → MatchOption (item_in_call now times r) (IsNoEndpointDue now times live calls)
+      (IsEndpointItem now times live calls)
+  ended_item id r m there own end below =
+      cases (is_to_be_asked times now r) refl (is_silent times now r) refl where
+        in_call : IsInCall calls r.identifier
+        in_call = subst (IsInCall calls) (sym own) (ended_in_call id r m there end)
+
+        passes_test : (test : Registration → Bool) → test r ≡ true
+            → IsLiveAnd test live r.identifier
+        passes_test test is =
+            subst (λ w. IsSomeAnd w (λ r. IsTrue (test r))) (sym (ap (fin.get live) own ∙ there)) is
+
+        ends_so : end_in_call times r ≡ Some m
+        ends_so = same_some _ _ (sym (end_there id r there (ended_in_call id r m there end)) ∙ end)
+
+        cases : (a : Bool) → is_to_be_asked times now r ≡ a → (s : Bool)
+            → is_silent times now r ≡ s
+            → MatchOption (cond a (Some (Interrogate r.identifier))
+            (cond s (Some (Silent r.identifier)) None)) (IsNoEndpointDue now times live calls)
+            (IsEndpointItem now times live calls)
+        cases true asked s silent = (in_call, passes_test (is_to_be_asked times now) asked)
+        cases false asked true silent = (in_call, passes_test (is_silent times now) silent)
+        cases false asked false silent =
+            absurd (ended_due times some now r m ends_so below asked silent)
