@@ -28,7 +28,13 @@ impl Machine {
         let moment = now.milliseconds();
         let endpoint = self.tables.endpoint_due(now);
         let registrations = self.tables.registrations();
-        due_beside(endpoint, registrations, &self.kept, moment, self.next_pool_turn)
+        due_beside(
+            endpoint,
+            registrations,
+            &self.kept,
+            moment,
+            self.next_pool_turn,
+        )
     }
 
     /// How long an endpoint in a call may be silent.

@@ -90,14 +90,14 @@ module _ (times : Times) (some : 1 ≤ times.asks) (now : ℕ) (fits : now < 2 ^
       (λ none. (
         r.0.heard + times.silence,
         there ∙ ap (λ (w : Option ℕ). Some w) (unheard_end times some now r.0 none
-        (omega (arith, fits, asked_unheard times some now r.0 r.2 none))),
+            (omega (arith, fits, asked_unheard times some now r.0 r.2 none))),
         asked_unheard times some now r.0 r.2 none,
       ))
       (λ differ.
       (let again = asked_again times some now r.0 r.2 (omega (arith, differ)) in (
         r.0.asked + times.ask_wait,
         there ∙ ap (λ (w : Option ℕ). Some w) (unanswered_end times some now r.0
-        (omega (arith, differ)) (omega (arith, again.0)) (omega (arith, fits, again.1))),
+            (omega (arith, differ)) (omega (arith, again.0)) (omega (arith, fits, again.1))),
         again.1,
       )))
 
@@ -105,12 +105,11 @@ module _ (times : Times) (some : 1 ≤ times.asks) (now : ℕ) (fits : now < 2 ^
       → (m : ℕ) × (fin.get ends id ≡ Some (Some m)) × (m ≤ now)
   silent_has_end id h in_call =
       let r = the_live (is_silent times now) live id h in
-      let last = silent_at_last times some now r.0 r.2 in
-      (
+      let last = silent_at_last times some now r.0 r.2 in (
         r.0.asked + times.ask_wait,
         end_there id r.0 r.1 in_call
-        ∙ ap (λ (w : Option ℕ). Some w) (unanswered_end times some now r.0
-        (omega (arith, some, last.0)) (omega (arith, last.0)) (omega (arith, fits, last.1))),
+            ∙ ap (λ (w : Option ℕ). Some w) (unanswered_end times some now r.0
+            (omega (arith, some, last.0)) (omega (arith, last.0)) (omega (arith, fits, last.1))),
         last.1,
       )
 

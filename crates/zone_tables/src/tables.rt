@@ -295,7 +295,13 @@ impl ZoneTables {
         let id = change.endpoint();
         make_place(&mut self.silences, &self.endpoints, &id)?;
         self.endpoints.apply(now, change)?;
-        watch(&mut self.silences, &times, &self.endpoints, &self.bandwidth, &id);
+        watch(
+            &mut self.silences,
+            &times,
+            &self.endpoints,
+            &self.bandwidth,
+            &id,
+        );
         Ok(())
     }
 
@@ -310,7 +316,13 @@ impl ZoneTables {
         let mover = change.mover();
         self.bandwidth.apply(change)?;
         if let Some(id) = mover {
-            watch(&mut self.silences, &times, &self.endpoints, &self.bandwidth, &id);
+            watch(
+                &mut self.silences,
+                &times,
+                &self.endpoints,
+                &self.bandwidth,
+                &id,
+            );
         }
         Ok(())
     }
@@ -324,7 +336,13 @@ impl ZoneTables {
         if let Some(id) = endpoint {
             let times = self.times();
             self.endpoints.hear(now, &id);
-            watch(&mut self.silences, &times, &self.endpoints, &self.bandwidth, &id);
+            watch(
+                &mut self.silences,
+                &times,
+                &self.endpoints,
+                &self.bandwidth,
+                &id,
+            );
         }
     }
 
@@ -355,7 +373,13 @@ impl ZoneTables {
         self.bandwidth.reserve(1)?;
         let answer = self.bandwidth.request_units(request, lender);
         if let Purpose::Opening(leg) = request.purpose {
-            watch(&mut self.silences, &times, &self.endpoints, &self.bandwidth, &leg.endpoint);
+            watch(
+                &mut self.silences,
+                &times,
+                &self.endpoints,
+                &self.bandwidth,
+                &leg.endpoint,
+            );
         }
         Ok(answer)
     }
@@ -368,7 +392,13 @@ impl ZoneTables {
     {
         let times = self.times();
         self.bandwidth.leave_all(id);
-        watch(&mut self.silences, &times, &self.endpoints, &self.bandwidth, id);
+        watch(
+            &mut self.silences,
+            &times,
+            &self.endpoints,
+            &self.bandwidth,
+            id,
+        );
     }
 
     /// Removes a registration, with the endpoint's legs.
@@ -380,7 +410,13 @@ impl ZoneTables {
         self.leave_all(id);
         let times = self.times();
         self.endpoints.remove(id);
-        watch(&mut self.silences, &times, &self.endpoints, &self.bandwidth, id);
+        watch(
+            &mut self.silences,
+            &times,
+            &self.endpoints,
+            &self.bandwidth,
+            id,
+        );
     }
 
     /// Removes the legs of a silent endpoint, which stays registered.
@@ -392,7 +428,13 @@ impl ZoneTables {
         self.leave_all(id);
         let times = self.times();
         self.endpoints.calm(id);
-        watch(&mut self.silences, &times, &self.endpoints, &self.bandwidth, id);
+        watch(
+            &mut self.silences,
+            &times,
+            &self.endpoints,
+            &self.bandwidth,
+            id,
+        );
     }
 
     /// Notes that an endpoint is asked for a sign of life now.
@@ -404,7 +446,13 @@ impl ZoneTables {
     {
         let times = self.times();
         self.endpoints.interrogated(now, id);
-        watch(&mut self.silences, &times, &self.endpoints, &self.bandwidth, id);
+        watch(
+            &mut self.silences,
+            &times,
+            &self.endpoints,
+            &self.bandwidth,
+            id,
+        );
     }
 
     /// What is due of an endpoint in a call, of any that something is due of: it is asked for a sign
