@@ -18,3 +18,5 @@ mod fixtures;
 mod held_aliases;
 #[cfg(test)]
 mod kept;
+#[cfg(test)]
+mod silence_ends;
