@@ -5,8 +5,8 @@
 //!
 //! Its input is a script, whose lines it prints. It runs it step by step; behind a line `run`, at
 //! once; behind a line `world`, by the workers of a world; behind a line `book`, step by step and
-//! recorded in a book, which is then run again. If there is no script, the tables and the values have
-//! their turn.
+//! recorded in a book, which is then run again; behind a line `lock`, by the seats of a lock, whose
+//! history is then audited. If there is no script, the tables and the values have their turn.
 //!
 //! First it asks for memory once for each empty line at the head of the input, and at last once
 //! more. `rt try` refuses the request of one number in all runs of one build: with more and more
@@ -17,9 +17,11 @@
 ghost use Rattle.std.specs.Prelude.{◌≤◌, IfOk};
 
 mod copies;
+mod locks;
 mod meter;
 mod records;
 mod rehearsal;
+mod seats;
 mod sights;
 mod tables;
 mod worlds;
@@ -28,6 +30,7 @@ use rehearsal::{Way, rehearse};
 use std::alloc::Global;
 use std::io::Read;
 use std::process::ExitCode;
+use std::sync::Wait;
 
 /// The octets that the input has at most.
 const MOST: usize = 32_768;
@@ -79,10 +82,11 @@ fn try_parts(alloc: Global) -> Result<(), &'static str> {
 
 /// The script without its first line, if that names the way in which it is run.
 fn way_of(script: &[u8]) -> (&[u8], Way) {
-    let ways: [(&[u8], Way); 3] = [
+    let ways: [(&[u8], Way); 4] = [
         (b"run\n", Way::Run),
         (b"world\n", Way::World),
         (b"book\n", Way::Book),
+        (b"lock\n", Way::Lock),
     ];
     for (line, way) in ways {
         if let Some(script) = script.strip_prefix(line) {
@@ -92,7 +96,7 @@ fn way_of(script: &[u8]) -> (&[u8], Way) {
     (script, Way::Steps)
 }
 
-fn run(rt: &(impl Input + Print), alloc: Global) -> Result<(), &'static str> {
+fn run<R: Input + Print + Wait>(rt: &R, alloc: Global) -> Result<(), &'static str> {
     let mut text = [0; MOST];
     let length = read_input(&mut rt.reader(), &mut text)?;
     let script = ask_before(alloc, &text[..length]);

@@ -1,6 +1,7 @@
 //! Scripts that are run while memory is refused: step by step, as a run, by the workers of a world,
-//! and recorded in a book.
+//! recorded in a book, and by the seats of a lock.
 
+use crate::locks::lock_up;
 use crate::meter::Metered;
 use crate::records::keep_book;
 use crate::worlds::act_out;
@@ -10,8 +11,8 @@ use registrations::Registration;
 use script::{Input, Script, ScriptFault, read_script, write_outcomes};
 use std::alloc::{AllocError, AllocFailed, Global};
 use std::io;
-use std::sync::Arc;
 use std::sync::atomic::{AtomicU64, Ordering};
+use std::sync::{Arc, Wait};
 
 /// No more than one request for memory is refused, so a second try is enough.
 const TRIES: usize = 2;
@@ -47,6 +48,8 @@ pub enum Way {
     World,
     /// One by one, recorded in a book that is then run again.
     Book,
+    /// By the seats of a lock in turn.
+    Lock,
 }
 
 /// A zone, and a meter that shows what its pools have lent.
@@ -199,7 +202,8 @@ fn stage_of<P: Pool>(
 }
 
 /// Hands the events to the zone.
-fn hand_over<P: Pool>(
+fn hand_over<P: Pool, R: Wait>(
+    rt: &R,
     alloc: Global,
     stage: Stage<P>,
     events: &[Event],
@@ -212,12 +216,13 @@ fn hand_over<P: Pool>(
         Way::Run => run(&mut stage, events, outcomes),
         Way::World => act_out(alloc, stage, events, outcomes),
         Way::Book => keep_book(alloc, &mut stage, events, outcomes),
+        Way::Lock => lock_up(rt, alloc, stage, events, outcomes),
     }
 }
 
 /// Runs a script over these pools, and prints the lines of its outcomes.
-fn perform<P: Pool>(
-    rt: &impl Print,
+fn perform<P: Pool, R: Print + Wait>(
+    rt: &R,
     alloc: Global,
     script: Script,
     pools: Vec<P>,
@@ -225,7 +230,7 @@ fn perform<P: Pool>(
 ) -> Result<(), Trouble> {
     let (stage, events) = stage_of(alloc, script, pools)?;
     let mut outcomes = Vec::with_capacity(alloc, events.len())?;
-    if let Err(told) = hand_over(alloc, stage, &events, &mut outcomes, way) {
+    if let Err(told) = hand_over(rt, alloc, stage, &events, &mut outcomes, way) {
         return Err(Trouble::Otherwise(told));
     }
     write_outcomes(&outcomes, &mut io::writer(rt)).map_err(|_| Trouble::Otherwise(
@@ -243,7 +248,12 @@ fn script_of(alloc: Global, text: &[u8]) -> Result<Script, Trouble> {
 
 /// Makes the pools of a script, and runs it over them. The program makes them so too: no library may
 /// make a box and hand it out.
-fn try_rehearsal(rt: &impl Print, alloc: Global, text: &[u8], way: Way) -> Result<(), Trouble> {
+fn try_rehearsal<R: Print + Wait>(
+    rt: &R,
+    alloc: Global,
+    text: &[u8],
+    way: Way,
+) -> Result<(), Trouble> {
     let script = script_of(alloc, text)?;
     let mut pools: Vec<Box<dyn Pool + Send>> = Vec::new(alloc);
     for spec in script.pools.as_slice() {
@@ -253,7 +263,12 @@ fn try_rehearsal(rt: &impl Print, alloc: Global, text: &[u8], way: Way) -> Resul
 }
 
 /// Runs a script, whose lines it prints; once more where memory was refused before its first step.
-pub fn rehearse(rt: &impl Print, alloc: Global, text: &[u8], way: Way) -> Result<(), &'static str> {
+pub fn rehearse<R: Print + Wait>(
+    rt: &R,
+    alloc: Global,
+    text: &[u8],
+    way: Way,
+) -> Result<(), &'static str> {
     for _ in 0..TRIES {
         match try_rehearsal(rt, alloc, text, way) {
             Ok(()) => return Ok(()),
