@@ -6,7 +6,8 @@
 //! Its input is a script, whose lines it prints. It runs it step by step; behind a line `run`, at
 //! once; behind a line `world`, by the workers of a world; behind a line `book`, step by step and
 //! recorded in a book, which is then run again; behind a line `lock`, by the seats of a lock, whose
-//! history is then audited. If there is no script, the tables and the values have their turn.
+//! history is then audited. Behind a line `settings` come settings, which it reads and prints. If there
+//! is nothing, the tables and the values have their turn.
 //!
 //! First it asks for memory once for each empty line at the head of the input, and at last once
 //! more. `rt try` refuses the request of one number in all runs of one build: with more and more
@@ -19,6 +20,7 @@ ghost use Rattle.std.specs.Prelude.{◌≤◌, IfOk};
 mod copies;
 mod locks;
 mod meter;
+mod readings;
 mod records;
 mod rehearsal;
 mod seats;
@@ -26,6 +28,7 @@ mod sights;
 mod tables;
 mod worlds;
 
+use readings::read_again;
 use rehearsal::{Way, rehearse};
 use std::alloc::Global;
 use std::io::Read;
@@ -102,6 +105,9 @@ fn run<R: Input + Print + Wait>(rt: &R, alloc: Global) -> Result<(), &'static st
     let script = ask_before(alloc, &text[..length]);
     if script.is_empty() {
         return try_parts(alloc);
+    }
+    if let Some(settings) = script.strip_prefix(b"settings\n") {
+        return read_again(rt, alloc, settings);
     }
     let (script, way) = way_of(script);
     rehearse(rt, alloc, script, way)
