@@ -27,6 +27,8 @@ const OTHERWISE: &str = "a lock answered otherwise";
 
 const TWICE: &str = "a lock was refused twice";
 
+const NO_PLACE: &str = "no place for what a lock tells";
+
 /// The receipts of the steps, in their order, and the chapters that ended. There is room for all.
 #[derive(Drop)]
 struct Record {
@@ -59,7 +61,7 @@ impl Record {
         if !is_next {
             return Err(OTHERWISE);
         }
-        self.receipts.push(receipt).map_err(|_| TWICE)
+        self.receipts.push(receipt).map_err(|_| NO_PLACE)
     }
 
     /// Adds a chapter, which has the steps since the one before.
@@ -72,7 +74,7 @@ impl Record {
         if chapter.first() != first || behind != self.receipts.len() {
             return Err(OTHERWISE);
         }
-        self.chapters.push(chapter).map_err(|_| TWICE)
+        self.chapters.push(chapter).map_err(|_| NO_PLACE)
     }
 
     /// Whether this is the history of so many steps, with which the receipts agree.
@@ -228,7 +230,7 @@ fn hand_out(receipts: Vec<Receipt>, outcomes: &mut Vec<Outcome>) -> Result<(), &
     for receipt in receipts {
         let Receipt { outcome, .. } = receipt;
         if outcomes.push(outcome).is_err() {
-            return Err("no place for an outcome");
+            return Err(NO_PLACE);
         }
     }
     Ok(())

@@ -1,9 +1,10 @@
 //! Scripts that are run while memory is refused: step by step, as a run, by the workers of a world,
-//! recorded in a book, and by the seats of a lock.
+//! recorded in a book, by the seats of a lock, and by a server.
 
 use crate::locks::lock_up;
 use crate::meter::Metered;
 use crate::records::keep_book;
+use crate::serving::serve_up;
 use crate::worlds::act_out;
 use pools::{Pool, PoolSet, StandardPool};
 use ras_core::{Event, Outcome, StepFault, Zone};
@@ -11,14 +12,17 @@ use registrations::Registration;
 use script::{Input, Script, ScriptFault, read_script, write_outcomes};
 use std::alloc::{AllocError, AllocFailed, Global};
 use std::io;
+use std::rt::Clock;
 use std::sync::atomic::{AtomicU64, Ordering};
 use std::sync::{Arc, Wait};
+use std::thread::Threads;
 
 /// No more than one request for memory is refused, so a second try is enough.
 const TRIES: usize = 2;
 
 /// Why a rehearsal ends early.
-enum Trouble {
+#[derive(Clone, Copy, Drop)]
+pub enum Trouble {
     /// Memory was refused before the first step: it begins again.
     Memory,
     /// Something was otherwise than it has to be.
@@ -50,6 +54,8 @@ pub enum Way {
     Book,
     /// By the seats of a lock in turn.
     Lock,
+    /// By a server, which receives the datagrams.
+    Serve,
 }
 
 /// A zone, and a meter that shows what its pools have lent.
@@ -202,26 +208,28 @@ fn stage_of<P: Pool>(
 }
 
 /// Hands the events to the zone.
-fn hand_over<P: Pool, R: Wait>(
+fn hand_over<P: Pool + Send, R: Print + Threads + Wait + Clock + Sync>(
     rt: &R,
     alloc: Global,
     stage: Stage<P>,
     events: &[Event],
     outcomes: &mut Vec<Outcome>,
     way: Way,
-) -> Result<(), &'static str> {
+) -> Result<(), Trouble> {
     let mut stage = stage;
-    match way {
+    let handed_over = match way {
         Way::Steps => steps(&mut stage, events, outcomes),
         Way::Run => run(&mut stage, events, outcomes),
         Way::World => act_out(alloc, stage, events, outcomes),
         Way::Book => keep_book(alloc, &mut stage, events, outcomes),
         Way::Lock => lock_up(rt, alloc, stage, events, outcomes),
-    }
+        Way::Serve => return serve_up(rt, alloc, stage, events),
+    };
+    handed_over.map_err(Trouble::Otherwise)
 }
 
 /// Runs a script over these pools, and prints the lines of its outcomes.
-fn perform<P: Pool, R: Print + Wait>(
+fn perform<P: Pool + Send, R: Print + Threads + Wait + Clock + Sync>(
     rt: &R,
     alloc: Global,
     script: Script,
@@ -230,9 +238,7 @@ fn perform<P: Pool, R: Print + Wait>(
 ) -> Result<(), Trouble> {
     let (stage, events) = stage_of(alloc, script, pools)?;
     let mut outcomes = Vec::with_capacity(alloc, events.len())?;
-    if let Err(told) = hand_over(rt, alloc, stage, &events, &mut outcomes, way) {
-        return Err(Trouble::Otherwise(told));
-    }
+    hand_over(rt, alloc, stage, &events, &mut outcomes, way)?;
     write_outcomes(&outcomes, &mut io::writer(rt)).map_err(|_| Trouble::Otherwise(
         "standard output failed",
     ))
@@ -248,7 +254,7 @@ fn script_of(alloc: Global, text: &[u8]) -> Result<Script, Trouble> {
 
 /// Makes the pools of a script, and runs it over them. The program makes them so too: no library may
 /// make a box and hand it out.
-fn try_rehearsal<R: Print + Wait>(
+fn try_rehearsal<R: Print + Threads + Wait + Clock + Sync>(
     rt: &R,
     alloc: Global,
     text: &[u8],
@@ -263,7 +269,7 @@ fn try_rehearsal<R: Print + Wait>(
 }
 
 /// Runs a script, whose lines it prints; once more where memory was refused before its first step.
-pub fn rehearse<R: Print + Wait>(
+pub fn rehearse<R: Print + Threads + Wait + Clock + Sync>(
     rt: &R,
     alloc: Global,
     text: &[u8],
