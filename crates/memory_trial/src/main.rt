@@ -5,8 +5,10 @@
 //!
 //! Its input is a script, whose lines it prints. It runs it step by step; behind a line `run`, at
 //! once; behind a line `world`, by the workers of a world; behind a line `book`, step by step and
-//! recorded in a book, which is then run again. If there is no script, the tables and the values have
-//! their turn.
+//! recorded in a book, which is then run again; behind a line `lock`, by the seats of a lock, whose
+//! history is then audited; behind a line `serve`, by a server, of which it prints one line. Behind a
+//! line `settings` come settings, which it reads and prints. If there is nothing, the tables and the
+//! values have their turn.
 //!
 //! First it asks for memory once for each empty line at the head of the input, and at last once
 //! more. `rt try` refuses the request of one number in all runs of one build: with more and more
@@ -17,17 +19,26 @@
 ghost use Rattle.std.specs.Prelude.{◌≤◌, IfOk};
 
 mod copies;
+mod ends;
+mod locks;
 mod meter;
+mod readings;
 mod records;
 mod rehearsal;
+mod seats;
+mod serving;
 mod sights;
 mod tables;
 mod worlds;
 
+use readings::read_again;
 use rehearsal::{Way, rehearse};
 use std::alloc::Global;
 use std::io::Read;
 use std::process::ExitCode;
+use std::rt::Clock;
+use std::sync::Wait;
+use std::thread::Threads;
 
 /// The octets that the input has at most.
 const MOST: usize = 32_768;
@@ -79,10 +90,12 @@ fn try_parts(alloc: Global) -> Result<(), &'static str> {
 
 /// The script without its first line, if that names the way in which it is run.
 fn way_of(script: &[u8]) -> (&[u8], Way) {
-    let ways: [(&[u8], Way); 3] = [
+    let ways: [(&[u8], Way); 5] = [
         (b"run\n", Way::Run),
         (b"world\n", Way::World),
         (b"book\n", Way::Book),
+        (b"lock\n", Way::Lock),
+        (b"serve\n", Way::Serve),
     ];
     for (line, way) in ways {
         if let Some(script) = script.strip_prefix(line) {
@@ -92,12 +105,18 @@ fn way_of(script: &[u8]) -> (&[u8], Way) {
     (script, Way::Steps)
 }
 
-fn run(rt: &(impl Input + Print), alloc: Global) -> Result<(), &'static str> {
+fn run<R: Input + Print + Threads + Wait + Clock + Sync>(
+    rt: &R,
+    alloc: Global,
+) -> Result<(), &'static str> {
     let mut text = [0; MOST];
     let length = read_input(&mut rt.reader(), &mut text)?;
     let script = ask_before(alloc, &text[..length]);
     if script.is_empty() {
         return try_parts(alloc);
+    }
+    if let Some(settings) = script.strip_prefix(b"settings\n") {
+        return read_again(rt, alloc, settings);
     }
     let (script, way) = way_of(script);
     rehearse(rt, alloc, script, way)

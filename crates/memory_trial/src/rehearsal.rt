@@ -1,8 +1,10 @@
 //! Scripts that are run while memory is refused: step by step, as a run, by the workers of a world,
-//! and recorded in a book.
+//! recorded in a book, by the seats of a lock, and by a server.
 
+use crate::locks::lock_up;
 use crate::meter::Metered;
 use crate::records::keep_book;
+use crate::serving::serve_up;
 use crate::worlds::act_out;
 use pools::{Pool, PoolSet, StandardPool};
 use ras_core::{Event, Outcome, StepFault, Zone};
@@ -10,14 +12,17 @@ use registrations::Registration;
 use script::{Input, Script, ScriptFault, read_script, write_outcomes};
 use std::alloc::{AllocError, AllocFailed, Global};
 use std::io;
-use std::sync::Arc;
+use std::rt::Clock;
 use std::sync::atomic::{AtomicU64, Ordering};
+use std::sync::{Arc, Wait};
+use std::thread::Threads;
 
 /// No more than one request for memory is refused, so a second try is enough.
 const TRIES: usize = 2;
 
 /// Why a rehearsal ends early.
-enum Trouble {
+#[derive(Clone, Copy, Drop)]
+pub enum Trouble {
     /// Memory was refused before the first step: it begins again.
     Memory,
     /// Something was otherwise than it has to be.
@@ -47,6 +52,10 @@ pub enum Way {
     World,
     /// One by one, recorded in a book that is then run again.
     Book,
+    /// By the seats of a lock in turn.
+    Lock,
+    /// By a server, which receives the datagrams.
+    Serve,
 }
 
 /// A zone, and a meter that shows what its pools have lent.
@@ -199,25 +208,29 @@ fn stage_of<P: Pool>(
 }
 
 /// Hands the events to the zone.
-fn hand_over<P: Pool>(
+fn hand_over<P: Pool + Send, R: Print + Threads + Wait + Clock + Sync>(
+    rt: &R,
     alloc: Global,
     stage: Stage<P>,
     events: &[Event],
     outcomes: &mut Vec<Outcome>,
     way: Way,
-) -> Result<(), &'static str> {
+) -> Result<(), Trouble> {
     let mut stage = stage;
-    match way {
+    let handed_over = match way {
         Way::Steps => steps(&mut stage, events, outcomes),
         Way::Run => run(&mut stage, events, outcomes),
         Way::World => act_out(alloc, stage, events, outcomes),
         Way::Book => keep_book(alloc, &mut stage, events, outcomes),
-    }
+        Way::Lock => lock_up(rt, alloc, stage, events, outcomes),
+        Way::Serve => return serve_up(rt, alloc, stage, events),
+    };
+    handed_over.map_err(Trouble::Otherwise)
 }
 
 /// Runs a script over these pools, and prints the lines of its outcomes.
-fn perform<P: Pool>(
-    rt: &impl Print,
+fn perform<P: Pool + Send, R: Print + Threads + Wait + Clock + Sync>(
+    rt: &R,
     alloc: Global,
     script: Script,
     pools: Vec<P>,
@@ -225,9 +238,7 @@ fn perform<P: Pool>(
 ) -> Result<(), Trouble> {
     let (stage, events) = stage_of(alloc, script, pools)?;
     let mut outcomes = Vec::with_capacity(alloc, events.len())?;
-    if let Err(told) = hand_over(alloc, stage, &events, &mut outcomes, way) {
-        return Err(Trouble::Otherwise(told));
-    }
+    hand_over(rt, alloc, stage, &events, &mut outcomes, way)?;
     write_outcomes(&outcomes, &mut io::writer(rt)).map_err(|_| Trouble::Otherwise(
         "standard output failed",
     ))
@@ -243,7 +254,12 @@ fn script_of(alloc: Global, text: &[u8]) -> Result<Script, Trouble> {
 
 /// Makes the pools of a script, and runs it over them. The program makes them so too: no library may
 /// make a box and hand it out.
-fn try_rehearsal(rt: &impl Print, alloc: Global, text: &[u8], way: Way) -> Result<(), Trouble> {
+fn try_rehearsal<R: Print + Threads + Wait + Clock + Sync>(
+    rt: &R,
+    alloc: Global,
+    text: &[u8],
+    way: Way,
+) -> Result<(), Trouble> {
     let script = script_of(alloc, text)?;
     let mut pools: Vec<Box<dyn Pool + Send>> = Vec::new(alloc);
     for spec in script.pools.as_slice() {
@@ -253,7 +269,12 @@ fn try_rehearsal(rt: &impl Print, alloc: Global, text: &[u8], way: Way) -> Resul
 }
 
 /// Runs a script, whose lines it prints; once more where memory was refused before its first step.
-pub fn rehearse(rt: &impl Print, alloc: Global, text: &[u8], way: Way) -> Result<(), &'static str> {
+pub fn rehearse<R: Print + Threads + Wait + Clock + Sync>(
+    rt: &R,
+    alloc: Global,
+    text: &[u8],
+    way: Way,
+) -> Result<(), &'static str> {
     for _ in 0..TRIES {
         match try_rehearsal(rt, alloc, text, way) {
             Ok(()) => return Ok(()),

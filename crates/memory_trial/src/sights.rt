@@ -6,6 +6,7 @@ use pools::Pool;
 use ras_core::Zone;
 use registrations::RegistrationList;
 use std::alloc::AllocError;
+use zone_lock::Listing;
 
 /// What is seen of a zone: its steps, its clock, its endpoints and its calls.
 #[derive(Drop)]
@@ -43,4 +44,10 @@ fn is_same(one: &Sight, other: &Sight) -> bool {
 pub fn is_as_before<P: Pool>(zone: &Zone<P>, before: &Sight) -> Result<bool, &'static str> {
     let now = sight_of(zone)?;
     Ok(is_same(&now, before))
+}
+
+/// Whether what is seen of a zone is what its lock has listed.
+pub fn is_listed(sight: &Sight, listing: &Listing) -> bool {
+    are_same(sight.endpoints.as_slice(), listing.endpoints.as_slice())
+        && sight.calls == listing.calls
 }
