@@ -7,6 +7,7 @@ mod requests;
 mod servers;
 mod snapshots;
 mod steps;
+mod storms;
 mod zones;
 
 use anyhow::{Context, Result, bail};
@@ -19,7 +20,7 @@ use std::thread::Threads;
 use std::time::Clock;
 
 const USAGE: &str = "usage: benchmarks days DAYS | replays [ENDPOINTS STEPS] | serve DATAGRAMS | \
-    snapshot ENDPOINTS CALLS REPLIES | steps ENDPOINTS CALLS REPLIES";
+    snapshot ENDPOINTS CALLS REPLIES | steps ENDPOINTS CALLS REPLIES | storm ENDPOINTS";
 
 /// Measures what the command line names, and prints what it finds. Without a word it does nothing.
 fn main(rt: HostRuntime) -> Result<()> {
@@ -54,6 +55,10 @@ fn chosen<R: Threads + Wait + Clock + Files + Print + Sync>(
         }
         [_, name, endpoints, calls, replies] if name.as_str() == "steps" => {
             steps::measure(rt, alloc, sizes_of(endpoints, calls, replies)?)
+        }
+        [_, name, endpoints] if name.as_str() == "storm" => {
+            let endpoints = endpoints.parse::<u16>().context("ENDPOINTS")?;
+            storms::measure(rt, alloc, endpoints)
         }
         _ => bail!("{USAGE}"),
     }

@@ -67,11 +67,18 @@ pub fn discovery(seq: u16) -> [u8; 20] {
 
 /// A RegistrationRequest of the endpoint with this number.
 pub fn registration(alloc: Global, number: u16) -> Result<Octets, AllocError> {
+    registration_with(alloc, number, u16::from_be_bytes([RRQ_101[2], RRQ_101[3]]))
+}
+
+/// The same with this requestSeqNum, less one.
+pub fn registration_with(alloc: Global, number: u16, seq: u16) -> Result<Octets, AllocError> {
     let address = address_of(number);
     joined(
         alloc,
         &[
-            &RRQ_101[..14],
+            &RRQ_101[..2],
+            &seq.to_be_bytes(),
+            &RRQ_101[4..14],
             &address,
             &RRQ_101[18..22],
             &address,
