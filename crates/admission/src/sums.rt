@@ -1,10 +1,12 @@
 //! Sums and searches over the stored calls.
 
-ghost use Rattle.std.specs.Prelude.{◌≡◌, ◌≤◌, length};
+ghost use Rattle.std.specs.Prelude.{◌≡◌, ◌≤◌, length, IfSome, IsSome};
 ghost use Rattle.std.specs.List.{sum_by, find};
 ghost use Rattle.std.specs.Option.{option_map};
-ghost use Rattle.indexmap.specs.IndexMap.{values};
-ghost use Rattle.admission.specs.Calls.{units_from, leg_count, has_leg};
+ghost use Rattle.indexmap.specs.IndexMap.{get, values};
+ghost use Rattle.ras_module.specs.CallKeys.{same_call_key};
+ghost use Rattle.admission.specs.Calls.{units_from, leg_count, has_leg, legs_in};
+ghost use Rattle.admission.specs.Legs.{leg_of};
 
 use crate::call::Call;
 use indexmap::IndexMap;
@@ -45,6 +47,25 @@ pub(crate) fn call_in(calls: &IndexMap<CallKey, Call>, endpoint: &EndpointId) ->
     for (key, call) in calls.iter() {
         if call.legs.get(endpoint).is_some() {
             return Some(*key);
+        }
+    }
+    None
+}
+
+/// The key of such a call, if one stands at this place or behind it.
+pub(crate) fn call_from(
+    calls: &IndexMap<CallKey, Call>,
+    place: usize,
+    endpoint: &EndpointId,
+) -> Option<CallKey>
+    ensures { IfSome result (λ key. IsSome (leg_of (legs_in (get same_call_key calls.now key))
+        endpoint.now)) }
+{
+    for at in place..calls.len() {
+        if let Some((key, call)) = calls.get_index(at) {
+            if call.legs.get(endpoint).is_some() {
+                return Some(*key);
+            }
         }
     }
     None

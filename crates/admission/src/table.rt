@@ -19,7 +19,7 @@ use crate::in_use::InUse;
 use crate::leg::Leg;
 use crate::leg_counts::LegCounts;
 use crate::legs::Legs;
-use crate::sums::{call_in, legs_with, units_of_pool};
+use crate::sums::{call_from, call_in, legs_with, units_of_pool};
 use indexmap::IndexMap;
 use ras_module::{CallKey, EndpointId};
 use std::alloc::{AllocError, Global};
@@ -39,6 +39,9 @@ pub struct Calls {
     // what the calls use, and how many legs each endpoint has: changed with the calls
     in_use: InUse,
     leg_counts: LegCounts,
+    // where the call stood that an endpoint left last: the next search begins there, so that an
+    // endpoint leaves all its calls in one pass
+    left_at: usize,
 }
 
 // By hand, so that it is one call where such a table is dropped: a derived one is written out at each
@@ -50,6 +53,7 @@ impl Drop for Calls {
             most: _,
             in_use: _,
             leg_counts: _,
+            left_at: _,
         } = self;
     }
 }
@@ -89,6 +93,7 @@ impl Calls {
             most,
             in_use: InUse::none(),
             leg_counts: LegCounts::new(alloc),
+            left_at: 0,
         }
     }
 
@@ -103,6 +108,7 @@ impl Calls {
             most: self.most,
             in_use: self.in_use,
             leg_counts: self.leg_counts.copy()?,
+            left_at: self.left_at,
         })
     }
 
@@ -146,6 +152,11 @@ impl Calls {
         self.calls.get(key)
     }
 
+    /// Where the call with this key stands, which only a search asks.
+    fn place_of(&self, key: &CallKey) -> usize {
+        self.calls.get_index_of(key).unwrap_or(0)
+    }
+
     /// The leg of this endpoint in the call with this key.
     pub fn leg(&self, key: &CallKey, endpoint: &EndpointId) -> Option<&Leg>
         ensures { option_copied result ≡ leg_at self.now.calls key.now endpoint.now }
@@ -161,7 +172,10 @@ impl Calls {
         if self.leg_counts.of(endpoint) == Some(0) {
             return None;
         }
-        call_in(&self.calls, endpoint)
+        match call_from(&self.calls, self.left_at, endpoint) {
+            Some(key) => Some(key),
+            None => call_in(&self.calls, endpoint),
+        }
     }
 
     /// In how many calls this endpoint has a leg.
@@ -312,11 +326,13 @@ impl Calls {
             return Err(CallFault::NoLeg);
         }
         if call.legs.has_other(endpoint) {
+            self.left_at = self.place_of(key);
             write_without(&mut self.calls, key, endpoint);
             self.leg_counts.go(endpoint);
             return Ok(Left { ended: None });
         }
         let (pool, units) = (call.pool, call.units);
+        self.left_at = self.place_of(key);
         self.calls.swap_remove(key);
         self.in_use.take(pool, units);
         self.leg_counts.go(endpoint);

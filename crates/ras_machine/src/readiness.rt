@@ -69,7 +69,7 @@ impl Machine {
     pub fn is_due(&self, now: Moment, item: &DueItem) -> bool
         ensures { IsTrue result ↔ IsDueIn self.now now item.now }
     {
-        let times = self.times();
+        let times = self.tables.times();
         let moment = now.milliseconds();
         let registrations = self.tables.registrations();
         let calls = self.tables.calls_table();

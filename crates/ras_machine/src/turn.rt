@@ -6,13 +6,12 @@ ghost use Rattle.kept_replies.specs.Kept.{births};
 ghost use Rattle.ras_machine.specs.Machine.{Doing, retry_course, turn_course};
 ghost use Rattle.ras_machine.specs.Soundness.{Sound};
 ghost use Rattle.ras_machine.specs.Turns.{IsDueIn, IsNothingDueIn, number_after};
-ghost use Rattle.zone_tables.specs.Silence.{times_of};
 ghost use Rattle.ras_machine.specs.Courses.{CallsFor, Does, IsWaitingRequest};
 
 use crate::course::Course;
 use crate::job::{Job, Occasion};
 use crate::machine::Machine;
-use expiry::{Times, due_beside};
+use expiry::due_beside;
 use kept_replies::KeptState;
 use ras_module::{EndpointId, Reply, Request, RequestSeqNum};
 use std::alloc::AllocError;
@@ -35,19 +34,6 @@ impl Machine {
             moment,
             self.next_pool_turn,
         )
-    }
-
-    /// How long an endpoint in a call may be silent.
-    pub(crate) fn times(&self) -> Times
-        ensures same { result ≡ times_of self.now.tables.config }
-        ensures asks { result.asks ≤ 16 }
-    {
-        let parts = self.tables.config().parts();
-        Times {
-            silence: parts.silence,
-            asks: parts.asks as u8,
-            ask_wait: parts.ask_wait,
-        }
     }
 
     /// What a turn calls for in which this item is done.
