@@ -2,6 +2,7 @@
 #![tactic(auto)]
 
 mod days;
+mod deeds;
 mod replays;
 mod requests;
 mod servers;

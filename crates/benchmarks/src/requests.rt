@@ -5,7 +5,7 @@ ghost use Rattle.std.specs.Prelude.{◌<◌};
 
 use ras_module::{EndpointId, Octets};
 use std::alloc::{AllocError, Global};
-use vectors::requests::{ARQ, DRQ, GRQ, KEEP_ALIVE, RRQ_101};
+use vectors::requests::{ARQ, ARQ_ANSWER, BRQ, DRQ, GRQ, IRR, KEEP_ALIVE, RRQ_101, URQ};
 
 /// An endpoint that is registered.
 #[derive(Clone, Copy)]
@@ -122,23 +122,68 @@ pub fn admission(
     called: u16,
     call: u64,
 ) -> Result<Octets, AllocError> {
+    admission_as(&ARQ, alloc, endpoint, seq, called, call)
+}
+
+/// An AdmissionRequest of the endpoint with that number, which answers the call.
+pub fn answer(
+    alloc: Global,
+    endpoint: &Endpoint,
+    seq: u16,
+    call: u64,
+) -> Result<Octets, AllocError> {
+    admission_as(&ARQ_ANSWER, alloc, endpoint, seq, endpoint.number, call)
+}
+
+/// An AdmissionRequest that is otherwise this one.
+fn admission_as(
+    form: &[u8; 66],
+    alloc: Global,
+    endpoint: &Endpoint,
+    seq: u16,
+    called: u16,
+    call: u64,
+) -> Result<Octets, AllocError> {
     let identifier = characters_of(alloc, &endpoint.identifier)?;
     // Three bits of the type of call, then seven of the identifier, and six that pad them.
     let count = u16::from(count_of(&endpoint.identifier)) << 6;
     joined(
         alloc,
         &[
-            &ARQ[..2],
+            &form[..2],
             &seq.to_be_bytes(),
             &count.to_be_bytes(),
             &identifier,
-            &ARQ[14..15],
+            &form[14..15],
             &alias_of(called),
-            &ARQ[19..28],
+            &form[19..28],
             &call.to_be_bytes(),
-            &ARQ[36..50],
+            &form[36..50],
             &call.to_be_bytes(),
-            &ARQ[58..],
+            &form[58..],
+        ],
+    )
+}
+
+/// A BandwidthRequest for 2,000 units of that call.
+pub fn bandwidth(
+    alloc: Global,
+    endpoint: &Endpoint,
+    seq: u16,
+    call: u64,
+) -> Result<Octets, AllocError> {
+    let identifier = characters_of(alloc, &endpoint.identifier)?;
+    joined(
+        alloc,
+        &[
+            &BRQ[..2],
+            &seq.to_be_bytes(),
+            &[count_of(&endpoint.identifier) << 1],
+            &identifier,
+            &call.to_be_bytes(),
+            &BRQ[21..37],
+            &call.to_be_bytes(),
+            &BRQ[45..],
         ],
     )
 }
@@ -162,6 +207,41 @@ pub fn disengage(
             &DRQ[20..34],
             &call.to_be_bytes(),
             &DRQ[42..],
+        ],
+    )
+}
+
+/// An UnregistrationRequest of the endpoint with this number, by its call signal address.
+pub fn unregistration(alloc: Global, number: u16, seq: u16) -> Result<Octets, AllocError> {
+    let address = address_of(number);
+    joined(
+        alloc,
+        &[
+            &URQ[..1],
+            // No bit for an identifier.
+            &[0],
+            &seq.to_be_bytes(),
+            &URQ[4..6],
+            &address,
+            &URQ[10..12],
+        ],
+    )
+}
+
+/// An InfoRequestResponse.
+pub fn response(alloc: Global, endpoint: &Endpoint, seq: u16) -> Result<Octets, AllocError> {
+    let identifier = characters_of(alloc, &endpoint.identifier)?;
+    // Three bits of the type of endpoint, then seven of the identifier, and six that pad them.
+    let count = u16::from(count_of(&endpoint.identifier)) << 6;
+    joined(
+        alloc,
+        &[
+            &IRR[..2],
+            &seq.to_be_bytes(),
+            &IRR[4..5],
+            &count.to_be_bytes(),
+            &identifier,
+            &IRR[15..],
         ],
     )
 }

@@ -11,7 +11,8 @@ pub enum Choice {
     Replay,
     /// A check of the settings on standard input.
     CheckSettings,
-    /// Serving with the settings on standard input; each thread receives so often, if a number is given.
+    /// Serving with the settings on standard input. If a number is given, each thread receives that
+    /// often.
     Serve(Option<u64>),
     /// Nothing more: help or a fault in the words was printed, and this is the exit status.
     Done(u8),
@@ -67,11 +68,11 @@ NAME has 1 to 128 characters. LIMIT is at most 1000000000000; STEP and BURST are
 MS is below 9007199254740992, and one that is below an earlier one counts as that. HEX has two
 digits for each octet, and may be left out. There are no comments, and no tabs.
 
-Lines of zone, set and pool stand before the first of at or turn; of repeated lines of zone, or of
-set with one key, the last counts. There are at most 16 pools. A call has its bandwidth from the
-first pool whose network holds the address of the endpoint that opens it; a pool without a network
-holds every address, and the last pool has none. Without a pool line there is one fixed pool of the
-zone's limit.
+Lines of zone, set and pool stand before the first of at or turn; of repeated lines of zone, or
+of set with one key, the last counts. There are at most 16 pools. A call has its bandwidth from
+the first pool whose network holds the call signal address of the endpoint that opens it. A
+pool without a network holds every address, and the last pool has none. Without a pool line
+there is one fixed pool of the zone's limit.
 For example, a terminal at 10.0.0.5 asks who its gatekeeper is (a GRQ, GatekeeperRequest):
   zone gk 10.0.0.1:1719
   at 0 from 10.0.0.5:1719 00000000060008914A0002000A00000506B70200
@@ -105,17 +106,17 @@ place, or has a number out of its range.";
 const CHECK_ABOUT: &str = "Checks settings, and prints them or what is wrong with them";
 
 const CHECK_LONG_ABOUT: &str = "\
-Reads settings on standard input, as `serve` reads them: a TOML document of the tables [zone], [serve]
-and [[pool]]. If they can be used as they stand, each key is printed with its value, and whether that
-is its default. A key that isn't known is passed over, with a warning on standard error that tells its
-line and the known key that it most resembles. examples/gatekeeper.toml has every key, with its
-meaning, its range and its default:
+Reads settings on standard input, as `serve` reads them: a TOML document of the tables [zone],
+[serve] and [[pool]]. If they can be used as they stand, each key is printed with its value,
+and whether that is its default. A key that isn't known is passed over, with a warning on
+standard error that tells its line and the known key that it most resembles.
+examples/gatekeeper.toml has every key, with its meaning, its range and its default:
   gatekeeper check-settings < examples/gatekeeper.toml";
 
 const CHECK_HELP: &str = "\
-Settings are UTF-8, of at most 1,048,576 octets. They are refused as a whole, with one line on standard
-error, if they are no TOML document (`settings: 1 Syntax`, with the line and the column), or by the
-first key that fails:
+Settings are UTF-8, of at most 1,048,576 octets. They are refused as a whole, with one line on
+standard error, if they are no TOML document (`settings: 1 Syntax`, with the line and the
+column), or by the first key that fails:
   settings: 2 Missing KEY      the key is required, and isn't there
   settings: 3 WrongKind KEY    it is of another kind, as a text in place of a number
   settings: 4 OutOfRange KEY   it is out of its range, or is no address, network or kind of pool
@@ -127,27 +128,28 @@ the command line, 3 out of memory, 4 a standard stream failed.";
 const SERVE_ABOUT: &str = "Serves a zone over UDP";
 
 const SERVE_LONG_ABOUT: &str = "\
-Reads settings on standard input, binds the zone's address and answers the datagrams that arrive there,
-until it is asked to end. A line on standard error tells that it serves. docs/OPERATING.md leads from
-the settings to a first call:
+Reads settings on standard input, binds the zone's address and answers the datagrams that
+arrive there, until it is asked to end. A line on standard error tells that it serves.
+docs/OPERATING.md leads from the settings to a first call:
   gatekeeper serve < examples/gatekeeper.toml";
 
 const SERVE_HELP: &str = "\
-Settings are UTF-8, of at most 1,048,576 octets. They are refused as a whole, with one line on standard
-error, if they are no TOML document (`settings: 1 Syntax`, with the line and the column), or by the
-first key that fails:
+Settings are UTF-8, of at most 1,048,576 octets. They are refused as a whole, with one line on
+standard error, if they are no TOML document (`settings: 1 Syntax`, with the line and the
+column), or by the first key that fails:
   settings: 2 Missing KEY      the key is required, and isn't there
   settings: 3 WrongKind KEY    it is of another kind, as a text in place of a number
   settings: 4 OutOfRange KEY   it is out of its range, or is no address, network or kind of pool
   settings: 5 NoDefaultPool    there is no pool, or the last one has a network
 
-It ends in good order at SIGTERM or SIGINT, if it was started with these blocked, as `./gatekeeper`
-starts it, or once each receiving thread has received N times. Then it prints how many datagrams and
-turns of the timers there were; how many replies were sent, and how many were dropped, since too many
-of them waited; how many steps were refused for want of memory; and how many receives and sends failed.
+It ends in good order at SIGTERM or SIGINT, if it was started with these blocked, as
+`./gatekeeper` starts it, or once each receiving thread has received N times. Then it prints
+how many datagrams and turns of the timers there were; how many replies were sent, and how many
+were dropped, since too many of them waited; how many steps were refused for want of memory;
+and how many receives and sends failed.
 
-Exit status: 0 done, 1 the settings were refused, 2 wrong words on the command line, 3 out of memory,
-4 the address can't be bound, or a standard stream failed.";
+Exit status: 0 done, 1 the settings were refused, 2 wrong words on the command line, 3 out of
+memory, 4 the address can't be bound, or a standard stream failed.";
 
 fn replay_command<'a>(alloc: Global) -> Command<'a> {
     Command::new(alloc, "replay")
@@ -197,8 +199,8 @@ fn choice_of(matches: &ArgMatches<'_>) -> Choice {
     }
 }
 
-/// Reads the words of the command line. Where they ask for help or can't be followed, `clap`'s text
-/// is printed.
+/// Reads the words of the command line. If they ask for help or can't be followed, `clap`'s text is
+/// printed.
 pub fn chosen<R: Print + Eprint>(
     rt: &R,
     alloc: Global,

@@ -56,7 +56,7 @@ interrogation s now endpoint = record {
 
 -- What each item comes to, but for a request that is served again. (In a turn of the pools each
 -- pool makes one too. It changes no figure of a pool, so it shows in their tallies and in no state:
--- `tallies_after` of Steps says it.)
+-- `tallies_after` of ras_core says it.)
 abbrev pub effect : State → ℕ → DueItem → Effect
 effect s now (RegistrationOver id) =
     quietly (record s { tables = without_endpoint s.tables id })

@@ -133,7 +133,7 @@ impl Machine {
             → plan_of self.now.tables now request ≡ Some plan
             → CallsFor self.now now (serving job now request plan) course) }
     {
-        let conclusion = decide(&self.tables, now, &request)?;
+        let conclusion = decide(self.alloc, &self.tables, now, &request)?;
         Ok(Course::Serving(Task {
             job,
             request,

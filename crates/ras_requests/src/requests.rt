@@ -12,20 +12,25 @@ use crate::grq::discover;
 use crate::rrq::register;
 use crate::urq::unregister;
 use ras_module::Request;
-use std::alloc::AllocError;
+use std::alloc::{AllocError, Global};
 use zone_config::Moment;
 use zone_tables::ZoneTables;
 
 /// What is concluded about a request, without changing anything. An InfoRequestResponse is no
 /// request that has a reply.
-pub fn decide(tables: &ZoneTables, now: Moment, request: &Request) -> Result<Conclusion, AllocError>
+pub fn decide(
+    alloc: Global,
+    tables: &ZoneTables,
+    now: Moment,
+    request: &Request,
+) -> Result<Conclusion, AllocError>
     requires { HasReply request.now }
     ensures concludes { IfOk result (IsConclusion tables.now now request.now) }
     ensures about { IfOk result (IsFor (seq_of request.now) (endpoint_of request.now)) }
 {
     match request {
         Request::Grq(q) => Ok(Conclusion::Settled(Decision::reply(discover(tables, q)))),
-        Request::Rrq(q) => register(tables, now, q),
+        Request::Rrq(q) => register(alloc, tables, now, q),
         Request::Urq(q) => Ok(Conclusion::Settled(unregister(tables, now, q))),
         Request::Arq(q) => Ok(admit(tables, now, q)),
         Request::Brq(q) => Ok(change_bandwidth(tables, now, q)),

@@ -1,7 +1,7 @@
 //! Registration of endpoints.
 
-ghost use Rattle.std.specs.Prelude.{◌≡◌, IfOk, []};
-ghost use Rattle.ras_module.specs.Aliases.{without_doubles};
+ghost use Rattle.std.specs.Prelude.{◌≡◌, ◌<◌, IfOk, MatchOption, [], length};
+ghost use Rattle.ras_module.specs.Aliases.{has_alias, without_doubles};
 ghost use Rattle.registrations.specs.Registry.{at_address};
 ghost use Rattle.registrations.specs.Agreement.{registered_elsewhere};
 ghost use Rattle.ras_requests.specs.Rrq.{confirmation, deadline, granted, has_moved};
@@ -11,11 +11,11 @@ ghost use Rattle.ras_requests.specs.Conclusions.{Concludes, Decides, IsFor};
 use crate::conclusion::{Conclusion, Decision, Newcomer};
 use crate::grq::is_foreign;
 use ras_module::{
-    Address, EndpointId, RegistrationRejectReason, RegistrationRequest, Reply, ReplyAliases,
-    TimeToLive,
+    Address, Alias, AliasList, EndpointId, RegistrationRejectReason, RegistrationRequest, Reply,
+    ReplyAliases, TimeToLive,
 };
 use registrations::Registration;
-use std::alloc::AllocError;
+use std::alloc::{AllocError, Global};
 use zone_config::Moment;
 use zone_tables::{Change, EndpointChange, Entry, ZoneTables};
 
@@ -81,8 +81,37 @@ fn keep_alive(
     })
 }
 
+/// The aliases, each once, and None if more than a reply can tell differ. The search ends with the
+/// first one too many: a list of all that fit into a datagram takes no longer than its length.
+fn distinct(alloc: Global, aliases: &AliasList) -> Result<Option<ReplyAliases>, AllocError>
+    ensures { IfOk result (λ found. MatchOption found
+        (32 < length (without_doubles aliases.now)) (λ kept. kept ≡ without_doubles aliases.now)) }
+{
+    let mut kept = AliasList::new(alloc);
+    for alias in aliases.as_slice() {
+        if !has(&kept, alias) {
+            if kept.len() == 32 {
+                return Ok(None);
+            }
+            kept.push(*alias)?;
+        }
+    }
+    match ReplyAliases::new(kept) {
+        Ok(few) => Ok(Some(few)),
+        Err(_) => Ok(None),
+    }
+}
+
+/// Whether an alias is in the list.
+fn has(list: &AliasList, alias: &Alias) -> bool
+    ensures { result ≡ has_alias list.now alias.now }
+{
+    list.as_slice().iter().any(|one| one == alias)
+}
+
 /// A full registration.
 fn register_fully(
+    alloc: Global,
     tables: &ZoneTables,
     now: Moment,
     q: &RegistrationRequest,
@@ -98,7 +127,7 @@ fn register_fully(
     let Some(ras) = q.ras else {
         return Ok(rejected(q, RegistrationRejectReason::InvalidRasAddress));
     };
-    let Ok(aliases) = ReplyAliases::new(q.aliases.distinct()?) else {
+    let Some(aliases) = distinct(alloc, &q.aliases)? else {
         return Ok(rejected(q, RegistrationRejectReason::ResourceUnavailable));
     };
     let held = tables.conflicts(&aliases, call_signal)?;
@@ -150,6 +179,7 @@ fn enter(
 
 /// What is concluded about a RegistrationRequest.
 pub(crate) fn register(
+    alloc: Global,
     tables: &ZoneTables,
     now: Moment,
     q: &RegistrationRequest,
@@ -164,7 +194,7 @@ pub(crate) fn register(
     if q.keep_alive {
         Ok(Conclusion::Settled(keep_alive(tables, now, q)?))
     } else {
-        register_fully(tables, now, q)
+        register_fully(alloc, tables, now, q)
     }
 }
 

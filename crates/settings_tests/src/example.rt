@@ -68,9 +68,9 @@ const EXAMPLE: &str = r#"
 # The name of the gatekeeper's zone (its GatekeeperIdentifier): 1 to 128 characters. Required.
 identifier = "gk"
 
-# The address at which the gatekeeper is reached, as "A.B.C.D:PORT". Required. It is told to
-# endpoints in each confirm, so on a real machine put the address here by which they reach it, as
-# "10.0.0.1:1719"; with 127.0.0.1 only programs on the same machine do. 1719 is the port of RAS.
+# The address at which the gatekeeper is reached, as "A.B.C.D:PORT". Required. Endpoints that
+# discover the gatekeeper are told it, so on a real machine put the address here by which they reach
+# it, as "10.0.0.1:1719"; with 127.0.0.1 only programs on the same machine do. 1719 is RAS's port.
 address = "127.0.0.1:1719"
 
 # The bandwidth of all calls together: 1 to 1000000000000 units.
@@ -131,8 +131,8 @@ tick = 20
 buffer = 8388608
 
 # The pools that lend calls their bandwidth: 1 to 16 tables `[[pool]]`. A call has its bandwidth
-# from the first pool whose network holds the address of the endpoint that opens it. The last pool
-# has no network, and so serves every address. No key of a pool has a default.
+# from the first pool whose network holds the call signal address of the endpoint that opens it. The
+# last pool has no network, and so serves every address. No key of a pool has a default.
 #
 # kind     "fixed" lends what is asked for; "step" lends whole steps; "paced" lends at most a burst
 #          between two turns of the pools, and lets requests wait for the next turn
