@@ -218,8 +218,8 @@ fn live(
     Ok(())
 }
 
-/// Lives so many days, and prints for each what was done until then, and how much memory the program
-/// had at most and has.
+/// Lives this many days, and prints for each what was done until then, and how much memory the
+/// program had at most and has.
 pub fn measure(rt: &(impl Files + Print), alloc: Global, days: u64) -> Result<()> {
     let mut zone = zone_with(alloc, KEPT, TIME_TO_LIVE)?;
     let lived = live(rt, alloc, &mut zone, days);

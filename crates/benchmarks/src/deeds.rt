@@ -63,7 +63,7 @@ pub enum Wanted {
     Heard,
     /// Nothing is due.
     Idle,
-    /// A kept reply is dropped whose window is over.
+    /// A kept reply whose window is over is dropped.
     KeptOver,
     /// An endpoint is asked for a sign of life.
     Interrogation,

@@ -14,7 +14,7 @@ use std::time::{Clock, Duration, Instant};
 /// How many milliseconds pass from one step to the next.
 const PACE: u64 = 5;
 
-/// In how many rounds later than it was opened a call ends.
+/// How many rounds after it was opened a call ends.
 const CALL_ROUNDS: usize = 100;
 
 /// What is done in one step of a round, which has an endpoint of its own.
@@ -194,7 +194,7 @@ fn measure_steps(
     print_times(rt, time, again, is_run)
 }
 
-/// Makes so many steps of the zone, once so many endpoints are registered, and does them again.
+/// Makes `steps` steps of the zone, once `endpoints` endpoints are registered, and does them again.
 fn measure_zone(
     rt: &(impl Clock + Print),
     alloc: Global,
@@ -210,7 +210,8 @@ fn measure_zone(
     measured
 }
 
-/// Makes so many steps of a zone with so many endpoints, does them again, and prints what it finds.
+/// Makes `steps` steps of a zone with `endpoints` endpoints, does them again, and prints what
+/// it finds.
 pub fn measure(
     rt: &(impl Clock + Print),
     alloc: Global,

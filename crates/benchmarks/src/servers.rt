@@ -40,7 +40,7 @@ const PLAN: Plan = Plan {
 /// What the system tells of this program.
 const STATUS: &str = "/proc/self/status";
 
-/// An end that gives so many discoveries, each a new one, and then has stopped.
+/// An end that gives `left` discoveries, each a new one, and then has stopped.
 #[derive(Drop)]
 struct Feed {
     number: u8,
@@ -88,7 +88,7 @@ impl udp_server::Moments for Pacer<'_> {
     }
 }
 
-/// Ends that give so many datagrams together, or a few less, if their number can't be divided.
+/// Ends that give this many datagrams together, or a few less, if `ENDS` doesn't divide the number.
 fn feeds(alloc: Global, datagrams: u64) -> Result<Vec<Feed>> {
     let mut ends = Vec::new(alloc);
     let left = datagrams / u64::from(ENDS);
@@ -108,7 +108,7 @@ fn clocks<'a>(alloc: Global, time: &'a AtomicU64) -> Result<Vec<Pacer<'a>>> {
     Ok(clocks)
 }
 
-/// Serves so many datagrams.
+/// Serves this many datagrams.
 fn serve<R: Threads + Wait + Clock + Sync>(
     rt: &R,
     alloc: Global,
@@ -136,7 +136,7 @@ pub fn print_memory(rt: &(impl Files + Print), alloc: Global) -> Result<()> {
     Ok(())
 }
 
-/// Serves so many datagrams, and prints how long that took and how much memory at most.
+/// Serves this many datagrams, and prints how long that took and how much memory at most.
 pub fn measure<R: Threads + Wait + Clock + Files + Print + Sync>(
     rt: &R,
     alloc: Global,

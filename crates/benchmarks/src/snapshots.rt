@@ -12,7 +12,7 @@ use std::time::{Clock, Duration, Instant};
 /// How often the state is copied.
 const COPIES: u32 = 10;
 
-/// The tables of a zone: so many endpoints, calls and kept replies.
+/// The sizes of a zone's tables: how many endpoints, calls and kept replies they have.
 #[derive(Clone, Copy)]
 pub struct Sizes {
     pub endpoints: usize,
@@ -27,7 +27,7 @@ fn serve(zone: &mut Zone<FixedPool>, endpoint: &Endpoint, octets: Octets) -> Res
     Ok(())
 }
 
-/// So many calls, each of the next endpoint, all to the first one.
+/// This many calls, each of the next endpoint, all to the first one.
 fn open_calls(
     alloc: Global,
     zone: &mut Zone<FixedPool>,
@@ -42,7 +42,7 @@ fn open_calls(
     Ok(())
 }
 
-/// The replies of so many keep-alives are kept.
+/// The replies of this many keep-alives are kept.
 fn keep_replies(
     alloc: Global,
     zone: &mut Zone<FixedPool>,

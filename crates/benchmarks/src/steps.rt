@@ -19,18 +19,48 @@ const REPLIES: u64 = 5_000;
 /// A kind of step: its name, what is done, at which moment in milliseconds, and what it has to come to.
 type Kind = (&'static str, Deed, u64, Wanted);
 
-/// In this order: a repeat is of a keep-alive, a call is joined and left that was opened, an endpoint
-/// unregisters that registered.
+/// In this order: a repeat is of a keep-alive, a call that was opened is joined and left, an
+/// endpoint that registered unregisters.
 const AT_FIRST: [Kind; 13] = [
     ("discovery", Deed::Discover, 0, Wanted::Reply(1)),
     ("keep-alive", Deed::KeepAlive, 0, Wanted::Reply(4)),
     ("repeat of a keep-alive", Deed::KeepAlive, 0, Wanted::Repeat),
-    ("admission that opens a call", Deed::Open, 0, Wanted::Reply(10)),
-    ("request for more bandwidth", Deed::Raise, 0, Wanted::Reply(13)),
-    ("admission that joins a call", Deed::Join, 0, Wanted::Reply(10)),
-    ("disengage that leaves a call", Deed::Leave, 0, Wanted::Reply(16)),
-    ("disengage that ends a call", Deed::End, 0, Wanted::Reply(16)),
-    ("registration of a new endpoint", Deed::Register, 0, Wanted::Reply(4)),
+    (
+        "admission that opens a call",
+        Deed::Open,
+        0,
+        Wanted::Reply(10),
+    ),
+    (
+        "request for more bandwidth",
+        Deed::Raise,
+        0,
+        Wanted::Reply(13),
+    ),
+    (
+        "admission that joins a call",
+        Deed::Join,
+        0,
+        Wanted::Reply(10),
+    ),
+    (
+        "disengage that leaves a call",
+        Deed::Leave,
+        0,
+        Wanted::Reply(16),
+    ),
+    (
+        "disengage that ends a call",
+        Deed::End,
+        0,
+        Wanted::Reply(16),
+    ),
+    (
+        "registration of a new endpoint",
+        Deed::Register,
+        0,
+        Wanted::Reply(4),
+    ),
     ("sign of life", Deed::Respond, 0, Wanted::Heard),
     ("unregistration", Deed::Unregister, 0, Wanted::Reply(7)),
     ("registration once more", Deed::Return, 0, Wanted::Reply(4)),
@@ -40,13 +70,33 @@ const AT_FIRST: [Kind; 13] = [
 /// When the window of what was kept at first is over. The table of kept replies is full.
 const SECOND_MOMENT: u64 = 20_001;
 
-/// In this order. At the last moment the registrations of those are over that returned, and of no
+/// In this order. At the last moment the registrations of those that returned are over, and of no
 /// other endpoint: these send a keep-alive at the second moment.
 const LATER: [Kind; 4] = [
-    ("discovery at a full table", Deed::DiscoverLater, 20_001, Wanted::ReplyInPlaceOfAnother(1)),
-    ("turn that drops a reply", Deed::Turn, 20_001, Wanted::KeptOver),
-    ("turn that interrogates", Deed::Turn, 60_000, Wanted::Interrogation),
-    ("turn that ends a registration", Deed::Turn, 3_610_000, Wanted::RegistrationOver),
+    (
+        "discovery at a full table",
+        Deed::DiscoverLater,
+        20_001,
+        Wanted::ReplyInPlaceOfAnother(1),
+    ),
+    (
+        "turn that drops a reply",
+        Deed::Turn,
+        20_001,
+        Wanted::KeptOver,
+    ),
+    (
+        "turn that interrogates",
+        Deed::Turn,
+        60_000,
+        Wanted::Interrogation,
+    ),
+    (
+        "turn that ends a registration",
+        Deed::Turn,
+        3_610_000,
+        Wanted::RegistrationOver,
+    ),
 ];
 
 /// How many steps of a kind are made: as many as there are endpoints in calls, if these are asked.

@@ -17,7 +17,7 @@ const DISCOVERIES: u16 = 32_768;
 /// then, and make room.
 const BETWEEN: u64 = 60_000;
 
-/// The replies to so many discoveries of this sender are kept.
+/// The replies to `DISCOVERIES` discoveries of this sender are kept.
 fn discover(alloc: Global, zone: &mut Zone<FixedPool>, sender: u16) -> Result<()> {
     for seq in 0..DISCOVERIES {
         let octets = Octets::from_vec(Vec::from_slice(alloc, &discovery(seq))?);
@@ -76,7 +76,7 @@ fn storms(
     Ok(())
 }
 
-/// So many endpoints register in a zone without any, and then twice anew by other datagrams.
+/// This many endpoints register in a zone without any, and then twice anew by other datagrams.
 pub fn measure(rt: &(impl Clock + Print), alloc: Global, endpoints: u16) -> Result<()> {
     ensure!(endpoints <= 20_000, "ENDPOINTS is 20000 at most");
     let mut zone = zone_of(alloc, MOST_KEPT)?;

@@ -19,13 +19,13 @@ pub fn datagram(number: u16, octets: Octets, moment: Moment) -> Event {
 /// How many replies a zone may keep at most.
 pub const MOST_KEPT: u64 = 65_536;
 
-/// A zone without endpoints over one pool, which keeps so many replies and whose other tables are as
+/// A zone without endpoints over one pool. It keeps `kept` replies, and its other tables are as
 /// large as they may be. Registrations live for an hour.
 pub fn zone_of(alloc: Global, kept: u64) -> Result<Zone<FixedPool>> {
     zone_with(alloc, kept, 3_600)
 }
 
-/// The same where registrations live for so many seconds.
+/// The same, but registrations live for `time_to_live` seconds.
 pub fn zone_with(alloc: Global, kept: u64, time_to_live: u64) -> Result<Zone<FixedPool>> {
     let identifier = Name::new(&[103, 107]).context("a name")?;
     let address = Address {
@@ -65,7 +65,7 @@ pub fn register(
     Ok(Endpoint { number, identifier })
 }
 
-/// So many endpoints register.
+/// This many endpoints register.
 pub fn register_all(
     alloc: Global,
     zone: &mut Zone<FixedPool>,

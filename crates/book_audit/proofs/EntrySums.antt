@@ -51,7 +51,7 @@ turns_of-append xs ys = sum_by-append (λ (x : Entry). turns_in x.event) xs ys
 pub lent_of-append : (xs ys : List Entry) → lent_of (xs ++ ys) ≡ lent_of xs + lent_of ys
 lent_of-append xs ys = sum_by-append (λ (x : Entry). units_lent x.outcome.answer) xs ys
 
--- totals with so many entries more
+-- totals with the entries of two lists added
 more_of : (t : Totals) (xs ys : List Entry)
     → totals_with t (xs ++ ys) 0 ≡ totals_with (totals_with t xs 0) ys 0
 more_of t xs ys =

@@ -22,8 +22,8 @@ use Rattle.book_audit.specs.inside.Runs.{AreRuns}
 use Rattle.book_audit.proofs.EntrySums.{cut_at, datagrams_of-append, lent_of-append}
 use Rattle.book_audit.proofs.EntrySums.{turns_of-append}
 
--- The chapters so far lead to a place and a state from where the rest leads exactly to where all of
--- them lead.
+-- The chapters so far lead to this place and this state. From there the rest leads to a place and a
+-- state if and only if all chapters lead to these.
 pub record IsLeft (start : State) (all : List ChapterValue) (place : ℕ) (state : State)
     (rest : List ChapterValue) : Type 0 where
   pub whole : (p : ℕ) (s : State) → ChaptersLead place state rest p s

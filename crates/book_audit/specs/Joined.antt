@@ -22,7 +22,7 @@ beginning [] finished = finished.base
 beginning (chapter ∷ chapters) finished = chapter.base
 
 -- From one place and state the chapters lead to another: each begins where the one before it ended,
--- and its first entry stands behind the last one of that.
+-- and its first entry stands behind the last entry of the one before it.
 abbrev pub ChaptersLead : ℕ → State → List ChapterValue → ℕ → State → Type 0
 ChaptersLead place state [] last_place last = (last_place ≡ place) × (last ≡ state)
 ChaptersLead place state (chapter ∷ chapters) last_place last =
@@ -55,8 +55,8 @@ pub record IsJoined (chapters : List ChapterValue) (finished : FinishedValue) : 
   pub carried : finished.carried ≡ chapters_totals chapters
 
 -- The totals of entries that lead from one state to another: how many are of datagrams and of
--- turns, and what was lent in them. What was in use before and what was lent is what is in use
--- after, with what came back.
+-- turns, and what was lent in them. What was in use before, plus what was lent, is what is in
+-- use after, plus what came back.
 pub record AreTotals (base : State) (entries : List Entry) (now : State) (totals : Totals)
     : Type 0 where
   pub datagrams : totals.datagrams ≡ datagrams_of entries

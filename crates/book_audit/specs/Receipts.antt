@@ -36,7 +36,7 @@ IsReceiptFault entries earlier r fault.OutOfOrder =
     × IsOvertaken earlier r
 IsReceiptFault entries earlier r fault.NotJoined = ⊥
 
--- the first so many receipts are good
+-- the first `n` receipts are good
 abbrev pub AreGoodBelow : List Entry → List Receipt → ℕ → Type 0
 AreGoodBelow entries receipts n = (i : ℕ) (r : Receipt) → i < n
     → slice_get receipts i ≡ Some r → IsGood entries (take i receipts) r

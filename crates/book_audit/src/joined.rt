@@ -48,7 +48,7 @@ fn beginning<'a, P: Pool>(chapters: &'a [Chapter], finished: &'a Finished<P>) ->
     }
 }
 
-/// What came back from one state to the other, if so many units were lent between them.
+/// What came back from one state to the other, if `lent` units were lent between them.
 fn returned_between(start: &Machine, lent: u128, last: &Machine) -> u128
     requires few { lent ≤ 2 ^ 126 }
     requires fair { in_use last.now.tables.calls ≤ in_use start.now.tables.calls + lent }

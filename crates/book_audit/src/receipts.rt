@@ -12,7 +12,7 @@ use crate::fault::AuditFault;
 use books::{Chapter, Entry, Receipt};
 use zone_events::{Event, Outcome};
 
-/// Whether the receipts are good, of a history with these chapters and these entries behind them.
+/// Whether the receipts of a history with these chapters, and these entries behind them, are good.
 /// The first one that isn't is the fault.
 pub(crate) fn check_receipts(
     chapters: &[Chapter],

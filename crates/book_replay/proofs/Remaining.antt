@@ -21,8 +21,8 @@ one_after s event outcome a b first second =
     ap (λ (e : Outcome × State). e.1)
     (same_some (outcome, a) (outcome, b) (sym first.makes ∙ second.makes))
 
--- The machine stands at a state from where the rest of the entries leads exactly to where all of them
--- lead from the base.
+-- From the state at which the machine stands, the rest of the entries leads to a state if and only
+-- if all entries lead to that state from the base.
 pub record IsLeft (base : State) (all : List Entry) (now : State) (rest : List Entry) : Type 0 where
   pub whole : (end : State) → BookRun now rest end → BookRun base all end
   pub part : (end : State) → BookRun base all end → BookRun now rest end

@@ -76,7 +76,7 @@ use Rattle.books.specs.declared.book.Entry as book
 use Rattle.books.specs.Books.{BookRun}
 use Rattle.books.specs.Totals.{lent_of, units_lent}
 
--- the settings stay, and at most so many units more are in use
+-- the settings stay, and at most `units` units more are in use
 record Adds (old new : Tables) (units : ℕ) : Type 0 where
   settings : new.config ≡ old.config
   units_are : in_use new.calls ≤ in_use old.calls + units
@@ -414,8 +414,8 @@ module _ (s : State) (now : ℕ) where
   ended_by (machine.Doing what) outcome after adds is = did what outcome after is
   ended_by machine.Idle outcome after adds is = ends_so _ _ outcome after (nothing s.tables) is
 
--- A step leaves the settings as they are, at most what was lent in it is in use beside what was, and
--- the machine made one step more.
+-- A step leaves the settings as they are; no more is in use than before, plus what was lent in the
+-- step; and the machine made one step more.
 pub record IsFair (s : State) (outcome : Outcome) (after : State) : Type 0 where
   pub settings : after.tables.config ≡ s.tables.config
   pub units : in_use after.tables.calls ≤ in_use s.tables.calls + units_lent outcome.answer

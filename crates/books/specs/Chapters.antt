@@ -5,8 +5,8 @@ use Rattle.ras_core.specs.Running.{Running}
 use Rattle.books.specs.declared.book.Entry.{Entry}
 use Rattle.books.specs.declared.totals.Totals.{Totals}
 
--- A chapter: the place of its first entry in the whole history, the state in which it begins, its entries, and
--- the state in which it ends
+-- A chapter: the place of its first entry in the whole history, the state in which it begins, its
+-- entries, and the state in which it ends.
 pub record ChapterValue : Type 0 where
   pub first : ℕ
   pub base : State

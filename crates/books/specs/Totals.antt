@@ -40,7 +40,7 @@ lent_of entries = sum_by (λ e. units_lent e.outcome.answer) entries
 abbrev pub no_totals : Totals
 no_totals = record { datagrams = 0; turns = 0; lent = 0; returned = 0 }
 
--- what these entries, by which so many units came back, add to totals
+-- what these entries, by which `back` units came back, add to totals
 abbrev pub totals_with : Totals → List Entry → ℕ → Totals
 totals_with before entries back = record {
   datagrams = before.datagrams + datagrams_of entries;
@@ -49,7 +49,7 @@ totals_with before entries back = record {
   returned = before.returned + back;
 }
 
--- the units that came back in these steps: what was in use and what was lent, less what is in use
+-- the units that came back in these steps: what was in use, plus what was lent, less what is in use
 abbrev pub returned_by : State → List Entry → State → ℕ
 returned_by base entries now =
     in_use base.tables.calls + lent_of entries - in_use now.tables.calls

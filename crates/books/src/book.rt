@@ -6,8 +6,8 @@ use ras_core::Snapshot;
 use std::alloc::{AllocError, Global};
 use zone_events::{Event, Outcome};
 
-/// One step: which seat made it, the how manieth call of that seat it was, counted from 0, and the
-/// event with its outcome.
+/// One step: which seat made it, the number of that seat's call, counted from 0, and the event with
+/// its outcome.
 #[derive(Drop)]
 pub struct Entry {
     pub seat: usize,

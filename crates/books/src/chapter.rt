@@ -79,8 +79,8 @@ impl Chapter {
         &self.entries
     }
 
-    /// What its steps add up to. What came back is what was in use when it began and what was lent in
-    /// it, less what was in use at its end.
+    /// What its steps add up to. What came back is what was in use when the chapter began, plus
+    /// what was lent in it, less what was in use at its end.
     pub fn totals(&self) -> Totals
         ensures { result ≡ totals_with no_totals self.now.entries
             (returned_by self.now.base self.now.entries self.now.end) }

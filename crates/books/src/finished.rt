@@ -10,9 +10,9 @@ use pools::Pool;
 use ras_core::{Snapshot, Zone};
 use std::marker::Model;
 
-/// A history that goes no further: the zone as it is left, the state after the last chapter and the
-/// entries since then, which lead from that state to the zone, the place of the first of these in the
-/// whole history, and the totals of all chapters.
+/// A history that goes no further: the zone as it is left; the state after the last chapter; the
+/// entries since then, which lead from that state to the zone; the place of the first of these
+/// entries in the whole history; and the totals of all chapters.
 #[derive(Drop)]
 pub struct Finished<P: Pool> {
     zone: Zone<P>,

@@ -28,8 +28,8 @@ pub fn a_book_goes_on_by_a_step()
         → AreCounted (entries ++ entry ∷ []) }
 {}
 
-/// After a step, no more bandwidth is in use than there was before it, with the units that were lent
-/// in it. The settings stay, and the machine made one step more.
+/// After a step, no more bandwidth is in use than was in use before it, plus the units that were
+/// lent in it. The settings stay, and the machine made one step more.
 pub fn a_step_uses_no_more_than_is_lent()
     ensures units { (s : State) (event : Event) (outcome : Outcome) (after : State)
         → Step s event outcome after → in_use after.tables.calls
@@ -40,7 +40,7 @@ pub fn a_step_uses_no_more_than_is_lent()
         → Step s event outcome after → after.steps ≡ s.steps + 1 }
 {}
 
-/// So it is of all steps of a book together.
+/// The same holds of all steps of a book together.
 pub fn a_book_uses_no_more_than_is_lent()
     ensures units { (base now : State) (entries : List Entry) → BookRun base entries now
         → in_use now.tables.calls ≤ in_use base.tables.calls + lent_of entries }

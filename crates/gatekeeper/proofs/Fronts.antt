@@ -1,4 +1,4 @@
--- The front of what is left to be read, where it is short, is all of it.
+-- If the front of what is left to be read is short, it is all of what is left.
 use Rattle.std.proofs.Common.{ℕ, ◌≡◌, ◌≤◌, ◌+◌, ◌++◌, List, [], length, take, min}
 use Rattle.std.proofs.Common.{Option, Some, None, IfSome, option_map, arith, rules, ap, ◌∙◌}
 use Rattle.std.proofs.lemmas.List.{length-take, take_all}

@@ -1,4 +1,4 @@
--- What a reading of settings from an input answers, and the exit status of each of its faults.
+-- What a reading of settings from an input returns, and the exit status of each of its faults.
 use Rattle.std.specs.Prelude.{ℕ, ◌≡◌, ◌≤◌, ◌<◌, List, length, Some, IsUtf8}
 use Rattle.std.specs.Prelude.{Result, Ok, Err}
 use Rattle.settings.specs.declared.fault.SettingsFault.{SettingsFault}
@@ -19,7 +19,7 @@ input_status (NotText line) = 1
 input_status (Refused fault) = 1
 input_status Memory = 3
 
--- a reading of the octets as such ends so: that they are too many is told where they are
+-- a reading of the octets as such ends so: that they are too many is told only if they are
 abbrev pub IsReadFault : List ℕ → InputFault → Type 0
 IsReadFault octets Stream = Unit {0}
 IsReadFault octets TooLong = 1048576 < length octets
@@ -31,7 +31,7 @@ abbrev pub IsRefusal : SettingsFault → InputFault → Type 0
 IsRefusal settings.Memory told = told ≡ Memory
 IsRefusal fault told = told ≡ Refused fault
 
--- a text gives its settings, or is refused by the fault that `read_settings` answers
+-- a text gives its settings, or is refused by the fault that `read_settings` returns
 abbrev pub IsTextRead : List ℕ → Result ReadInput InputFault → Type 0
 IsTextRead text (Ok read) = settings_of text ≡ Some (Ok read.settings)
 IsTextRead text (Err (Refused fault)) = IsAnswer (settings_of text) (Err fault)

@@ -1,4 +1,4 @@
--- What a replay answers, and the exit status of each fault.
+-- What a replay returns, and the exit status of each fault.
 use Rattle.std.specs.Prelude.{ℕ, ◌≡◌, List, map, Result, Ok, Err}
 use Rattle.pools.specs.Account.{Account}
 use Rattle.pools.specs.Specs.{account_of}
@@ -30,7 +30,7 @@ status_of (OfRun run.WrongPools) = 1
 abbrev pub accounts_of : Script → List Account
 accounts_of script = map account_of script.pools
 
--- What a run of a script over its pools answers and writes; what it wrote is flushed.
+-- What a run of a script over its pools returns and writes; what it wrote is flushed.
 pub record RunsScript (script : Script) (old new : OutputState) (answer : Result Unit RunFault)
     : Type 0 where
   pub run : IsRunAnswer script (accounts_of script) old.contents new.contents answer

@@ -1,4 +1,4 @@
--- What serving answers and writes, and the exit status of each of its faults.
+-- What serving returns and writes, and the exit status of each of its faults.
 use Rattle.std.specs.Prelude.{ℕ, ◌≡◌, List, Result, Ok, Err, IsTrue}
 use Rattle.script.specs.Streams.{OutputState}
 use Rattle.gatekeeper.specs.Inputs.{GivesSettings, IsInputRead, input_status}
@@ -22,7 +22,8 @@ abbrev pub serve_status : ServingFault → ℕ
 serve_status (Settings fault) = input_status fault
 serve_status (Running fault) = running_status fault
 
--- only a zone of settings that the octets give is served; else the fault is that of reading them
+-- only a zone of settings that the octets give is served; otherwise the fault is that of
+-- reading them
 abbrev pub AreServed : {A : Type 0} → List ℕ → Result A ServingFault → Type 0
 AreServed octets (Ok done) = GivesSettings octets
 AreServed octets (Err (Settings fault)) = IsInputRead octets (Err fault)

@@ -72,7 +72,7 @@ pub(crate) fn pools_of(alloc: Global, specs: &[PoolSpec]) -> Result<Vec<Standard
     Ok(pools)
 }
 
-/// Makes the pools of a script, each in a box, and runs it; nothing is written where there is no
+/// Makes the pools of a script, each in a box, and runs it; nothing is written if there is no
 /// memory for the pools.
 pub fn run_with_pools<W: Write + Drop>(
     alloc: Global,

@@ -1,6 +1,6 @@
 //! On which line of a TOML document a key stands: a hint to whoever looks for it.
 
-/// The table that a line opens, where it is `[TABLE]` or `[[TABLE]]`.
+/// The table that a line opens, if it is `[TABLE]` or `[[TABLE]]`.
 fn table_in(line: &str) -> Option<&str> {
     let inner = line.strip_prefix("[")?;
     let inner = match inner.strip_prefix("[") {
@@ -31,9 +31,10 @@ fn is_path(path: &str, table: &str, key: &str) -> bool {
     }
 }
 
-/// The line, from 1, on which the key of this path stands, once it stood on so many others before;
-/// None where none is found. A key that is quoted, or is set inside of a table that is written on
-/// one line, isn't found; a line of a text of several lines may be taken for one that sets a key.
+/// The line, from 1, on which the key of this path stands, behind `before` other lines on which it
+/// stands; None if none is found. A key that is quoted, or is set inside of a table that is
+/// written on one line, isn't found; a line of a text of several lines may be taken for one that
+/// sets a key.
 pub fn line_of(text: &str, path: &str, before: usize) -> Option<usize> {
     let mut table = "";
     let mut left = before;

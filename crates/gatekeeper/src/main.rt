@@ -36,7 +36,7 @@ use std::{env, io};
 use stop_signal::StopSignal;
 use udp_socket::Stop;
 
-/// The exit status where there is no memory.
+/// The exit status if there is no memory.
 const NO_MEMORY: u8 = 3;
 
 fn main(rt: HostRuntime) -> ExitCode {

@@ -21,7 +21,7 @@ pub enum ReplayFault {
 }
 
 impl ReplayFault {
-    /// The exit status: 1 where the input is refused, 3 where there is no memory, and 4 where a
+    /// The exit status: 1 if the input is refused, 3 if there is no memory, and 4 if a
     /// stream failed.
     pub fn status(&self) -> u8
         ensures { result ≡ status_of self.now }

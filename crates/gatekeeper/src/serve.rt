@@ -110,7 +110,7 @@ fn zone_of<P: Pool>(alloc: Global, config: Config, pools: Vec<P>) -> Result<Zone
     }
 }
 
-/// So many clocks that began at this moment.
+/// `count` clocks that began at this moment.
 fn clocks_of<'a, R: Clock>(
     rt: &'a R,
     alloc: Global,
@@ -124,7 +124,7 @@ fn clocks_of<'a, R: Clock>(
     Ok(clocks)
 }
 
-/// So many ends of a socket.
+/// Ends of a socket, as many as the service has receivers.
 fn ends_of<'a, S: Stop>(
     alloc: Global,
     socket: &'a BoundSocket,
@@ -270,9 +270,9 @@ fn serve_settings<R: Threads + Wait + Clock + Net + Log + Sync, S: Stop + Sync, 
     serve_and_print(rt, alloc, config, boxes, service, stop, out)
 }
 
-/// Reads settings, and serves their zone: each receiving thread until it received so often, if a number
-/// is given, and until it is told to stop. Then the report is printed. If there is none, nothing is
-/// written.
+/// Reads settings, and serves their zone. Each receiving thread stops after this many receives, if
+/// a number is given, and once it is told to. Then the report is printed. If there is none, nothing
+/// is written.
 pub fn serve<
     I: Read + Drop,
     R: Threads + Wait + Clock + Net + Log + Sync,

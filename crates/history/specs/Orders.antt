@@ -28,7 +28,7 @@ outputs_so_far (e ∷ entries) (m ∷ marks) =
 abbrev pub outputs_of_worker : Scene → ℕ → WorkerState → List Datagram
 outputs_of_worker x w k = outputs_so_far (entries_of_seat w x.entries) k.settled
 
--- the output that the worker holds, where it holds one
+-- the output that the worker holds, if it holds one
 abbrev pub output_in : Option Entry → List Datagram
 output_in None = []
 output_in (Some e) = listed e.outcome.output
@@ -38,7 +38,7 @@ output_held Idle entries = []
 output_held (Holding event) entries = []
 output_held (Done place) entries = output_in (slice_get entries place)
 
--- Of the worker's outputs that were not dropped the first were taken, the next wait in its ring,
+-- Of the worker's outputs that were not dropped, the first were taken, the next wait in its ring,
 -- and the last one is in its hand: in order, each once.
 pub record AreServedInOrder (x : Scene) (w : ℕ) (k : WorkerState) : Type 0 where
   pub took : List Datagram

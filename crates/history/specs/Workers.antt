@@ -40,8 +40,8 @@ abbrev pub is_empty : List Datagram → Bool
 is_empty [] = true
 is_empty (output ∷ outputs) = false
 
--- What becomes of an output where so many wait in the ring: it is dropped exactly where these are
--- as many as the ring has places.
+-- What becomes of an output if `waiting` outputs wait in the ring: it is dropped if and only if
+-- these are as many as the ring has places.
 abbrev pub mark_of : ℕ → ℕ → Option Datagram → Mark
 mark_of capacity waiting None = Silent
 mark_of capacity waiting (Some output) = if nat_lt waiting capacity then Posted else Dropped

@@ -106,7 +106,7 @@ pub record Receives (x : Scene) (w : ℕ) (event : Event) (y : Scene) : Type 0 w
   pub idle : worker.hand ≡ Idle
   pub after : y ≡ with_worker x w (record worker { hand = Holding event })
 
--- The entry of a step of the worker with this number, of which so many outcomes were settled.
+-- The entry of a step of the worker with this number, of which `call` outcomes were settled before.
 abbrev pub entry_by : ℕ → ℕ → Event → Outcome → Entry
 entry_by w call event outcome = record {
   seat = w;
@@ -132,7 +132,7 @@ pub record Applies (x : Scene) (w : ℕ) (outcome : Outcome) (y : Scene) : Type 
   }
 
 -- What is sent by the outcome that the worker holds goes to the end of its ring, or is dropped
--- where the ring is full; the worker is idle again.
+-- if the ring is full; the worker is idle again.
 pub record Posts (x : Scene) (w : ℕ) (m : Mark) (y : Scene) : Type 0 where
   pub worker : WorkerState
   pub place : ℕ

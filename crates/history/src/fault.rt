@@ -11,7 +11,7 @@ use thiserror::Error;
 pub enum WorldFault {
     #[error("out of memory")]
     Memory,
-    /// The zone made so many steps that it makes no more.
+    /// The zone made 2^62 steps, and makes no more.
     #[error("closed")]
     Closed,
     #[error("no such worker")]

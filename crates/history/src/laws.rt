@@ -16,21 +16,22 @@ pub fn every_interleaving_is_in_order()
         → Interleaving x steps y → IsInOrder y × (y.base ≡ x.base) }
 {}
 
-/// Of each worker's outputs that were not dropped the first were taken, the next wait in its ring,
+/// Of each worker's outputs that were not dropped, the first were taken, the next wait in its ring,
 /// and the last one is in its hand.
 pub fn replies_are_served_in_order()
     ensures { (x : Scene) (w : ℕ) (k : WorkerState) → IsInOrder x
         → slice_get x.workers w ≡ Some k → AreServedInOrder x w k }
 {}
 
-/// What is taken is that one of the worker's outputs before which as many were taken as there were.
+/// If n outputs of a worker were taken before, the one that is taken is number n, counted from 0,
+/// of its outputs that were not dropped.
 pub fn the_next_reply_is_taken()
     ensures { (x y : Scene) (w : ℕ) (k : WorkerState) (output : Datagram) → IsInOrder x
         → slice_get x.workers w ≡ Some k → Happens x (WorldStep.Take w) (Acted.Took output) y
         → slice_get (outputs_of_worker x w k) k.taken ≡ Some output }
 {}
 
-/// A reply is dropped only where the ring has as many as it has places.
+/// A reply is dropped only if the ring has as many as it has places.
 pub fn a_reply_is_dropped_only_by_a_full_ring()
     ensures { (x y : Scene) (w : ℕ) (k : WorkerState) → slice_get x.workers w ≡ Some k
         → Happens x (WorldStep.Post w) Acted.Dropped y → x.capacity ≤ length k.ring }

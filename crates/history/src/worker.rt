@@ -120,7 +120,7 @@ impl Worker {
         }
     }
 
-    /// Puts a copy of the output into the ring, where there is one and the ring has room for it.
+    /// Puts a copy of the output into the ring, if there is one and the ring has room for it.
     pub(crate) fn post(
         &mut self,
         alloc: Global,

@@ -15,8 +15,9 @@ use std::alloc::{AllocError, Global};
 use std::marker::Model;
 use zone_events::{Datagram, Event, Outcome};
 
-/// What may happen next, and of which worker: it receives an event, has the zone make a step of the
-/// event that it holds, posts what it has of that into its ring; or the front of its ring is taken.
+/// What may happen next, and of which worker: it receives an event; it has the zone make a step of
+/// the event that it holds; it posts the output of that step, if there is one, into its ring; or
+/// the front of its ring is taken.
 #[derive(Drop)]
 pub enum WorldStep {
     Receive(usize, Event),
@@ -79,7 +80,7 @@ impl<P: Pool> Model for World<P> {
 
 impl<P: Pool> World<P> {
     /// A world in which nothing has happened: an empty book that begins at this zone, 1 to 16 idle
-    /// workers, and rings with 1 to 4,096 places. Else, or where there is no memory, the zone comes
+    /// workers, and rings with 1 to 4,096 places. Else, or if there is no memory, the zone comes
     /// back.
     pub fn new(
         alloc: Global,
@@ -291,7 +292,7 @@ fn acted_by(mark: Mark) -> Acted
     }
 }
 
-/// An equal outcome, of which what is sent stands in this buffer.
+/// An equal outcome, whose output stands in this buffer.
 fn copy_of(outcome: &Outcome, buffer: Vec<u8>) -> Outcome
     requires empty { buffer.items ≡ [] }
     requires few { HasFewOctets outcome.now.output }
@@ -301,7 +302,7 @@ fn copy_of(outcome: &Outcome, buffer: Vec<u8>) -> Outcome
     outcome.copy_into(buffer)
 }
 
-/// So many idle workers.
+/// This number of idle workers: `workers`.
 fn idle(alloc: Global, workers: usize) -> Result<Vec<Worker>, AllocError>
     ensures { IfOk result (λ all. all.items ≡ replicate workers
         (record { hand = Hand.Idle; ring = []; settled = []; taken = 0 })) }

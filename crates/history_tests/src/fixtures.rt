@@ -42,8 +42,8 @@ pub fn zone(alloc: Global) -> Option<Zone<FixedPool>> {
     }
 }
 
-/// A world of so many workers, with so many places in each ring. If there is no memory, the zone
-/// that comes back is taken once more.
+/// A world of `workers` workers, with `capacity` places in each ring. If there is no memory, the
+/// zone that comes back is taken once more.
 pub fn world(alloc: Global, workers: usize, capacity: usize) -> Option<World<FixedPool>> {
     match World::new(alloc, zone(alloc)?, workers, capacity) {
         Ok(world) => Some(world),

@@ -65,7 +65,7 @@ fn steps_are_refused_by_number(rt: HostRuntime) {
     assert!(rt; passed);
 }
 
-/// Whether a world of so many workers and places is out of range. The zone comes back.
+/// Whether a world of this many workers and places is out of range. The zone comes back.
 fn is_out_of_range(alloc: Global, workers: usize, capacity: usize) -> Option<bool> {
     match World::new(alloc, zone(alloc)?, workers, capacity) {
         Ok(_) => Some(false),

@@ -6,7 +6,7 @@ use books::{Chapter, Finished, Receipt};
 use pools::Pool;
 use std::alloc::Global;
 
-/// Whether the receipts agree with the history, which has so many datagrams and nothing else.
+/// Whether the receipts agree with the history, which has this many datagrams and nothing else.
 pub fn are_audited<P: Pool>(
     chapters: &[Chapter],
     finished: &Finished<P>,

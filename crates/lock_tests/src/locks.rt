@@ -26,8 +26,8 @@ pub enum Deed {
     Threads,
 }
 
-/// Whether a lock of so many seats over a zone of its own passes what is done with it: false, if it
-/// isn't made for their number, and None, if memory is out.
+/// Whether a lock of this many seats over a zone of its own passes what is done with it: false if
+/// it isn't made because of their number, and None if memory is out.
 pub fn passes<R: Threads + Wait + Sync>(
     rt: &R,
     alloc: Global,

@@ -45,7 +45,7 @@ fn discovery(thread: u8, step: usize) -> [u8; 20] {
     bytes
 }
 
-/// One step, and a chapter where one is due.
+/// One step, and a chapter if one is due.
 fn go_on<D: Hall, T: Ledger, U: Ledger>(
     rt: &impl Wait,
     alloc: Global,

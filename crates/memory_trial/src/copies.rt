@@ -1,4 +1,4 @@
-//! The copies of values that take memory, made again where they were refused.
+//! The copies of values that take memory, made again if they were refused.
 
 use ras_module::{
     AdmissionRequest, Alias, AliasList, BmpString, CallKey, DialledDigits, EndpointId, Octets,

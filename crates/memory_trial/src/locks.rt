@@ -1,6 +1,6 @@
-//! Scripts whose zone is locked, while memory is refused: two seats make the steps in turn, chapters
-//! end meanwhile, and at last the history is audited. Where a call is refused the zone and its history
-//! are as they were, and the same call with memory is done.
+//! Scripts whose zone is locked, while memory is refused: two seats make the steps in turn,
+//! chapters end meanwhile, and at last the history is audited. If a call is refused, the zone and
+//! its history are as they were, and the same call with memory is done.
 
 ghost use Rattle.std.specs.Prelude.{◌≡◌};
 
@@ -36,7 +36,7 @@ struct Record {
     chapters: Vec<Chapter>,
 }
 
-/// A list with so many places.
+/// A list with this many places.
 fn room_of<T: Drop>(alloc: Global, places: usize) -> Result<Vec<T>, &'static str> {
     match Vec::with_capacity(alloc, places) {
         Ok(room) => Ok(room),
@@ -77,7 +77,7 @@ impl Record {
         self.chapters.push(chapter).map_err(|_| NO_PLACE)
     }
 
-    /// Whether this is the history of so many steps, with which the receipts agree.
+    /// Whether this is the history of this many steps, with which the receipts agree.
     fn is_of<P: Pool>(&self, finished: &Finished<P>, steps: usize) -> bool {
         match audit(&self.chapters, finished, &self.receipts) {
             Ok(totals) => {
@@ -108,7 +108,7 @@ fn make_steps<P: Pool, D: Hall, T: Ledger, U: Ledger, R: Wait>(
     listing_of(hold)
 }
 
-/// Whether the history of so many steps is audited, and its zone has what was listed.
+/// Whether the history of this many steps is audited, and its zone has what was listed.
 fn is_right<P: Pool>(
     finished: &Finished<P>,
     record: &Record,
@@ -202,7 +202,7 @@ fn try_lock<P: Pool, R: Wait>(
     )
 }
 
-/// Locks the zone; where that is refused it comes back as it was, and is locked then.
+/// Locks the zone; if that is refused, the zone comes back as it was, and is locked then.
 fn lock_zone<P: Pool, R: Wait>(
     rt: &R,
     alloc: Global,
@@ -225,7 +225,7 @@ fn lock_zone<P: Pool, R: Wait>(
     }
 }
 
-/// Hands out what the steps of the receipts answered.
+/// Hands out the outcomes of the steps of the receipts.
 fn hand_out(receipts: Vec<Receipt>, outcomes: &mut Vec<Outcome>) -> Result<(), &'static str> {
     for receipt in receipts {
         let Receipt { outcome, .. } = receipt;

@@ -1,7 +1,7 @@
-//! The zone, its tables and the values of messages under refusals of memory. The program prints
-//! the same, whichever one of its requests for memory is refused: a step or a run that was refused
+//! The zone, its tables and the values of messages under refusals of memory. The program prints the
+//! same, whichever one of its requests for memory is refused: a step or a run that was refused
 //! leaves the zone as it was, a call of a table its table, and the same call with memory then
-//! gives the answer that it would have given.
+//! returns what it would have returned.
 //!
 //! Its input is a script, whose lines it prints. It runs it step by step; behind a line `run`, at
 //! once; behind a line `world`, by the workers of a world; behind a line `book`, step by step and
@@ -43,7 +43,7 @@ use std::thread::Threads;
 /// The octets that the input has at most.
 const MOST: usize = 32_768;
 
-/// The exit status where the request behind the trials is refused.
+/// The exit status if the request behind the trials is refused.
 const REFUSED_BEHIND: u8 = 3;
 
 /// Asks for memory, and gives it back. Whether it was there.
@@ -52,7 +52,7 @@ fn is_given(alloc: Global) -> bool {
     taken.reserve(1).is_ok()
 }
 
-/// Reads the input, octet by octet, and answers how many it has. This takes no memory.
+/// Reads the input, octet by octet, and returns how many it has. This takes no memory.
 fn read_input(reader: &mut impl Read, text: &mut [u8; MOST]) -> Result<usize, &'static str>
     ensures { IfOk result (λ length. length ≤ 32768) }
 {

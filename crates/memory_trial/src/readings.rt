@@ -6,7 +6,7 @@ use std::io::{self, Write};
 
 const TWICE: &str = "settings were refused twice";
 
-/// The settings of a text, read again where memory was refused.
+/// The settings of a text, read again if memory was refused.
 fn settings_of(alloc: Global, text: &str) -> Result<Settings, &'static str> {
     match read_settings(alloc, text) {
         Ok(settings) => Ok(settings),

@@ -1,6 +1,6 @@
-//! Steps that are recorded in a book while memory is refused, and the book that is then run again.
-//! Where a call is refused the zone and the book are as they were, and the same call with memory is
-//! done.
+//! Steps that are recorded in a book while memory is refused, and the book that is then run
+//! again. If a call is refused, the zone and the book are as they were, and the same call with
+//! memory is done.
 
 ghost use Rattle.std.specs.Prelude.{◌<◌, OnOk, vec_len, vec_capacity};
 
@@ -100,7 +100,7 @@ fn is_run<P: Pool>(stage: &Stage<P>, book: &Book) -> Result<bool, &'static str> 
     }
 }
 
-/// Hands out what the steps of a book answered.
+/// Hands out the outcomes of the steps of a book.
 fn hand_out(entries: Vec<Entry>, outcomes: &mut Vec<Outcome>) -> Result<(), &'static str> {
     for entry in entries {
         let Entry { outcome, .. } = entry;

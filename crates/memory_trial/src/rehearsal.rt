@@ -96,8 +96,8 @@ pub fn are_same(some: &[Registration], others: &[Registration]) -> bool {
     true
 }
 
-/// One step. Where it is refused for want of memory, the zone is as it was: its clock, its steps,
-/// its endpoints, its calls and what its pools have lent.
+/// One step. If it is refused for want of memory, the zone is as it was: its clock, its steps, its
+/// endpoints, its calls and what its pools have lent.
 fn try_step<P: Pool>(stage: &mut Stage<P>, event: &Event) -> Result<Outcome, Trouble> {
     let event = event.copy()?;
     let endpoints = stage.zone.endpoints()?;
@@ -122,7 +122,7 @@ fn try_step<P: Pool>(stage: &mut Stage<P>, event: &Event) -> Result<Outcome, Tro
     }
 }
 
-/// One step, which is made again where it was refused.
+/// One step, which is made again if it was refused.
 pub fn step<P: Pool>(stage: &mut Stage<P>, event: &Event) -> Result<Outcome, &'static str> {
     for _ in 0..TRIES {
         match try_step(stage, event) {
@@ -149,8 +149,8 @@ fn steps<P: Pool>(
     Ok(())
 }
 
-/// A run over the events. Where it is refused, the steps before the event that its fault names
-/// stand, and it goes on from there.
+/// A run over the events. If it is refused, the steps before the event that its fault names stand,
+/// and it goes on from there.
 fn run<P: Pool>(
     stage: &mut Stage<P>,
     events: &[Event],
@@ -268,7 +268,7 @@ fn try_rehearsal<R: Print + Threads + Wait + Clock + Sync>(
     perform(rt, alloc, script, pools, way)
 }
 
-/// Runs a script, whose lines it prints; once more where memory was refused before its first step.
+/// Runs a script, whose lines it prints; once more if memory was refused before its first step.
 pub fn rehearse<R: Print + Threads + Wait + Clock + Sync>(
     rt: &R,
     alloc: Global,

@@ -1,5 +1,5 @@
-//! Calls of a locked zone while memory is refused. Where one is refused the zone is as it was, and the
-//! same call with memory is done.
+//! Calls of a locked zone while memory is refused. If one is refused, the zone is as it was, and
+//! the same call with memory is done.
 
 use crate::rehearsal::are_same;
 use books::{Chapter, Receipt};
@@ -24,7 +24,8 @@ pub struct Hold<'a, P: Pool, D: Hall, T: Ledger, U: Ledger, R> {
     pub meter: &'a AtomicU64,
 }
 
-/// What the zone has; it is listed again where that was refused. Its pools have lent what its calls use.
+/// What the zone has; it is listed again if that was refused. Its pools have lent what its
+/// calls use.
 pub fn listing_of<P: Pool, D: Hall, T: Ledger, U: Ledger, R: Wait>(
     hold: &Hold<'_, P, D, T, U, R>,
 ) -> Result<Listing, &'static str> {
@@ -62,14 +63,14 @@ fn try_prepared(alloc: Global, event: &Event) -> Result<Prepared, AllocError> {
     prepare(alloc, event.copy()?)
 }
 
-/// The event, read; it is read again where that was refused.
+/// The event, read; it is read again if that was refused.
 fn prepared(alloc: Global, event: &Event) -> Result<Prepared, &'static str> {
     try_prepared(alloc, event)
         .or_else(|_| try_prepared(alloc, event))
         .map_err(|_| TWICE)
 }
 
-/// The seat makes a step of the event. None where it is refused for want of memory.
+/// The seat makes a step of the event. None if it is refused for want of memory.
 fn try_apply<P: Pool, D: Hall, T: Ledger, U: Ledger, R: Wait>(
     hold: &Hold<'_, P, D, T, U, R>,
     seat: &mut Seat<D, T, U>,

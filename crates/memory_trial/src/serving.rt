@@ -155,8 +155,8 @@ fn report_of<P: Pool + Send, R: Threads + Wait + Clock + Sync>(
     }
 }
 
-/// Serves the zone with the events, which are datagrams, and prints that it was served. Memory was
-/// refused where there is no report.
+/// Serves the zone with the events, which are datagrams, and prints that it was served. If there is
+/// no report, memory was refused.
 pub fn serve_up<P: Pool + Send, R: Print + Threads + Wait + Clock + Sync>(
     rt: &R,
     alloc: Global,

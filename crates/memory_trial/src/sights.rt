@@ -26,7 +26,7 @@ fn try_sight<P: Pool>(zone: &Zone<P>) -> Result<Sight, AllocError> {
     })
 }
 
-/// What is seen of the zone now; it is looked at again where memory for that was refused.
+/// What is seen of the zone now; it is looked at again if memory for that was refused.
 pub fn sight_of<P: Pool>(zone: &Zone<P>) -> Result<Sight, &'static str> {
     try_sight(zone)
         .or_else(|_| try_sight(zone))

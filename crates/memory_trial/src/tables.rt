@@ -1,5 +1,5 @@
-//! The tables' calls that take memory. Where one is refused its table is as it was, and the same
-//! call with memory is done.
+//! The tables' calls that take memory. If one is refused, its table is as it was, and the same call
+//! with memory is done.
 
 use admission::{CallFault, Calls, Leg};
 use aliases::{AliasTable, SetFault};

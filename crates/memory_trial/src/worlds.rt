@@ -1,4 +1,4 @@
-//! Acts of workers of a world while memory is refused. Where one is refused the world is as it was,
+//! Acts of workers of a world while memory is refused. If one is refused, the world is as it was,
 //! and the same act with memory is done.
 
 use crate::rehearsal::Stage;
@@ -35,7 +35,7 @@ fn step_of(deed: Deed, w: usize) -> WorldStep {
     }
 }
 
-/// A world over the zone. Where it is refused, the zone comes back as it was.
+/// A world over the zone. If it is refused, the zone comes back as it was.
 fn world_of<P: Pool>(alloc: Global, zone: Zone<P>) -> Result<World<P>, &'static str> {
     let before = sight_of(&zone)?;
     match World::new(alloc, zone, WORKERS, 1) {
@@ -50,8 +50,8 @@ fn world_of<P: Pool>(alloc: Global, zone: Zone<P>) -> Result<World<P>, &'static 
     }
 }
 
-/// One act, which is made again where it was refused. Its zone and its book are then as they were,
-/// and its pools have lent what its calls use.
+/// One act, which is made again if it was refused. Its zone and its book are then as they were, and
+/// its pools have lent what its calls use.
 fn act<P: Pool>(
     world: &mut World<P>,
     meter: &AtomicU64,
@@ -75,7 +75,7 @@ fn act<P: Pool>(
     }
 }
 
-/// Whether the worker posts this output, where there is one, and it is then taken from its ring.
+/// Whether the worker posts this output, if there is one, and it is then taken from its ring.
 fn is_sent<P: Pool>(
     world: &mut World<P>,
     meter: &AtomicU64,

@@ -35,7 +35,7 @@ use Rattle.ras_machine.proofs.Calling.{repeats}
 not_above : (n most : ℕ) → n ≤ most → nat_lt most n ≡ false
 not_above n most few = grind (arith, nat_tests)
 
--- what a machine answers comes of its course
+-- what a machine returns comes of its course
 answered : (steps : ℕ) (b : Bool) (now : ℕ) (answer : Ending) (outcome : Outcome) (after : State)
     → (if b then at_moment now (steps + 1) answer else None) ≡ Some (outcome, after)
     → at_moment now (steps + 1) answer ≡ Some (outcome, after)

@@ -118,7 +118,7 @@ returned members i had f is same =
     (figures_there members i ∙ sym is)
     ∙ ap (set fs i) (after_return had f (subst (λ x. IsSameButLent x f) (sym is) same))
 
--- nothing does, where it has lent no more
+-- nothing does, if it has lent no more
 pub figures-kept : (members : List Member) (i : ℕ) (had f : Figures)
     → had ≡ (member_at members i).account.figures
     → IsSameButLent (member_at members i).account.figures f

@@ -9,10 +9,10 @@ use thiserror::Error;
 /// Why a zone isn't made.
 #[derive(Clone, Copy, Debug, PartialEq, Eq, Error)]
 pub enum NewFault {
-    /// There is another number of pools than of networks.
+    /// The number of pools is not the number of networks.
     #[error("there have to be as many pools as networks")]
     WrongPools,
-    /// There is no memory. Today a zone is made without any, so that this is never answered.
+    /// There is no memory. Today a zone is made without any, so that this is never returned.
     #[error("out of memory")]
     Memory,
 }
@@ -34,7 +34,7 @@ impl NewFault {
 pub enum StepFault {
     #[error("out of memory")]
     Memory,
-    /// So many steps were made that no more are.
+    /// The zone made 2^62 steps, and makes no more.
     #[error("closed")]
     Closed,
 }

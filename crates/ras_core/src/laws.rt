@@ -21,7 +21,7 @@ use zone_events::{Event, Note};
 
 /// A datagram that came before, from the same address with the same octets, gets the reply that is
 /// kept for it, and nothing changes but the clock and the number of steps: while its window isn't
-/// over, and, where the reply confirms a registration, while that is there. The datagram has at most
+/// over, and, if the reply confirms a registration, while that is there. The datagram has at most
 /// 4,096 octets, and is a request that has a reply.
 pub fn a_repeat_gets_its_kept_reply()
     ensures { (s : State) (source : Address) (bytes : List ℕ) (moment : ℕ) (request : Request)
@@ -34,7 +34,7 @@ pub fn a_repeat_gets_its_kept_reply()
         × (after ≡ record s { clock = max s.clock moment; steps = s.steps + 1 }) }
 {}
 
-/// A turn is idle only where nothing is due.
+/// A turn is idle only if nothing is due.
 pub fn a_turn_is_idle_only_where_nothing_is_due()
     ensures { (s : State) (moment : ℕ) (outcome : Outcome) (after : State)
         → Step s (Event.Turn moment) outcome after → outcome.note ≡ Note.Idle

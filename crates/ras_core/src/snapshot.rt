@@ -30,7 +30,7 @@ impl Model for Snapshot {
 }
 
 impl Snapshot {
-    /// What a machine that is sound stands at.
+    /// The state at which a sound machine stands.
     pub fn of(machine: Machine) -> Self
         requires { Sound machine }
         ensures { result ≡ machine }

@@ -28,9 +28,9 @@ use zone_config::{Config, Moment};
 use zone_events::{Event, Outcome};
 use zone_tables::PoolFigures;
 
-/// The zone of one gatekeeper, with the pools from which its calls have their bandwidth. Contracts see
-/// its state, which is always sound, and beside it of each pool the last request with its answer, how
-/// often it was asked for units, and how many turns it made.
+/// The zone of one gatekeeper, with the pools from which its calls have their bandwidth. Contracts
+/// see its state, which is always sound. Beside it they see for each pool the last request with its
+/// answer, how often the pool was asked for units, and how many turns it made.
 pub struct Zone<P: Pool> {
     machine: Machine,
     pools: PoolSet<P>,
@@ -64,9 +64,9 @@ impl<P: Pool> Model for Zone<P> {
 
 impl<P: Pool> Zone<P> {
     /// A zone in which no step was made, with pools that have nothing lent, and fewer than 2^62
-    /// refusals and waits each, as `PoolSet::new` gives them. Its clock stands at 0. It is refused as
-    /// WrongPools exactly where there is another number of pools than of networks; the pools then
-    /// come back.
+    /// refusals and waits each, as `PoolSet::new` gives them. Its clock stands at 0. It is refused
+    /// as WrongPools if and only if the number of pools is not the number of networks; the pools
+    /// then come back.
     pub fn new(
         alloc: Global,
         config: Config,
@@ -89,8 +89,9 @@ impl<P: Pool> Zone<P> {
         Ok(Zone { machine, pools })
     }
 
-    /// One step of the machine: what it answers to the event. It is refused as Closed exactly where 2^62
-    /// steps were made; after a refusal nothing has changed, the clock and the pools included.
+    /// One step of the machine: the outcome of the event is returned. It is refused as Closed if
+    /// and only if 2^62 steps were made; after a refusal nothing has changed, including the clock
+    /// and the pools.
     pub fn step(&mut self, event: Event) -> Result<Outcome, StepFault>
         ensures step { IfOk result (λ outcome. RunningStep self.old event outcome self.new) }
         ensures closed { (result ≡ Err StepFault.Closed) ↔ (self.old.state.steps ≡ most_steps) }
@@ -217,8 +218,8 @@ impl<P: Pool> Zone<P> {
         self.machine.is_closed()
     }
 
-    /// Steps, one for each event in order, whose outcomes are appended. At a fault, which comes with the
-    /// index of its event, the steps before that event stand and their outcomes are appended; the event
+    /// One step for each event, in order; the outcomes are appended. A fault comes with the index
+    /// of its event: the steps before that event stand, and their outcomes are appended; the event
     /// itself changed nothing.
     pub fn run(
         &mut self,
@@ -251,7 +252,7 @@ impl<P: Pool> Zone<P> {
     }
 }
 
-/// Adds an outcome where there is room.
+/// Adds an outcome, for which there is room.
 fn append(outcomes: &mut Vec<Outcome>, outcome: Outcome)
     requires { vec_len outcomes.old < vec_capacity outcomes.old }
     ensures { outcomes.new.items ≡ outcomes.old.items ++ outcome ∷ [] }

@@ -1,4 +1,4 @@
--- What follows from a pool's answer about a request is what it comes to.
+-- What follows from a pool's answer about a request is what the request comes to.
 use Rattle.std.proofs.Common.{◌≡◌, ◌≤◌, ◌+◌, ℕ, length, Bool, true, false, List, refl, sym, ◌∙◌, ap}
 use Rattle.std.proofs.Common.{subst, Some, None}
 use Rattle.std.specs.Prelude.{Option, All, if◌then◌else◌}
@@ -81,7 +81,7 @@ module _ (s : State) (now : ℕ) (key : KeptKey) (request : Request)
   asked_answer occasion answer w reply =
       Some (asked_outcome occasion answer reply, asked_state occasion answer w reply)
 
-  -- what a pool's answer makes of the request, where it is known whether it is to wait
+  -- what a pool's answer makes of the request, once it is known whether it is to wait
   abbrev progress : (ℕ → Served) → Served → Lend → Bool → Progress
   progress lent refused answer w =
       with_answered_pool s.tables (units_requested q) answer (if w

@@ -205,7 +205,7 @@ asks_nothing z now d (First dropped) (Some id) (Naming named) given is = refl
 asks_nothing z now d (Again born left) endpoint (Naming named) given is = refl
 asks_nothing z now d occasion endpoint (Asking ask lent refused) given is = absurd (cc is)
 
--- where nobody is asked, who lends stays as it was
+-- if nobody is asked, who lends stays as it was
 pub asked_nothing : {L : Type 0} (lends : L → List Figures → RequestedUnits → Lend → L → Type 0)
     (old : L) (pools : List Figures) (ask : Option RequestedUnits) (answer : Option Lend)
     → ask ≡ None → IsAskedOnce lends old pools ask answer old

@@ -166,7 +166,7 @@ module _ (s : State) (now : ℕ) where
       (over : IfSome dropped (Passes (is_over now) s.kept))
       (none : dropped ≡ None → fin.get s.kept key ≡ None
       → fin.len s.kept ≡ s.tables.config.kept → NonePasses (is_over now) s.kept) where
-    -- where all places are taken, no entry is there, and as many as may be
+    -- if all places are taken, the key has no entry, and as many entries are kept as may be
     taken : (w : Option KeptEntry) → place_by s now w ≡ Full
         → (w ≡ None) × (fin.len s.kept ≡ s.tables.config.kept)
     taken (Some entry) is = absurd (cases (is_repeat s now entry) is) where

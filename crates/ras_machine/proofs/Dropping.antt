@@ -120,7 +120,7 @@ pub not_found : {A : Type 0} {v : Option A} (w : Option (Bor A)) → option_copi
 not_found None is none = sym is
 not_found (Some x) is none = absurd (cc none)
 
--- where there is no place, one becomes free once an entry that is over is dropped
+-- if there is no place, one becomes free once an entry that is over is dropped
 pub fits_of : (t : KeptTable) (now : ℕ) (key : KeptKey) (born : ℕ) → AreBornApart t.kept
     → fin.len t.kept ≡ t.most → fin.get t.kept key ≡ None
     → Passes (is_over now) t.kept born → FitsIn t key (Some born)
@@ -129,7 +129,7 @@ fits_of t now key born apart full absent over = (
   omega (arith, full, fewer t.kept apart (is_over now) born over),
 )
 
--- and where one that is over is dropped, there is a place
+-- and if one that is over is dropped, there is a place
 pub place_of : (t : KeptTable) (now : ℕ) (key : KeptKey) (dropped : Option ℕ) → AreBornApart t.kept
     → FitsIn t key dropped → IfSome dropped (Passes (is_over now) t.kept) → HasPlaceIn t now key
 place_of t now key None apart fits over absent busy = omega (arith, fits absent, busy.full)

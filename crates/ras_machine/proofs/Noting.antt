@@ -62,7 +62,7 @@ does_hear old now id tables is =
       few = tt;
     })
 
--- who is asked was asked less than so often
+-- who is asked was asked fewer than 16 times so far
 tries_few : (times : Times) (now : ℕ) (r : Registration) → IsTrue (is_to_be_asked times now r)
     → times.asks ≤ 16 → r.tries < 16
 tries_few times now r is few = grind (arith, nat_tests)

@@ -9,7 +9,7 @@ use Rattle.kept_replies.proofs.Births.{none_passes}
 use Rattle.registrations.specs.Registry.{Live, IsUnused}
 use Rattle.ras_machine.specs.Unused.{IsUnusedFor}
 
--- none was found exactly where none passes
+-- none was found if and only if none passes
 pub none_found : (t : KeptTable) → IsConsistent t → (test : KeptEntry → Bool) (found : Option ℕ)
     → MatchOption found (NonePasses test t.kept) (Passes test t.kept) → (none : Bool)
     → is_some found ≡ not none → IsTrue none ↔ NonePasses test t.kept
@@ -27,7 +27,7 @@ nobody_has read None w nothing is none none_is h = sym is ∙ nothing
 nobody_has read (Some r) w nothing is true none_is h = absurd (cc none_is)
 nobody_has read (Some r) w nothing is false none_is h = absurd (cc h)
 
--- an identifier that nobody has is unused exactly where no kept reply tells it
+-- an identifier that nobody has is unused if and only if no kept reply tells it
 pub unused_by : (live : Live) (kept : KeptReplies) (id : List ℕ) → fin.get live id ≡ None
     → IsText 128 id → (named : Bool) → IsTrue named ↔ IsNamed kept id
     → IsTrue (not named) ↔ IsUnusedFor live kept id

@@ -37,7 +37,7 @@ plan_there z now (Brq q) h = (_, refl)
 plan_there z now (Drq q) h = (_, refl)
 plan_there z now (Irr q) h = absurd h
 
--- what is shown where a request is served: on which occasion, and what was dropped for it
+-- what is shown if a request is served: on which occasion, and what was dropped for it
 pub shown_by : (s : State) (now : ℕ) (task : Task) (plan : Plan) (choices : Choices)
     (outcome : Outcome) (after : State)
     → plan_ending s now task plan choices ≡ Some (outcome, after)

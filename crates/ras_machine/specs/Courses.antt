@@ -121,7 +121,7 @@ pub record IsChosen (s : State) (now : ℕ) (event : Event) (called : code.Cours
   pub calls : CallsFor s now (course_at s now event (chosen dropped item)) called
   pub ready : IsReady s now (course_at s now event (chosen dropped item))
 
--- an unused identifier is handed out, where one is called for
+-- an unused identifier is handed out, if one is called for
 abbrev pub MayBeGiven : State → Conclusion → Option (List ℕ) → Type 0
 MayBeGiven s (conclusion.Settled decision) given = Unit {0}
 MayBeGiven s (conclusion.Naming newcomer) given = IsSomeAnd given (IsUnusedIn s)
@@ -131,8 +131,8 @@ abbrev pub MayBeNamed : State → code.Course → Option (List ℕ) → Type 0
 MayBeNamed s (course.Serving task) given = MayBeGiven s task.conclusion given
 MayBeNamed s other given = Unit {0}
 
--- the way in which a request is served by a plan, where no pool is asked, and the identifier is
--- handed out that is called for
+-- the way in which a request is served by a plan, if no pool is asked, and the identifier that is
+-- called for is handed out
 abbrev pub resolved : Plan → Option (List ℕ) → Option Served
 resolved (Settled served) None = Some served
 resolved (Settled served) (Some id) = None
@@ -146,7 +146,7 @@ Serves old now job request outcome new =
     (plan : Plan) → plan_of old.tables now request ≡ Some plan
     → Does old now (serving job now request plan) outcome new
 
--- and who lends is asked for it once, where a pool is to be asked
+-- and who lends is asked for it once, if a pool is to be asked
 abbrev pub IsAskedFor : {L : Type 0} → (L → List Figures → RequestedUnits → Lend → L → Type 0)
     → State → ℕ → Job → Request → Outcome → L → L → Type 0
 IsAskedFor lends s now job request outcome old new =

@@ -28,12 +28,12 @@ use Rattle.zone_tables.specs.Pools.{RequestedUnits}
 use Rattle.ras_requests.specs.Requests.{seq_of}
 use Rattle.zone_config.specs.Terms.{term_of}
 
--- whom a reply confirms is registered still; most replies confirm nobody
+-- the endpoint that a reply confirms is still registered; most replies confirm none
 abbrev pub is_registered_still : Live → Option (List ℕ) → Bool
 is_registered_still live None = true
 is_registered_still live (Some id) = is_some (get live id)
 
--- what is kept answers the datagram that came again: its window isn't over, and where it confirms a
+-- what is kept answers the datagram that came again: its window isn't over, and if it confirms a
 -- registration, that is still there
 abbrev pub is_repeat : State → ℕ → KeptEntry → Bool
 is_repeat s now entry =
@@ -72,7 +72,7 @@ in_progress delay request refused = record {
   waits = true;
 }
 
--- it is served once more at least, where its pool makes it wait
+-- it is served once more at least, if its pool makes it wait
 abbrev pub may_wait : Occasion → Bool
 may_wait (First dropped) = true
 may_wait (Again born left) = nat_lt 1 left
@@ -82,8 +82,7 @@ waits occasion (Lent units) = false
 waits occasion Refused = false
 waits occasion Wait = may_wait occasion
 
--- units that were lent are used; else the request is refused, also where it waited
--- for the last time
+-- units that were lent are used; else the request is refused, also if it waited for the last time
 abbrev pub answered_by : (ℕ → Served) → Served → Lend → Served
 answered_by lent refused (Lent units) = lent units
 answered_by lent refused Refused = refused
@@ -114,7 +113,7 @@ abbrev pub served_again : KeptState → KeptEntry → KeptEntry
 served_again (Done reply until) entry = finished reply until entry
 served_again (Pending request reply retry left) entry = postponed retry entry
 
--- What is kept where a request was served: an entry from this step on, for which another may have
+-- What is kept if a request was served: an entry from this step on, for which another may have
 -- been dropped; or the entry that waited goes on.
 abbrev pub kept_with : KeptReplies → KeptKey → Occasion → ℕ → KeptState → KeptReplies
 kept_with kept key (First dropped) born state =

@@ -1,4 +1,4 @@
--- The gatekeeper as a machine: what each event is answered, and what it leaves.
+-- The gatekeeper as a machine: the outcome of each event, and the state that it leaves.
 use Rattle.std.specs.Prelude.{ℕ, ◌+◌, ◌^◌, ◌==◌, nat_lt, max, is_some, List, Option, None}
 use Rattle.std.specs.Prelude.{Some, if◌then◌else◌}
 use Rattle.std.specs.FinMap.{get, len}
@@ -68,8 +68,8 @@ serving job now request plan = Serving (record {
 abbrev pub first : KeptKey → Option ℕ → Job
 first key dropped = record { key = key; occasion = First dropped }
 
--- What is kept for a datagram: a reply that answers it, as it came before; else a place for its reply,
--- its own entry's or a free one; or neither, where as many replies are kept as may be. An entry
+-- What is kept for a datagram: a reply that answers it, as it came before; else a place for its
+-- reply, its own entry's or a free one; or neither, if as many replies are kept as may be. An entry
 -- that is over, or confirms a registration that has gone, doesn't answer it.
 pub data Place : Type 0 where
   Answered : Reply → Place
@@ -92,8 +92,9 @@ response_course s (Some endpoint) =
     then Hearing endpoint
     else Ignoring UnknownEndpoint
 
--- A request: without a plan it is an InfoRequestResponse. What is kept for its datagram is sent again. It
--- is served if its reply has a place; where all are taken, one that is over is dropped for it.
+-- A request: without a plan it is an InfoRequestResponse. What is kept for its datagram is sent
+-- again. It is served if its reply has a place; if all are taken, one that is over is dropped for
+-- that reply.
 abbrev pub request_case : State → ℕ → KeptKey → Request → Option Plan → Place → Option ℕ → Course
 request_case s now key request None place dropped = response_course s (endpoint_of request)
 request_case s now key request (Some plan) (Answered reply) dropped =
@@ -140,7 +141,7 @@ abbrev pub retry_course : State → ℕ → ℕ → Option (KeptKey × KeptEntry
 retry_course s now born None = Doing (Retry born)
 retry_course s now born (Some row) = retry_in_course s now row.0 born row.1.state
 
--- in a turn any one item is done that is due
+-- in a turn any one item that is due is done
 abbrev pub turn_course : State → ℕ → Option DueItem → Course
 turn_course s now None = Idle
 turn_course s now (Some (Retry born)) = retry_course s now born (get (births s.kept) born)
@@ -162,7 +163,7 @@ course s what choices = course_at s (moment_of s what) what choices
 abbrev pub Ending : Type 0
 Ending = Option (Outcome × State)
 
--- where no request is served: nothing was chosen, and this is the note
+-- if no request is served: nothing was chosen, and this is the note
 abbrev pub noted : Note → Option Datagram → State → Ending
 noted what output s = Some (noted_outcome what output, s)
 
@@ -194,7 +195,7 @@ with_answer s now task ask lent refused (Some answer) =
     ended s now task None (Some answer) (with_answered_pool s.tables ask answer
     (by_answer s.tables.config.delay task lent refused answer))
 
--- a request is served with what was chosen; there is no answer where a choice that it calls for
+-- a request is served with what was chosen; nothing is returned if a choice that it calls for
 -- wasn't made
 abbrev pub plan_ending : State → ℕ → Task → Plan → Choices → Ending
 plan_ending s now task (Settled served) choices = ended s now task None None (answered served)
@@ -212,17 +213,17 @@ course_ending s now (Doing item) choices =
     noted (note.Done item) (effect s now item).output (effect s now item).state
 course_ending s now Idle choices = noted note.Idle None s
 
--- the clock stands at now, and so many steps are made
+-- the clock stands at `now`, and `steps` steps are made
 abbrev pub at_moment : ℕ → ℕ → Ending → Ending
 at_moment now steps None = None
 at_moment now steps (Some answer) = Some (answer.0, record answer.1 { clock = now; steps = steps })
 
--- so many steps are made, and no more
+-- this many steps are made, and no more
 abbrev pub most_steps : ℕ
 most_steps = 2 ^ 62
 
 -- One event, with what was chosen in its step: its outcome and the state after it. There is none
--- where the gatekeeper is closed, nor where a choice that is called for wasn't made.
+-- if the gatekeeper is closed, nor if a choice that is called for wasn't made.
 abbrev pub machine : State → Event → Choices → Ending
 machine s what choices =
     if nat_lt s.steps most_steps

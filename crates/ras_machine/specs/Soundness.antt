@@ -14,7 +14,7 @@ use Rattle.ras_machine.specs.State.{State}
 use Rattle.ras_machine.specs.Machine.{most_steps}
 use Rattle.zone_tables.specs.Soundness.{HasCounts, SoundTables}
 
--- each entry was born before so many steps were made
+-- each entry was born before this number of steps was made
 abbrev pub AreBornBefore : ℕ → KeptReplies → Type 0
 AreBornBefore steps kept =
     (key : KeptKey) (entry : KeptEntry) → get kept key ≡ Some entry → entry.born < steps

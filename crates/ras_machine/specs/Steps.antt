@@ -22,7 +22,7 @@ use Rattle.ras_machine.specs.Turns.{IsDueIn, IsNothingDueIn}
 use Rattle.ras_machine.specs.Machine.{Choices, Course, Ignoring, Hearing, Repeating, Serving, Doing}
 use Rattle.ras_machine.specs.Machine.{Idle, course, machine, moment_of}
 
--- the item that was done; None where the note says that nothing was due
+-- the item that was done; None if the note says that nothing was due
 abbrev pub item_of : Note → Option DueItem
 item_of (note.Done item) = Some item
 item_of other = None
@@ -53,8 +53,8 @@ abbrev pub IsTimely : State → ℕ → Occasion → Type 0
 IsTimely s now (First dropped) = IfSome dropped (Passes (is_over now) s.kept)
 IsTimely s now (Again born left) = IsDueIn s now (Retry born)
 
--- What may be chosen: no place is found for a reply only where nothing that is kept is over; what
--- is done is due; and only where nothing is due, nothing is done.
+-- What may be chosen: no place is found for a reply only if nothing that is kept is over; what is
+-- done is due; and nothing is done only if nothing is due.
 abbrev pub IsAllowed : State → ℕ → Course → Choices → Type 0
 IsAllowed s now (Ignoring Busy) choices = NonePasses (is_over now) s.kept
 IsAllowed s now (Ignoring other) choices = Unit {0}
@@ -71,7 +71,7 @@ pub record Step (s : State) (event : Event) (outcome : Outcome) (after : State) 
       (course s event (choices_of outcome)) (choices_of outcome)
   pub makes : machine s event (choices_of outcome) ≡ Some (outcome, after)
 
--- which pool is asked for how many units, where one is
+-- which pool is asked for how many units, if one is
 abbrev pub ask_in_plan : Plan → Option RequestedUnits
 ask_in_plan (Settled served) = None
 ask_in_plan (Naming named) = None
@@ -87,7 +87,7 @@ pools_after_ask pools (Some ask) (Some answer) = pools_after_answer pools ask.po
 pools_after_ask pools (Some ask) None = pools
 pools_after_ask pools None answer = pools
 
--- Who lends is asked once, where a pool is to be asked, and gives the answer that the outcome shows;
+-- Who lends is asked once, if a pool is to be asked, and gives the answer that the outcome shows;
 -- else nobody is asked, and who lends stays as it was.
 abbrev pub IsAskedOnce : {L : Type 0} → (L → List Figures → RequestedUnits → Lend → L → Type 0) → L
     → List Figures → Option RequestedUnits → Option Lend → L → Type 0

@@ -24,7 +24,7 @@ use zone_config::Moment;
 use zone_events::{Datagram, IgnoredCause};
 
 impl Machine {
-    /// What a datagram calls for, if this entry is dropped should its reply find no place else.
+    /// What a datagram calls for. If its reply finds no other place, this entry is dropped.
     pub fn datagram_course(
         &self,
         now: Moment,

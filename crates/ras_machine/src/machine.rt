@@ -188,10 +188,10 @@ impl Machine {
         Ok(self.tables.unused(&told))
     }
 
-    /// One step by a course that was chosen, with the identifier that is handed out: what the course
-    /// calls for is done, and the clock stands at `now`. All that may want memory comes before the first
-    /// change, and before a pool is asked. Of the pools the machine keeps the figures: whoever has the
-    /// pools gives back to them what came back.
+    /// One step by a course that was chosen, with the identifier that is handed out: what the
+    /// course calls for is done, and the clock stands at `now`. All that may want memory comes
+    /// before the first change, and before a pool is asked. Of the pools the machine keeps the
+    /// figures: whoever has the pools gives back to them what came back.
     pub fn perform<L: Lender>(
         &mut self,
         now: Moment,

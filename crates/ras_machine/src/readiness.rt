@@ -77,7 +77,8 @@ impl Machine {
         is_due(item, registrations, calls, &self.kept, moment, next, &times)
     }
 
-    /// Whether this identifier may be handed out, where the course calls for one. This takes no memory.
+    /// Whether this identifier may be handed out, if the course calls for one.
+    /// This takes no memory.
     pub fn may_be_named(&self, course: &Course, given: &Option<EndpointId>) -> bool
         ensures { IsTrue result ↔ MayBeNamed self.now course.now given.now }
     {

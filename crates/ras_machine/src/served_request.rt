@@ -178,7 +178,7 @@ impl Machine {
     }
 }
 
-/// The endpointIdentifier of a request, where it has one.
+/// The endpointIdentifier of a request, if it has one.
 fn endpoint_of(request: &Request) -> Option<EndpointId>
     ensures { result ≡ endpoint_of request.now }
 {
@@ -193,7 +193,7 @@ fn endpoint_of(request: &Request) -> Option<EndpointId>
     }
 }
 
-/// Notes that the endpoint was heard that a request names as it comes, if it is registered.
+/// Notes that the endpoint was heard, if it is registered and its request is served as it comes.
 fn hear(tables: &mut ZoneTables, occasion: Occasion, now: Moment, endpoint: Option<EndpointId>)
     requires { SoundTables tables.old }
     ensures heard { tables.new ≡ heard_at tables.old occasion now endpoint }

@@ -19,7 +19,7 @@ use zone_config::Moment;
 use zone_events::{DueItem, Note, Outcome};
 
 impl Machine {
-    /// Something that is due: any of what is, and None if and only if nothing is.
+    /// Any item that is due, and None if and only if nothing is due.
     pub fn due(&self, now: Moment) -> Option<DueItem>
         ensures { MatchOption result (IsNothingDueIn self.now now)
             (IsDueIn self.now now) }
@@ -59,8 +59,8 @@ impl Machine {
         }
     }
 
-    /// The request that waits with this birth. If an entry has none that is served, there is
-    /// nothing to do.
+    /// The request that waits in the entry with this birth. None, if there is no such request, or
+    /// it isn't one that is served: then there is nothing to do.
     fn waiting(&self, born: u64) -> Result<Option<(Job, Request)>, AllocError>
         ensures { IfOk result (λ found. (now : ℕ)
             → IsWaitingRequest self.now now born found) }

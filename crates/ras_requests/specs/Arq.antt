@@ -1,4 +1,4 @@
--- Admission of calls (H.323, 7.2.4; H.225.0: ARQ, ACF, ARJ). Each case applies where none above it
+-- Admission of calls (H.323, 7.2.4; H.225.0: ARQ, ACF, ARJ). Each case applies if none above it
 -- does.
 use Rattle.std.specs.Prelude.{ℕ, ◌==◌, min, length, Option, None, Some, if◌then◌else◌}
 use Rattle.std.specs.FinMap.{get, insert, len}
@@ -20,8 +20,8 @@ use Rattle.ras_requests.specs.Standing.{Standing, NoCall, NoLeg, HasLeg, standin
 use Rattle.ras_requests.specs.Brq.{units_left, wanted}
 use Rattle.ras_requests.specs.Plans.{Served, Plan, Settled, Asking, unchanged}
 
--- address translation: who answers a call is told its own address; who makes one is told that of
--- the first alias that is registered, else the address that it gave
+-- address translation: the endpoint that answers a call is told its own address; the one that makes
+-- a call is told the address of the first alias that is registered, else the address that it gave
 abbrev pub destination : Tables → AdmissionRequest → Option Registration → Option Address
 destination z q None = None
 destination z q (Some r) =

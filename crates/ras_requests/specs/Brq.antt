@@ -1,5 +1,5 @@
 -- Bandwidth of the zone's calls (H.323, 7.2.4; H.225.0: BRQ, BCF, BRJ), in units of 100 bit/s. Each
--- case applies where none above it does.
+-- case applies if none above it does.
 use Rattle.std.specs.Prelude.{ℕ, ◌+◌, ◌-◌, ◌==◌, nat_le, min, Option, None, Some, if◌then◌else◌}
 use Rattle.std.specs.FinMap.{get}
 use Rattle.keyed.specs.Maps.{update}

@@ -1,4 +1,4 @@
--- Disengaging from calls (H.323, 7.2.4; H.225.0: DRQ, DCF, DRJ). Each case applies where none above
+-- Disengaging from calls (H.323, 7.2.4; H.225.0: DRQ, DCF, DRJ). Each case applies if none above
 -- it does.
 use Rattle.std.specs.Prelude.{Option, None, Some}
 use Rattle.std.specs.FinMap.{get}

@@ -27,9 +27,9 @@ map_plan change (Naming named) = Naming (λ id. change (named id))
 map_plan change (Asking requested lent refused) =
     Asking requested (λ units. change (lent units)) (change refused)
 
--- The endpoint that a served request names was heard, whatever the reply, where it is registered
--- and stays so. (Where that very identifier is handed out in this step, its registration was heard
--- now as it is.)
+-- Whatever the reply, the endpoint that a served request names was heard, if it is registered and
+-- stays so. (If that very identifier is handed out in this step, its registration was heard now as
+-- it is.)
 abbrev pub with_heard : ℕ → Option (List ℕ) → Served → Served
 with_heard now None served = served
 with_heard now (Some id) served =

@@ -1,4 +1,4 @@
--- Registration of endpoints (H.323, 7.2.2; H.225.0: RRQ, RCF, RRJ). Each case applies where none
+-- Registration of endpoints (H.323, 7.2.2; H.225.0: RRQ, RCF, RRJ). Each case applies if none
 -- above it does.
 use Rattle.std.specs.Prelude.{◌+◌, ◌*◌, ◌==◌, ℕ, Bool, false, not, nat_lt, min, List, [], ◌∷◌}
 use Rattle.std.specs.Prelude.{length, Option, None, Some, if◌then◌else◌}

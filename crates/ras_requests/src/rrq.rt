@@ -81,8 +81,9 @@ fn keep_alive(
     })
 }
 
-/// The aliases, each once, and None if more than a reply can tell differ. The search ends with the
-/// first one too many: a list of all that fit into a datagram takes no longer than its length.
+/// The aliases, each once. None, if there are more distinct ones than a reply can tell. The search
+/// ends with the first one too many, so that its time grows with the length of the list, and not
+/// with its square.
 fn distinct(alloc: Global, aliases: &AliasList) -> Result<Option<ReplyAliases>, AllocError>
     ensures { IfOk result (λ found. MatchOption found
         (32 < length (without_doubles aliases.now)) (λ kept. kept ≡ without_doubles aliases.now)) }
@@ -142,7 +143,7 @@ fn register_fully(
     enter(tables, now, q, entry)
 }
 
-/// Registers anew who has the address, or a new endpoint.
+/// Registers anew the endpoint that has the address, or else registers a new endpoint.
 fn enter(
     tables: &ZoneTables,
     now: Moment,

@@ -25,7 +25,7 @@ enum Change {
     UnitMore,
     /// The repeat is noted as served.
     Noted,
-    /// A kept reply is dropped that is not over.
+    /// A kept reply that is not over is dropped.
     Dropped,
 }
 

@@ -79,7 +79,7 @@ no_stream : (answer result : Result Script ScriptFault) → GivesUnlessMemory an
 no_stream answer result h e =
     subst (λ (r : Result Script ScriptFault). GivesUnlessMemory answer r) e h
 
--- what a fault of reading says of the stream, as the answer's
+-- what a fault of reading says of the stream, the result with this fault says, too
 of_fault : (fault : ScriptFault) (failed : Bool) → ((fault ≡ Stream) ↔ IsTrue failed)
     → (let answer : Result Script ScriptFault = Err fault in answer ≡ Err Stream) ↔ IsTrue failed
 of_fault fault failed h = (λ e. h.0 (cc e), λ t. ap Err (h.1 t))

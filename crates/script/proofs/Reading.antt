@@ -41,7 +41,7 @@ abbrev answer_of : ℕ → Said → List (Option Line) → Result Script ScriptF
 answer_of n said lines =
     script_unless (position_from (λ line. not (is_some line)) n lines) (said_with said lines)
 
--- the answer where lines follow what is said already, the first of them the n-th
+-- what is returned if lines follow what is said already, the first of them the n-th
 unfoldable pub answer_from : ℕ → Said → List (Option Line) → Result Script ScriptFault
 answer_from n said lines = answer_of n said (placed said.pools said.events lines)
 

@@ -1,4 +1,4 @@
--- What a run that stops at an event answers.
+-- What a run that stops at an event returns.
 use Rattle.std.proofs.Common.{◌≡◌, ℕ, ◌+◌, ◌<◌, List, take, length, Option, Err, add-one}
 use Rattle.zone_events.specs.declared.event.Event.{Event}
 use Rattle.ras_core.specs.Running.{Running}

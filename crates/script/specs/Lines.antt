@@ -1,4 +1,4 @@
--- What a line of a script says; none where it is not understood.
+-- What a line of a script says; none if it is not understood.
 use Rattle.std.specs.Prelude.{ℕ, ◌-◌, ◌^◌, List, [], ◌∷◌, Option, Some, None, codes, if◌then◌else◌}
 use Rattle.std.specs.Str.{bytes_eq}
 use Rattle.zone_events.specs.declared.event.Event.TheVariants.{Datagram, Turn}

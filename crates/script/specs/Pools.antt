@@ -1,4 +1,4 @@
--- The pools that a script describes; none where a line is not understood.
+-- The pools that a script describes; none if a line is not understood.
 use Rattle.std.specs.Prelude.{ℕ, List, [], ◌∷◌, map, Option, Some, None, codes, if◌then◌else◌}
 use Rattle.std.specs.Str.{bytes_eq}
 use Rattle.pools.specs.declared.pool_spec.PoolSpec.{PoolSpec}

@@ -52,14 +52,14 @@ note_text (Ignored cause) = codes "ignored " ++ cause_text cause
 note_text (Done item) = codes "done " ++ item_text item
 note_text Idle = codes "idle"
 
--- what the pool answered, where one was asked; units are of 100 bit/s
+-- what the pool answered, if one was asked; units are of 100 bit/s
 abbrev pub answer_text : Option Lend → List ℕ
 answer_text None = []
 answer_text (Some (Lent units)) = codes " lent " ++ decimal units
 answer_text (Some Refused) = codes " refused"
 answer_text (Some Wait) = codes " wait"
 
--- the birth of the kept entry that was dropped, where one was
+-- the birth of the kept entry that was dropped, if one was
 abbrev pub dropped_text : Option ℕ → List ℕ
 dropped_text None = []
 dropped_text (Some born) = codes " dropped " ++ decimal born
@@ -73,7 +73,7 @@ address_text address =
     ++ decimal (slice_index address.ip 3) ++ codes ":"
     ++ decimal address.port
 
--- where something is sent: ` > ADDRESS HEX`
+-- if something is sent: ` > ADDRESS HEX`
 abbrev pub output_text : Option Datagram → List ℕ
 output_text None = []
 output_text (Some datagram) =

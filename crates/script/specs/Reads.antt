@@ -18,7 +18,8 @@ IsInputFault NoDefaultPool = ⊥
 IsInputFault Stream = Unit {0}
 IsInputFault Memory = Unit {0}
 
--- the octets that were taken from the front of those that the reader had left, at most so many
+-- the octets, at most `most` of them, that were taken from the front of those that the reader
+-- had left
 pub record ConsumesAtMost (most : ℕ) (old new : Option (List ℕ)) : Type 0 where
   pub octets : List ℕ
   pub few : length octets ≤ most
@@ -39,8 +40,8 @@ IsAtEndIfRead (Err TooLong) left = Unit {0}
 IsAtEndIfRead (Err Stream) left = Unit {0}
 IsAtEndIfRead (Err Memory) left = Unit {0}
 
--- At most one octet past the greatest size is read, and the answer is what the octets say. That the
--- stream failed is answered exactly where the last read failed; no octet is read behind it.
+-- At most one octet past the greatest size is read, and what is returned is what the octets say.
+-- The fault Stream is returned if and only if the last read failed; no octet is read behind it.
 pub record ReadsScript (old new : InputState) (answer : Result Script ScriptFault) : Type 0 where
   pub text : List ℕ
   pub taken : Consumes old.left new.left text

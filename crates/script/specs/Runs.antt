@@ -1,4 +1,4 @@
--- What a run of a script answers, and what it writes.
+-- What a run of a script returns, and what it writes.
 use Rattle.std.specs.Prelude.{ℕ, ◌≡◌, ◌<◌, ◌==◌, ◌&&◌, Bool, IsTrue, zero, suc, List, [], length}
 use Rattle.std.specs.Prelude.{map, take}
 use Rattle.std.specs.Prelude.{Option, is_none, Result, Ok, Err}
@@ -47,9 +47,9 @@ StopsAt zero start events after old new = ⊥
 StopsAt (suc before) start events after old new =
     (before < length events) × RunsAndPrints start (take before events) after old new
 
--- All events were run and printed; or those before the one that is named, which found no memory,
--- or found the zone closed. Nothing was written where there was no memory for the zone itself, nor
--- where the pools are not the script's.
+-- All events were run and printed; or those before the one that is named, which found no memory, or
+-- found the zone closed. Nothing was written if there was no memory for the zone itself, nor if the
+-- pools are not the script's.
 abbrev pub IsRunOf : Running → List Event → Option (List ℕ) → Option (List ℕ)
     → Result Unit RunFault → Type 0
 IsRunOf start events old new (Ok done) =
@@ -64,7 +64,7 @@ IsRunOf start events old new (Err (Closed event)) =
 IsRunOf start events old new (Err Stream) = Unit {0}
 IsRunOf start events old new (Err WrongPools) = Keeps old new
 
--- what a run of a script with these pools answers
+-- what a run of a script with these pools returns
 abbrev pub IsRunAnswer : Script → List Account → Option (List ℕ) → Option (List ℕ)
     → Result Unit RunFault → Type 0
 IsRunAnswer script pools old new answer =

@@ -14,7 +14,7 @@ pub record Said : Type 0 where
   pub pools : List PoolEntry
   pub events : List Event
 
--- the zone, the setting, the pool and the event of a line, where it has one
+-- the zone, the setting, the pool and the event of a line, if it has one
 abbrev pub zone_in : Option Line → Option (List ℕ × Address)
 zone_in (Some (Zone name address)) = Some (name, address)
 zone_in (Some (Set setting)) = None

@@ -31,7 +31,7 @@ behind_event (Some (At event)) = Some (At event)
 behind_event (Some Blank) = Some Blank
 behind_event None = None
 
--- behind so many pool lines, a further one is not understood where they are 16
+-- behind this many pool lines, a further one is not understood if they are 16
 abbrev pub behind_pools : ℕ → Option Line → Option Line
 behind_pools pools (Some (Zone name address)) = Some (Zone name address)
 behind_pools pools (Some (Set setting)) = Some (Set setting)
@@ -40,7 +40,7 @@ behind_pools pools (Some (At event)) = Some (At event)
 behind_pools pools (Some Blank) = Some Blank
 behind_pools pools None = None
 
--- what each line says where it stands, the first behind so many pool lines and no event
+-- what each line says where it stands; the first stands behind this many pool lines and no event
 abbrev pub in_place : ℕ → List (Option Line) → List (Option Line)
 in_place pools [] = []
 in_place pools (line ∷ lines) =
@@ -96,7 +96,7 @@ script_of text =
     then Err TooLong
     else script_of_lines (in_place 0 (map line_of (lines_of text)))
 
--- this is the answer, unless a read failed or there was no memory
+-- this is what is returned, unless a read failed or there was no memory
 abbrev pub GivesUnlessStopped : Result Script ScriptFault → Result Script ScriptFault → Type 0
 GivesUnlessStopped answer (Err Stream) = Unit {0}
 GivesUnlessStopped answer (Err Memory) = Unit {0}
@@ -106,7 +106,7 @@ GivesUnlessStopped answer (Err NoZone) = answer ≡ Err NoZone
 GivesUnlessStopped answer (Err NoDefaultPool) = answer ≡ Err NoDefaultPool
 GivesUnlessStopped answer (Ok script) = answer ≡ Ok script
 
--- This is the answer, unless there was no memory: of a text that is there no read fails.
+-- This is what is returned, unless there was no memory: no read fails of a text that is there.
 abbrev pub GivesUnlessMemory : Result Script ScriptFault → Result Script ScriptFault → Type 0
 GivesUnlessMemory answer (Err Stream) = ⊥
 GivesUnlessMemory answer (Err Memory) = Unit {0}

@@ -45,7 +45,7 @@ pub fn specs_of(alloc: Global, limit: u64, lines: &[PoolLine]) -> Result<PoolSpe
     Ok(PoolSpecs::from_vec(specs))
 }
 
-/// The configuration of a zone in which nothing is set; None where its last pool has a network.
+/// The configuration of a zone in which nothing is set; None if its last pool has a network.
 pub fn config_of(name: Name, address: Address, networks: Networks) -> Option<Config>
     requires bits { list_any is_too_long networks ≡ false }
     ensures { result

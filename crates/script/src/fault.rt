@@ -7,8 +7,8 @@ use std::alloc::AllocError;
 use std::fmt;
 use thiserror::Error;
 
-/// Why a script isn't read. Of the first four, the first that applies to the whole script is
-/// answered.
+/// Why a script isn't read. Of the first four, the first that applies to the whole script
+/// is returned.
 #[derive(Clone, Copy, Debug, PartialEq, Eq, Error)]
 pub enum ScriptFault {
     /// It has more than 1,048,576 octets.

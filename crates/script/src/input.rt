@@ -20,7 +20,7 @@ const MOST: usize = 1_048_576;
 const CHUNK: usize = 4096;
 
 /// A reader that remembers whether its last read failed. Contracts see that beside the octets that
-/// it has left, where these are known.
+/// it has left, if these are known.
 #[derive(Drop)]
 pub struct Input<R: Read + Drop> {
     reader: R,

@@ -129,7 +129,7 @@ fn turn_line(mut words: Words) -> Option<Line>
     }
 }
 
-/// What a line says; None where it isn't understood.
+/// What a line says; None if it isn't understood.
 #[tactic(auto, unfolding(crate::specs::Lines::line_of))]
 pub fn line_of(alloc: Global, line: &[u8]) -> Result<Option<Line>, AllocError>
     ensures { IfOk result (λ read. read ≡ line_of line.now) }

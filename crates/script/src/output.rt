@@ -9,7 +9,7 @@ use std::io::Write;
 use std::marker::Model;
 
 /// A writer that remembers whether it was flushed since the last write. Contracts see that beside
-/// the octets that it holds, where these are known.
+/// the octets that it holds, if these are known.
 #[derive(Drop)]
 pub struct Output<W: Write + Drop> {
     writer: W,

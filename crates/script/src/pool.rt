@@ -12,8 +12,8 @@ use ras_core::Network;
 use std::marker::Model;
 use value_texts::{PoolKind, is_word, network_of, number_of};
 
-/// A pool, with the network that it serves, where it doesn't serve every address. Contracts see the
-/// pair.
+/// A pool, with the network that it serves, if it doesn't serve every address. Contracts see
+/// the pair.
 #[derive(Drop)]
 pub struct PoolLine {
     spec: PoolSpec,

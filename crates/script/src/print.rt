@@ -13,7 +13,7 @@ use ras_module::{Address, EndpointId};
 use std::io;
 use std::io::Write;
 
-/// The character with this code; U+FFFD where it has none.
+/// The character with this code; U+FFFD if it has none.
 fn character_of(code: u16) -> char
     ensures { result ≡ character_of code }
 {

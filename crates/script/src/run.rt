@@ -33,9 +33,9 @@ fn zone_of<P: Pool>(alloc: Global, config: Config, pools: Vec<P>) -> Result<Zone
 }
 
 /// Runs the events of a script on its zone, one after the other, and writes a line for each
-/// outcome. The pools are those of the script, in its order: as many, and each of them idle, and
-/// else they are refused before anything is written. Where an event can't be run, the lines of those
-/// before it are written. The writer is flushed.
+/// outcome. The pools are those of the script, in its order: as many, and each of them idle.
+/// Otherwise they are refused before anything is written. If an event can't be run, the lines of
+/// those before it are written. The writer is flushed.
 pub fn run_script<P: Pool, W: Write + Drop>(
     alloc: Global,
     script: Script,

@@ -29,8 +29,8 @@ impl Model for Setting {
 }
 
 impl Setting {
-    /// The setting of this key to this number; None where the key is unknown or the number is
-    /// outside its range.
+    /// The setting of this key to this number; None if the key is unknown or the number is outside
+    /// its range.
     pub fn new(key: &[u8], number: &[u8]) -> Option<Setting>
         ensures { result ≡ setting_of key.now number.now }
     {

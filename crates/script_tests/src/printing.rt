@@ -14,7 +14,7 @@ fn line_of(alloc: Global, outcome: Outcome) -> Result<Vec<u8>, Fail> {
     Ok(out)
 }
 
-/// What is printed where this happened, and nothing more.
+/// What is printed if this happened, and nothing more.
 fn line_with(alloc: Global, note: Note) -> Result<Vec<u8>, Fail> {
     line_of(
         alloc,

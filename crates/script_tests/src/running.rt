@@ -25,7 +25,7 @@ fn a_script_is_run(rt: HostRuntime) -> Result<(), Fail> {
     Ok(())
 }
 
-/// What is answered to a run of one event with these pools, and how many octets are written.
+/// What a run of one event with these pools returns, and how many octets are written.
 fn answer_with<P: Pool>(alloc: Global, pools: Vec<P>) -> Option<(Result<(), RunFault>, usize)> {
     let text: &[u8] = b"zone gk 10.0.0.1:1719\nat 0 from 10.0.0.5:1719 80\n";
     let Ok(script) = read_script(alloc, &mut Input::new(text)) else {

@@ -58,7 +58,7 @@ fn report<R: Threads + Wait + Clock + Sync>(
     serve_zone(rt, alloc, zone, receivers, sender, &Open, clocks, plan).ok()
 }
 
-/// Whether the history of a server whose chapters end after so many entries passes its audit, and
+/// Whether the history of a server whose chapters end after this many entries passes its audit, and
 /// whether it has any chapters.
 fn passes<R: Threads + Wait + Clock + Sync>(
     rt: &R,

@@ -20,7 +20,7 @@ impl Moments for Still<'_> {
     }
 }
 
-/// A clock for each of so many receiving ends, and one whose reads are counted for the timers.
+/// A clock for each of this many receiving ends, and for the timers one whose reads are counted.
 pub fn clocks<'a>(alloc: Global, ends: usize, reads: &'a AtomicU64) -> Option<Vec<Still<'a>>> {
     let mut clocks = Vec::new(alloc);
     for _end in 0..ends {

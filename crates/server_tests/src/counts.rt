@@ -166,7 +166,7 @@ fn each_reply_is_counted_once(rt: HostRuntime) {
     assert!(rt; counted == Some(true));
 }
 
-/// What a server answers that has so many receiving ends, and clocks for so many.
+/// What a server with `ends` receiving ends, and with clocks for `clocked` ends, returns.
 fn refusal<R: Threads + Wait + Clock + Sync>(
     rt: &R,
     alloc: Global,

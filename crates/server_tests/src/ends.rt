@@ -26,7 +26,7 @@ pub struct Room<'a, R> {
     pub impatient: &'a AtomicU64,
 }
 
-/// An end that gives so many discoveries, then is quiet until the timers' clock was read some times
+/// An end that gives `left` discoveries, then is quiet until the timers' clock was read some times
 /// more, and then has stopped. Each send succeeds.
 #[derive(Drop)]
 pub struct Giver<'a, R> {
@@ -100,7 +100,7 @@ impl<R: Clock> Datagrams for Giver<'_, R> {
     }
 }
 
-/// So many ends, each of which gives so many datagrams.
+/// `ends` ends, each of which gives `datagrams` datagrams.
 pub fn givers<'a, R: Clock>(
     alloc: Global,
     room: &'a Room<'a, R>,

@@ -152,8 +152,8 @@ fn outputs<P: Pool>(report: &Report<P>) -> u64 {
         .count() as u64
 }
 
-/// Whether each output was sent, dropped or lost by a failed send, so many calls have failed, and the
-/// receipts pass their audit.
+/// Whether each output was sent, dropped or lost by a failed send, `failed` calls have failed, and
+/// the receipts pass their audit.
 fn agrees<P: Pool>(report: &Report<P>, failed: u64) -> bool {
     let tried = report.sent.saturating_add(report.send_faults);
     tried.saturating_add(report.dropped) == outputs(report)

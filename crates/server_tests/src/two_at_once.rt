@@ -40,7 +40,7 @@ fn do_both_get_on<R: Threads + Wait + Clock + Sync>(
     Some(report.sent == 2 && report.datagrams == 2 && meeting.impatient.load(Ordering::SeqCst) == 0)
 }
 
-/// The same, where one is held at this place.
+/// The same, if one is held at this place.
 fn get_on_though_held<R: Threads + Wait + Clock + Sync>(
     rt: &R,
     alloc: Global,

@@ -71,7 +71,7 @@ fn number_in(settings: &Settings, is_zone: bool, name: &str) -> Option<u64> {
     None
 }
 
-/// The number that is read where this one is written.
+/// The number that is read if this one is written.
 fn number_read(
     alloc: Global,
     is_zone: bool,

@@ -218,7 +218,7 @@ fn the_first_key_of_a_pool_that_fails_is_named(rt: HostRuntime) -> Result<(), Fa
     Ok(())
 }
 
-/// A zone with so many pools, and this behind them.
+/// A zone with this many pools, and this behind them.
 fn with_pools(alloc: Global, count: u8, behind: &str) -> Result<String, AllocError> {
     let mut text = String::from_str(alloc, ZONE)?;
     for _ in 0..count {

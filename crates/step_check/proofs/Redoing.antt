@@ -61,7 +61,7 @@ ending_of now steps (Some answer) outcome after is = (
       (ap (λ (a : Outcome × State). a.0) (same_some _ (outcome, after) is)),
 )
 
--- who repeats a recorded answer lends so
+-- how a lender that repeats a recorded answer lends
 abbrev pub lends_again : Recorded → List Figures → RequestedUnits → Lend → Recorded → Type 0
 lends_again old figures requested answer new =
     Repeats old.answer (figures_at figures requested.pool) requested.units answer
@@ -102,7 +102,7 @@ module _ (s : State) (now : ℕ) where
     dropped_over (Doing item) allowed is = nothing_dropped _ _ _ is
     dropped_over Idle allowed is = nothing_dropped _ _ _ is
 
-    -- where an identifier was handed out, it was an unused one
+    -- if an identifier was handed out, it was an unused one
     naming_given : (task : Task) (named : List ℕ → Served) (given : Option (List ℕ))
         → IfSome given (IsUnusedIn s) → with_name s now task named given ≡ Some (outcome, after)
         → IsSomeAnd given (IsUnusedIn s)
@@ -259,7 +259,7 @@ module _ (s : State) (event : Event) (outcome : Outcome) where
               else None) (sym below_most) ∙ step.makes),
         )
 
-    -- there is none where the choices that the outcome shows may not be made
+    -- there is none if the choices that the outcome shows may not be made
     pub absent : CannotBeChosen s now event outcome → NoStep s event outcome
     absent cannot after step =
         let ends = step_ends after step in
@@ -281,7 +281,7 @@ module _ (s : State) (event : Event) (outcome : Outcome) where
                 else None) below_most ∙ q.makes;
           }
 
-      -- there is none where the identifier may not be handed out
+      -- there is none if the identifier may not be handed out
       pub unnamed : (MayBeNamed s called outcome.given → ⊥) → NoStep s event outcome
       unnamed cannot after step =
           let ends = step_ends after step in
@@ -289,7 +289,7 @@ module _ (s : State) (event : Event) (outcome : Outcome) where
           (subst (λ c. IsAllowed s now c (choices_of outcome)) (sym shown.calls.is) ends.0)
           (ap (λ c. course_ending s now c (choices_of outcome)) shown.calls.is ∙ ends.1.1))
 
-      -- where there is one, the course comes to its outcome again
+      -- if there is one, the course comes to its outcome again
       pub redone : (after : State) → Step s event outcome after → (again : Outcome) (new : State)
           (lender : Recorded) → Performs s now (course_of s now called) again new
           → IfSome again.given (λ id. outcome.given ≡ Some id)

@@ -1,4 +1,4 @@
--- What the check of a recorded step answers.
+-- What the check of a recorded step returns.
 use Rattle.std.specs.Prelude.{◌≡◌, Bool, true, false}
 use Rattle.zone_events.specs.declared.event.Event.{Event}
 use Rattle.zone_events.specs.declared.outcome.Outcome.{Outcome}
@@ -14,7 +14,7 @@ abbrev pub Redoes : State → Event → Outcome → Bool → State → Type 0
 Redoes old event outcome true new = Step old event outcome new
 Redoes old event outcome false new = NoStep old event outcome
 
--- and where it has none, nothing changes
+-- and if it has none, nothing changes
 abbrev pub Accepts : State → Event → Outcome → Bool → State → Type 0
 Accepts old event outcome true new = Step old event outcome new
 Accepts old event outcome false new = NoStep old event outcome × (new ≡ old)

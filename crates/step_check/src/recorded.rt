@@ -1,4 +1,4 @@
-//! Who lends again as it is recorded.
+//! A lender that repeats a recorded answer.
 
 ghost use Rattle.std.specs.Prelude.{◌≡◌, ◌↔◌, ◌≤◌, IsTrue};
 ghost use Rattle.pools.specs.Account.{IsAnswer};
@@ -7,7 +7,7 @@ ghost use Rattle.step_check.specs.Recorded.{Repeats};
 use pools::{Figures, Lend};
 use zone_tables::{Lender, PoolFigures};
 
-/// Repeats a recorded answer wherever a pool may give it, and refuses else. Nothing is lent.
+/// Repeats a recorded answer if a pool may give it, and refuses else. Nothing is lent.
 #[derive(Drop)]
 pub struct Recorded {
     pub answer: Option<Lend>,
@@ -41,7 +41,7 @@ fn repeated(figures: Figures, units: u64, recorded: Option<Lend>) -> Lend
     }
 }
 
-/// Whether a pool with these figures may answer so to a request for units.
+/// Whether a pool with these figures may give this answer to a request for units.
 fn may_answer(figures: Figures, units: u64, answer: Lend) -> bool
     requires { figures.lent ≤ figures.limit }
     ensures { IsTrue result ↔ IsAnswer figures units answer }

@@ -13,9 +13,9 @@ use ras_machine::{Machine, prepare};
 use std::alloc::AllocError;
 use zone_events::{Event, Outcome};
 
-/// Does a recorded step again. It answers true if and only if the machine has a step with this event
-/// and this outcome from where it stands; then it stands at the state after it. Where it answers
-/// false it may have made another step.
+/// Does a recorded step again. True is returned if and only if the machine has a step with this
+/// event and this outcome from where it stands; then the machine stands at the state after that
+/// step. If false is returned, the machine may have made another step.
 pub fn redo(machine: &mut Machine, event: &Event, outcome: &Outcome) -> Result<bool, AllocError>
     requires { Sound machine.old }
     ensures redoes { IfOk result
@@ -42,7 +42,7 @@ pub fn redo(machine: &mut Machine, event: &Event, outcome: &Outcome) -> Result<b
 }
 
 /// Does a recorded step again, if the machine has one with this event and this outcome from that
-/// state: then it answers true, and the snapshot is the state after it. Else it answers false, and
+/// state: then it returns true, and the snapshot is the state after it. Else it returns false, and
 /// the snapshot is as it was.
 pub fn accepts(
     snapshot: &mut Snapshot,

@@ -7,11 +7,11 @@ use Rattle.books.specs.Chapters.{FinishedValue}
 use Rattle.books.specs.Totals.{datagrams_of, lent_of, returned_by, turns_of}
 use Rattle.zone_lock.specs.Held.{IsLedInUse}
 
--- The history that a server leaves of a zone that was locked in this state. The entries since the last
--- chapter lead from the state after it to that of the zone, which is sound; where no chapter has ended,
--- they lead from the state in which the zone was locked. The settings are the same. The bandwidth in use
--- is what was in use then, with what was lent in the whole history, but without what came back in it.
--- The whole history has so many datagrams and so many turns.
+-- The history that a server leaves of a zone that was locked in this state. The entries since the
+-- last chapter lead from the state after it to that of the zone, which is sound; if no chapter has
+-- ended, they lead from the state in which the zone was locked. The settings are the same. The
+-- bandwidth in use is what was in use then, with what was lent in the whole history, but without
+-- what came back in it. The whole history has `datagrams` datagrams and `turns` turns.
 pub record IsServed (opened : State) (f : FinishedValue) (datagrams turns : ℕ) : Type 0 where
   pub run : BookRun f.base f.entries f.zone.state
   pub sound : Sound f.zone.state

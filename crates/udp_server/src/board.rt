@@ -66,7 +66,7 @@ impl Board {
         self.sender.unpark();
     }
 
-    /// Waits for a reply, or for the end of a worker. It returns at once where there was one since it
+    /// Waits for a reply, or for the end of a worker. It returns at once if there was one since it
     /// returned last.
     pub(crate) fn wait_for_reply(&self, rt: &impl Wait) {
         self.sender.park(rt);
@@ -81,12 +81,12 @@ impl Board {
         self.sender.unpark();
     }
 
-    /// Whether so many workers have ended.
+    /// Whether this many workers have ended.
     pub(crate) fn have_ended(&self, rt: &impl Wait, workers: usize) -> bool {
         *self.ended.lock(rt) >= workers
     }
 
-    /// Waits for a tick, or until so many workers have ended. Whether they have.
+    /// Waits for a tick, or until this many workers have ended. Whether they have.
     pub(crate) fn wait_for_tick<R: Wait + Clock>(
         &self,
         rt: &R,

@@ -28,7 +28,7 @@ impl Chapters {
         }
     }
 
-    /// Ends a chapter where one is due by the plan: a step was the entry at this place.
+    /// Ends a chapter if one is due by the plan: a step was the entry at this place.
     pub(crate) fn end_if_due<P: Pool, D: Hall, T: Ledger, U: Ledger, R: Wait, G: Gate>(
         &mut self,
         shared: &Shared<'_, P, D, T, U, R, G>,
@@ -45,7 +45,7 @@ impl Chapters {
         Ok(())
     }
 
-    /// Makes room for a chapter, where it is to be kept beside those that are there.
+    /// Makes room for a chapter, if it is to be kept beside those that are there.
     fn make_room(&mut self, plan: Plan) -> Result<(), AllocError>
         ensures { OnOk result (vec_len self.new.latest < plan.latest
             → vec_len self.new.latest < vec_capacity self.new.latest) }
@@ -56,7 +56,7 @@ impl Chapters {
         Ok(())
     }
 
-    /// Keeps a chapter, and lets the oldest one go where there are as many as are kept.
+    /// Keeps a chapter, and lets the oldest one go if there are as many as are kept.
     fn keep(&mut self, plan: Plan, chapter: Chapter)
         requires { vec_len self.old.latest < plan.latest
             → vec_len self.old.latest < vec_capacity self.old.latest }

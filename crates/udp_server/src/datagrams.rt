@@ -13,7 +13,7 @@ pub const MOST_RECEIVED: usize = 4_097;
 /// What a receive gave.
 #[derive(Clone, Copy)]
 pub enum Received {
-    /// A datagram from this address; so many octets stand at the front of the buffer.
+    /// A datagram from this address, of this many octets. They stand at the front of the buffer.
     Datagram(Source, usize),
     /// Nothing came for some time.
     Quiet,

@@ -15,8 +15,8 @@ use zone_lock::Hall;
 /// How many turns are made at most at one tick.
 const MOST_TURNS: usize = 1_000;
 
-/// Makes the turns that are due at each tick, until so many other workers have ended, or no step may be
-/// made any more.
+/// Makes the turns that are due at each tick, until this many other workers have ended, or no step
+/// may be made any more.
 pub(crate) fn expire<P: Pool, D: Hall, T: Ledger, U: Ledger, R: Wait + Clock, G: Gate, C: Moments>(
     shared: &Shared<'_, P, D, T, U, R, G>,
     others: usize,

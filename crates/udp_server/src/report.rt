@@ -28,7 +28,7 @@ pub struct Report<P: Pool> {
     pub finished: Finished<P>,
     /// The latest chapters, in order.
     pub chapters: Vec<Chapter>,
-    /// The receipts of all steps, seat by seat, where the plan asks for them.
+    /// The receipts of all steps, seat by seat, if the plan asks for them.
     pub receipts: Vec<Receipt>,
 }
 

@@ -19,7 +19,7 @@ pub(crate) struct SendCounts {
     pub(crate) faults: u64,
 }
 
-/// Sends what the workers hand over, until so many of them have ended and their rings are empty.
+/// Sends what the workers hand over, until this many of them have ended and their rings are empty.
 pub(crate) fn send_all<R: Wait, N: Datagrams>(
     rt: &R,
     board: &Board,

@@ -114,8 +114,8 @@ impl<D: Hall, T: Ledger, U: Ledger, C: Moments> Worker<D, T, U, C> {
         }
     }
 
-    /// Reads the datagram of an event, and makes room for a receipt and for the copy of a reply where
-    /// receipts are kept.
+    /// Reads the datagram of an event. If receipts are kept, makes room for one and for the copy of
+    /// a reply.
     fn ready<P: Pool, R: Wait, G: Gate>(
         &mut self,
         shared: &Shared<'_, P, D, T, U, R, G>,
@@ -162,7 +162,7 @@ impl<D: Hall, T: Ledger, U: Ledger, C: Moments> Worker<D, T, U, C> {
         StepResult::Made { place, is_idle }
     }
 
-    /// What is sent; the receipt is kept where there is a buffer for the copy of that.
+    /// What is sent. The receipt is kept if there is a buffer for the copy of what is sent.
     fn reply_of(&mut self, receipt: Receipt, buffer: Option<Vec<u8>>) -> Option<Datagram>
         requires few { HasFewOctets receipt.outcome.output }
         requires room { ForSome buffer (λ buffer. IsRoom buffer self.old.receipts) }

@@ -63,20 +63,20 @@ fn bound<R: Net>(rt: &R, address: Address) -> io::Result<UdpSocket> {
 }
 
 impl BoundSocket {
-    /// An end that receives and sends over the socket. It stops after so many receives, if a number is
-    /// given, and once it is told to.
+    /// An end that receives and sends over the socket. It stops after this many receives, if a
+    /// number is given, and once it is told to.
     pub fn end<'a, S: Stop>(&'a self, receives: Option<u64>, stop: &'a S) -> SocketEnd<'a, S> {
         SocketEnd::new(&self.socket, receives, stop)
     }
 
-    /// The address that is bound; None if the system doesn't tell one of IPv4. Where the port 0 was
+    /// The address that is bound; None if the system doesn't tell one of IPv4. If the port 0 was
     /// asked for, the system has chosen another.
     pub fn address(&self) -> Option<Address> {
         ras_address(self.socket.local_addr().ok()?)
     }
 
-    /// Asks the system to hold so many octets of datagrams that aren't received yet. How many it
-    /// grants, which may be fewer; None if it doesn't tell.
+    /// Asks the system to hold this many octets of datagrams that aren't received yet. Returns how
+    /// many it grants, which may be fewer; None if it doesn't tell.
     pub fn reserve_buffer(&self, octets: u64) -> Option<u64> {
         let asked = i32::try_from(octets).ok()?;
         let mut value = [0u8; 16];

@@ -58,7 +58,8 @@ impl<'a, S: Stop> SocketEnd<'a, S> {
     }
 }
 
-/// Whether a receive failed just since nothing came, or since the program was stopped and goes on.
+/// Whether a receive failed only because nothing came, or because the program was stopped and
+/// goes on.
 fn is_quiet(kind: ErrorKind) -> bool {
     matches!(
         kind,

@@ -33,10 +33,10 @@ abbrev pub IsLedInUse : State → State → ℕ → ℕ → Type 0
 IsLedInUse old new lent returned =
     in_use new.tables.calls + returned ≡ in_use old.tables.calls + lent
 
--- What holds whenever the lock is free. The book leads from its base to the state of the zone. Before
--- its first entry there were as many datagrams and turns as its place says. Where no chapter was cut,
--- the book begins with the state in which the zone was locked; else what is in use at its base follows
--- from the totals before it, and its settings are the same.
+-- What holds whenever the lock is free. The book leads from its base to the state of the zone.
+-- Before its first entry there were as many datagrams and turns as its place says. If no chapter
+-- was cut, the book begins with the state in which the zone was locked; otherwise what is in use at
+-- its base follows from the totals before it, and its settings are the same.
 pub record IsKept (opened : State) (h : Held) : Type 0 where
   pub run : BookRun h.base h.entries h.zone.state
   pub first : h.carried.datagrams + h.carried.turns ≡ h.first

@@ -32,7 +32,7 @@ seated_after seat event outcome = record {
   lent = seat.lent + units_lent outcome.answer;
 }
 
--- a lock has so many seats
+-- a lock has this many seats
 pub record IsSeatCount (seats : ℕ) : Type 0 where
   pub some : 1 ≤ seats
   pub most : seats ≤ 16

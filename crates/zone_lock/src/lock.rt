@@ -41,7 +41,7 @@ pub struct Blanks {
 }
 
 impl Blanks {
-    /// For so many seats.
+    /// For this many seats.
     pub fn new(seats: usize) -> Self
         ensures datagrams { result.datagrams.parts ≡ seats }
         ensures turns { result.turns.parts ≡ seats }
@@ -76,8 +76,8 @@ impl OpenFault {
 }
 
 impl<P: Pool, D: Hall, T: Ledger, U: Ledger> ZoneLock<P, D, T, U> {
-    /// Locks a zone, and makes its seats, 1 to 16 of them, which made no step yet. Else, or where
-    /// there is no memory, the zone comes back.
+    /// Locks a zone, and makes its seats, which made no step yet. If there are not 1 to 16 of them,
+    /// or if there is no memory, the zone comes back.
     pub fn open(
         alloc: Global,
         zone: Zone<P>,
@@ -170,8 +170,8 @@ impl<P: Pool, D: Hall, T: Ledger, U: Ledger> ZoneLock<P, D, T, U> {
         cut_locked(&mut *self.inner.lock(rt))
     }
 
-    /// Takes the zone out, with its history since the last chapter. It is refused exactly where the
-    /// seats are not all of this lock's; lock and seats then come back.
+    /// Takes the zone out, with its history since the last chapter. It is refused if and only if
+    /// the seats are not all of this lock's; lock and seats then come back.
     pub fn finish(
         self,
         seats: Vec<Seat<D, T, U>>,
@@ -240,7 +240,7 @@ fn base_of<P: Pool>(alloc: Global, zone: &Zone<P>) -> Result<SharedSnapshot, All
     SharedSnapshot::new(alloc, snapshot)
 }
 
-/// So many seats, which made no step, with the books of their ledgers.
+/// This many seats, which made no step, with the books of their ledgers.
 fn seats_of<D: Hall, T: Ledger, U: Ledger>(
     room: Vec<Seat<D, T, U>>,
     seats: usize,

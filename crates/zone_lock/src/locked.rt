@@ -65,7 +65,7 @@ impl<P: Pool, D: Hall, T: Ledger, U: Ledger> Model for Locked<P, D, T, U> {
 }
 
 /// Makes one step of the locked zone, which is the last entry afterwards, or changes nothing. It is
-/// refused as Closed exactly where 2^62 steps were made. All memory is there before the step.
+/// refused as Closed if and only if 2^62 steps were made. All memory is there before the step.
 pub fn apply_locked<P: Pool, D: Hall, T: Ledger, U: Ledger>(
     locked: &mut Locked<P, D, T, U>,
     seat: &mut Seat<D, T, U>,

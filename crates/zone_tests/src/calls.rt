@@ -9,7 +9,7 @@ use std::test::Fail;
 use vectors::replies::{ACF_900, ACF_1280, ARJ, BCF, DCF, URJ};
 use vectors::requests::{ARQ, ARQ_ANSWER, ARQ_OF_A_SECOND_CALL, BRQ, DRQ, RRQ_101, RRQ_102, URQ};
 
-/// Whether the request of 10.0.0.LAST is answered so, where the pool is or isn't asked, and so many
+/// Whether the request of 10.0.0.LAST is answered so, the pool is or isn't asked, and this many
 /// units are in use afterwards.
 fn is_served(
     alloc: Global,

@@ -30,7 +30,7 @@ impl Met {
         }
     }
 
-    /// Whether the pool was asked so often, and had so many turns.
+    /// Whether the pool was asked `lends` times, and had `turns` turns.
     fn is(&self, lends: u64, turns: u64) -> bool {
         self.lends.load(Ordering::SeqCst) == lends && self.turns.load(Ordering::SeqCst) == turns
     }
@@ -135,7 +135,7 @@ fn paced_zone(
     counted_zone(alloc, parts, first, second)
 }
 
-/// Whether the datagram of 10.0.0.LAST gets this reply, or none where it is empty, and is noted so.
+/// Whether the datagram of 10.0.0.LAST gets this reply, or none if it is empty, and is noted so.
 fn is_told<P: Pool>(
     alloc: Global,
     zone: &mut Zone<CountingPool<P>>,
@@ -192,7 +192,8 @@ fn an_ignored_datagram_asks_no_pool(rt: HostRuntime) -> Result<(), Fail> {
     Ok(())
 }
 
-/// Whether a request for bandwidth asks no pool where one reply is kept at most, and that of another endpoint is.
+/// Whether a request for bandwidth asks no pool if at most one reply is kept, and that is
+/// another endpoint's.
 fn is_busy(
     alloc: Global,
     zone: &mut Zone<CountingPool<FixedPool>>,
@@ -297,8 +298,8 @@ fn kind_of(note: Note) -> Option<Kind> {
     }
 }
 
-/// Whether this is noted of a turn at each of these moments, and by then the second pool was asked so often, the
-/// first never, and each has had so many turns.
+/// Whether this is noted of a turn at each of these moments, and by then the second pool was asked
+/// this many times, the first never, and each has had this many turns.
 fn are_turned<P: Pool>(
     zone: &mut Zone<CountingPool<P>>,
     first: &Met,
@@ -353,8 +354,8 @@ fn a_turn_of_the_pools_reaches_each_pool_once(rt: HostRuntime) -> Result<(), Fai
 
 // An endpoint in a call is silent for 1,000 milliseconds, is asked once, and has 500 for an answer; three replies are
 // kept for 10,000; two registrations live for 60 seconds; and the pools' turn is due at 100,000.
-/// Whether no pool meets anything where a zone interrogates an endpoint, takes its legs, lets go what is kept, and
-/// ends registrations; and each has its turn when that is due.
+/// Whether no pool meets anything if a zone interrogates an endpoint, takes its legs, lets go what
+/// is kept, and ends registrations; and each has its turn when that is due.
 fn has_no_turn_else(
     alloc: Global,
     zone: &mut Zone<CountingPool<FixedPool>>,

@@ -10,8 +10,8 @@ use std::test::Fail;
 use vectors::replies::{RCF_0001, RCF_0002, RRJ_DUPLICATE, RRJ_FULL};
 use vectors::requests::{KEEP_ALIVE, RRQ_101, RRQ_102, RRQ_109_101, URQ};
 
-/// Whether the datagram is answered so, with or without a new identifier, and leaves so many
-/// endpoints.
+/// Whether the datagram is answered so, with or without a new identifier, and leaves this
+/// many endpoints.
 fn is_answered(
     alloc: Global,
     zone: &mut Zone<FixedPool>,

@@ -148,8 +148,9 @@ fn is_grq_at(event: &Event, milliseconds: u64) -> bool {
     }
 }
 
-/// Whether a request whose datagram is read before its step gets the reply that it gets else, and a datagram of
-/// one octet too many is read as too long. An event that was read is the same event still.
+/// Whether a request whose datagram is read before its step gets the reply that it gets otherwise,
+/// and a datagram of one octet too many is read as too long. An event that was read is the same
+/// event still.
 fn is_prepared(alloc: Global, zone: &mut Zone<FixedPool>) -> Result<bool, Fail> {
     let request = prepare(alloc, event(alloc, &GRQ, 5)?)?;
     let is_same = is_grq_at(&request.event()?, 5);

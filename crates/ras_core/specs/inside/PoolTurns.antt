@@ -9,6 +9,6 @@ abbrev pub is_pool_turn : Course → Bool
 is_pool_turn (Doing PoolTurn) = true
 is_pool_turn other = false
 
--- the tallies after it, where it is made
+-- the tallies after it, if it is made
 abbrev pub tallies_turned : List Tally → Bool → List Tally
 tallies_turned tallies turn = if turn then tallies_after_turn tallies else tallies

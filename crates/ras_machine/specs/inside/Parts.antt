@@ -18,7 +18,7 @@ state_of tables kept clock interrogation_number next_pool_turn steps = record {
   steps = steps;
 }
 
--- what its parts keep by their types, and how they fit together; so many steps were made
+-- what its parts keep by their types, and how they fit together; `made` steps were made
 pub record AreSoundParts (z : Tables) (replies : KeptTable) (moment number made : ℕ) : Type 0 where
   pub tables : SoundTables z
   pub kept : IsConsistent replies
