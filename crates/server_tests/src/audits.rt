@@ -92,3 +92,40 @@ fn a_running_server_is_audited_in_chapters(rt: HostRuntime) {
     let passed = passes(&rt, rt.alloc(), 10);
     assert!(rt; passed == Some((true, true)));
 }
+
+/// Whether these are two chapters of one turn each, one behind the other, right before what is left.
+fn are_latest<P: Pool>(report: &Report<P>) -> bool {
+    let [one, other] = report.chapters.as_slice() else {
+        return false;
+    };
+    let finished = &report.finished;
+    one.entries().len() == 1
+        && other.entries().len() == 1
+        && one.first().saturating_add(1) == other.first()
+        && other.first().saturating_add(1) == finished.first()
+        && finished.entries().is_empty()
+}
+
+/// Whether a server that ends a chapter after each turn, and keeps two of them, has the latest two.
+fn keeps_latest<R: Threads + Wait + Clock + Sync>(rt: &R, alloc: Global) -> Option<bool> {
+    let (sent, reads, impatient) = (AtomicU64::new(0), AtomicU64::new(0), AtomicU64::new(0));
+    let room = Room {
+        rt,
+        sent: &sent,
+        reads: &reads,
+        impatient: &impatient,
+    };
+    let plan = Plan {
+        chapter: 1,
+        latest: 2,
+        ..PLAN
+    };
+    let report = report(rt, alloc, &room, plan)?;
+    Some(are_latest(&report))
+}
+
+#[test]
+fn the_latest_chapters_are_kept(rt: HostRuntime) {
+    let kept = keeps_latest(&rt, rt.alloc());
+    assert!(rt; kept == Some(true));
+}

@@ -19,6 +19,8 @@ use zone_events::Datagram;
 #[derive(Clone, Copy)]
 enum Deed {
     Gives,
+    /// It gives a discovery with octets behind it, one more than a request may have.
+    GivesTooMuch,
     Fails,
     IsQuiet,
 }
@@ -64,6 +66,11 @@ impl Datagrams for Faulty {
                 let octets = discovery(0, self.next as u64);
                 buffer[..octets.len()].copy_from_slice(&octets);
                 Ok(Received::Datagram(ENDPOINT, octets.len()))
+            }
+            Some(Deed::GivesTooMuch) => {
+                let octets = discovery(0, self.next as u64);
+                buffer[..octets.len()].copy_from_slice(&octets);
+                Ok(Received::Datagram(ENDPOINT, 4_097))
             }
         }
     }
@@ -131,18 +138,53 @@ const FAILING: [Deed; 8] = [
     Deed::Gives,
 ];
 
+/// The same, if it is a datagram that parts them.
+const PARTED: [Deed; 7] = [
+    Deed::Fails,
+    Deed::Fails,
+    Deed::Gives,
+    Deed::Fails,
+    Deed::Fails,
+    Deed::Fails,
+    Deed::Gives,
+];
+
 /// How many datagrams were received, and how many receives have failed, if a worker stops after three
 /// failed receives in a row.
-fn failed_receives<R: Threads + Wait + Clock + Sync>(rt: &R, alloc: Global) -> Option<(u64, u64)> {
+fn failed_receives<R: Threads + Wait + Clock + Sync>(
+    rt: &R,
+    alloc: Global,
+    deeds: &'static [Deed],
+) -> Option<(u64, u64)> {
     let plan = Plan { faults: 3, ..PLAN };
-    let report = served(rt, alloc, &FAILING, plan)?;
+    let report = served(rt, alloc, deeds, plan)?;
     Some((report.datagrams, report.receive_faults))
 }
 
 #[test]
 fn a_worker_stops_after_failed_receives_in_a_row(rt: HostRuntime) {
-    let failed = failed_receives(&rt, rt.alloc());
+    let failed = failed_receives(&rt, rt.alloc(), &FAILING);
     assert!(rt; failed == Some((1, 5)));
+}
+
+#[test]
+fn a_datagram_parts_failed_receives(rt: HostRuntime) {
+    let failed = failed_receives(&rt, rt.alloc(), &PARTED);
+    assert!(rt; failed == Some((1, 5)));
+}
+
+/// How many datagrams made a step, and how many replies there were, if the first of two datagrams has
+/// 4,097 octets.
+fn too_much<R: Threads + Wait + Clock + Sync>(rt: &R, alloc: Global) -> Option<(u64, u64)> {
+    const DEEDS: [Deed; 2] = [Deed::GivesTooMuch, Deed::Gives];
+    let report = served(rt, alloc, &DEEDS, PLAN)?;
+    Some((report.datagrams, outputs(&report)))
+}
+
+#[test]
+fn a_datagram_that_is_too_long_has_no_reply(rt: HostRuntime) {
+    let counts = too_much(&rt, rt.alloc());
+    assert!(rt; counts == Some((2, 1)));
 }
 
 const GIVING: [Deed; 9] = [Deed::Gives; 9];
