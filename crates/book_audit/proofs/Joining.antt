@@ -14,7 +14,8 @@ use Rattle.book_audit.specs.Joined.{AreTotals, ChaptersLead, IsJoined, beginning
 use Rattle.book_audit.specs.Joined.{entries_of, history_entries}
 use Rattle.book_audit.specs.inside.Runs.{AreRuns}
 use Rattle.book_audit.proofs.EntrySums.{datagrams_of-append, lent_of-append, turns_of-append}
-use Rattle.book_audit.proofs.Leading.{is_short, one_totals, run_of, run_on, totals_are}
+use Rattle.books.proofs.Entries.{run_on}
+use Rattle.book_audit.proofs.Leading.{is_short, one_totals, run_of, totals_are}
 
 -- the chapters lead from the state with which the history began to that with which the rest begins
 pub record LeadOn (chapters : List ChapterValue) (finished : FinishedValue) (start base : State)

@@ -15,6 +15,7 @@ use Rattle.books.specs.declared.book.Entry.{Entry}
 use Rattle.books.specs.declared.totals.Totals.{Totals}
 use Rattle.books.specs.Books.{BookRun}
 use Rattle.books.specs.Chapters.{ChapterValue}
+use Rattle.books.proofs.Entries.{run_on}
 use Rattle.books.proofs.Spending.{book_is_fair, step_is_fair}
 use Rattle.book_audit.specs.Joined.{AreTotals, ChaptersLead, chapters_totals}
 use Rattle.book_audit.specs.Joined.{entries_of}
@@ -76,13 +77,6 @@ module _ (start state : State) (all : List ChapterValue) (place i : ℕ) where
       → IsLeft start all place state []
   all_passed past left =
       subst (IsLeft start all place state) (drop_of_length-le all past) left
-
--- runs, one after the other
-pub run_on : (s mid t : State) (xs ys : List Entry) → BookRun s xs mid → BookRun mid ys t
-    → BookRun s (xs ++ ys) t
-run_on s mid t [] ys first second = subst (λ (x : State). BookRun x ys t) first second
-run_on s mid t (e ∷ xs) ys first second =
-    (first.0, first.1, run_on first.0 mid t xs ys first.2 second)
 
 -- the entries of chapters that lead from one state to another are a run
 pub run_of : (chapters : List ChapterValue) (p q : ℕ) (s t : State) → AreRuns chapters

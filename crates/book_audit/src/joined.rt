@@ -24,7 +24,7 @@ pub(crate) fn joined_totals<P: Pool>(chapters: &[Chapter], finished: &Finished<P
     ensures none { IfNone result (IsJoined chapters.now finished.now → ⊥) }
 {
     let start = beginning(chapters, finished);
-    let base = finished.base().machine();
+    let base = finished.base();
     if !do_lead(chapters, start, finished.first(), base) {
         return None;
     }
@@ -44,7 +44,7 @@ fn beginning<'a, P: Pool>(chapters: &'a [Chapter], finished: &'a Finished<P>) ->
 {
     match chapters.first() {
         Some(chapter) => chapter.base().machine(),
-        None => finished.base().machine(),
+        None => finished.base(),
     }
 }
 

@@ -17,6 +17,13 @@ run_more base now after [] entry run step =
 run_more base now after (e ∷ entries) entry run step =
     (run.0, run.1, run_more run.0 now after entries entry run.2 step)
 
+-- what leads on from where a book led
+pub run_on : (base mid now : State) (xs ys : List Entry) → BookRun base xs mid → BookRun mid ys now
+    → BookRun base (xs ++ ys) now
+run_on base mid now [] ys first second = subst (λ (s : State). BookRun s ys now) first second
+run_on base mid now (e ∷ xs) ys first second =
+    (first.0, first.1, run_on first.0 mid now xs ys first.2 second)
+
 -- one more entry adds to its own seat, and to no other
 pub of_seat_more : (seat : ℕ) (entries : List Entry) (entry : Entry)
     → entries_of_seat seat (entries ++ entry ∷ [])

@@ -1,5 +1,5 @@
 -- Chapters of a history, and its end.
-use Rattle.std.specs.Prelude.{ℕ, List}
+use Rattle.std.specs.Prelude.{ℕ, List, Option, None, Some}
 use Rattle.ras_machine.specs.State.{State}
 use Rattle.ras_core.specs.Running.{Running}
 use Rattle.books.specs.declared.book.Entry.{Entry}
@@ -21,3 +21,8 @@ pub record FinishedValue : Type 0 where
   pub entries : List Entry
   pub first : ℕ
   pub carried : Totals
+
+-- the state after the last chapter: the one that was kept, or, if none was, that of the zone
+abbrev pub base_or : Option State → State → State
+base_or (Some base) now = base
+base_or None now = now

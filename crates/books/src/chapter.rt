@@ -12,7 +12,6 @@ use std::marker::Model;
 
 /// A chapter of a history: the place of its first entry in the whole history, the state in which it
 /// begins, its entries, and the state to which they lead.
-#[derive(Drop)]
 pub struct Chapter {
     first: usize,
     base: SharedSnapshot,
@@ -38,6 +37,18 @@ impl Model for Chapter {
     } };
 
     ghost invariant = { λ c. BookRun c.base c.entries.items c.end };
+}
+
+// Written by hand, so that whoever owns a chapter makes one call at each exit.
+impl Drop for Chapter {
+    fn drop(self) {
+        let Chapter {
+            first: _,
+            base: _,
+            entries: _,
+            end: _,
+        } = self;
+    }
 }
 
 impl Chapter {

@@ -2,21 +2,22 @@
 
 ghost use Rattle.std.specs.Prelude.{◌≡◌};
 ghost use Rattle.books.specs.Books.{BookRun};
+ghost use Rattle.books.specs.Chapters.{base_or};
 
 use crate::book::Entry;
 use crate::shared::SharedSnapshot;
 use crate::totals::Totals;
 use pools::Pool;
-use ras_core::{Snapshot, Zone};
+use ras_core::Zone;
+use ras_machine::Machine;
 use std::marker::Model;
 
-/// A history that goes no further: the zone as it is left; the state after the last chapter; the
-/// entries since then, which lead from that state to the zone; the place of the first of these
-/// entries in the whole history; and the totals of all chapters.
-#[derive(Drop)]
+/// A history that goes no further: the zone as it is left; the state after the last chapter, unless
+/// that is the state of the zone; the entries since then, which lead from that state to the zone; the
+/// place of the first of these entries in the whole history; and the totals of all chapters.
 pub struct Finished<P: Pool> {
     zone: Zone<P>,
-    base: SharedSnapshot,
+    base: Option<SharedSnapshot>,
     entries: Vec<Entry>,
     first: usize,
     carried: Totals,
@@ -26,7 +27,7 @@ impl<P: Pool> Model for Finished<P> {
     ghost use Rattle.std.specs.Coded.{codes};
     ghost use Rattle.std.specs.FinMap as map;
     ghost use Rattle.books.specs.Books.{BookRun};
-    ghost use Rattle.books.specs.Chapters.{FinishedValue};
+    ghost use Rattle.books.specs.Chapters.{FinishedValue, base_or};
 
     ghost Value = { FinishedValue };
 
@@ -34,27 +35,41 @@ impl<P: Pool> Model for Finished<P> {
 
     ghost view = { λ f. record {
       zone = f.zone;
-      base = f.base;
+      base = base_or f.base f.zone.state;
       entries = f.entries.items;
       first = f.first;
       carried = f.carried;
     } };
 
-    ghost invariant = { λ f. BookRun f.base f.entries.items f.zone.state };
+    ghost invariant = { λ f. BookRun (base_or f.base f.zone.state) f.entries.items f.zone.state };
+}
+
+// Written by hand, so that whoever owns what is left makes one call at each exit.
+impl<P: Pool> Drop for Finished<P> {
+    fn drop(self) {
+        let Finished {
+            zone: _,
+            base: _,
+            entries: _,
+            first: _,
+            carried: _,
+        } = self;
+    }
 }
 
 impl<P: Pool> Finished<P> {
-    /// A history whose entries since the last chapter lead from the state after it to the zone.
+    /// A history whose entries since the last chapter lead from the state after it to the zone. If no
+    /// such state is given, it is that of the zone.
     pub fn new(
         zone: Zone<P>,
-        base: SharedSnapshot,
+        base: Option<SharedSnapshot>,
         entries: Vec<Entry>,
         first: usize,
         carried: Totals,
     ) -> Self
-        requires { BookRun base entries.items zone.state }
+        requires { BookRun (base_or base zone.state) entries.items zone.state }
         ensures zone { result.zone ≡ zone }
-        ensures base { result.base ≡ base }
+        ensures base { result.base ≡ base_or base zone.state }
         ensures entries { result.entries ≡ entries.items }
         ensures first { result.first ≡ first }
         ensures carried { result.carried ≡ carried }
@@ -76,10 +91,13 @@ impl<P: Pool> Finished<P> {
     }
 
     /// The state after the last chapter, or, if there was none, the one with which the history began.
-    pub fn base(&self) -> &Snapshot
+    pub fn base(&self) -> &Machine
         ensures { result.now ≡ self.now.base }
     {
-        self.base.snapshot()
+        match &self.base {
+            Some(base) => base.snapshot().machine(),
+            None => self.zone.machine(),
+        }
     }
 
     /// The entries since the last chapter: they lead from the state after it to that of the zone.

@@ -28,16 +28,9 @@ use std::time::Instant;
 use udp_server::{Open, Plan, Report, serve_zone};
 use udp_socket::{BoundSocket, SocketEnd, Stop, bind_zone};
 
-/// With how many entries a chapter of the history ends at least.
-const SHORT_CHAPTER: usize = 4_096;
-
-/// With how many entries a chapter of the history ends: as many as the tables of the zone have places.
-/// The end of a chapter copies what is in the tables while all workers wait. So each request bears the
-/// same share of that copy in a large zone as in a small one.
-fn chapter_of(config: &Config) -> usize {
-    let places = config.endpoints().saturating_add(config.calls());
-    places.saturating_add(config.kept()).max(SHORT_CHAPTER)
-}
+/// With how many entries or more a chapter of the history ends. The report has no chapter, so that its
+/// entries are let go then.
+const CHAPTER: usize = 4_096;
 
 /// A name as people read it.
 #[derive(Drop)]
@@ -78,7 +71,7 @@ impl Service {
                 ring: settings.ring,
                 faults: settings.faults,
                 tick: settings.tick,
-                chapter: chapter_of(&settings.config),
+                chapter: CHAPTER,
                 latest: 0,
                 receipts: false,
             },

@@ -6,6 +6,8 @@ mod audits;
 #[cfg(test)]
 mod chapters;
 #[cfg(test)]
+mod discarding;
+#[cfg(test)]
 mod fixtures;
 #[cfg(test)]
 mod locks;

@@ -3,6 +3,7 @@
 ghost use Rattle.std.specs.Prelude.{◌≡◌};
 
 use crate::chapters::has_chapters;
+use crate::discarding::has_discarded;
 use crate::fixtures::zone;
 use crate::seats::{are_listed, are_seated, is_short_of_a_seat};
 use crate::threads::are_all_entered;
@@ -23,6 +24,7 @@ pub enum Deed {
     Listing,
     SeatMissing,
     Chapters,
+    Discarding,
     Threads,
 }
 
@@ -68,6 +70,7 @@ fn open_and_do<
             Deed::Listing => are_listed(rt, alloc, lock, seats),
             Deed::SeatMissing => is_short_of_a_seat(lock, seats),
             Deed::Chapters => has_chapters(rt, alloc, lock, seats),
+            Deed::Discarding => has_discarded(rt, alloc, lock, seats),
             Deed::Threads => are_all_entered(rt, alloc, lock, seats),
         },
         Err((_, OpenFault::BadSeats)) => Some(false),

@@ -9,7 +9,7 @@ use std::alloc::{AllocError, Global};
 use std::sync::Wait;
 use std::sync::atomic::{AtomicU64, Ordering};
 use std::sync::ledger::Ledger;
-use zone_lock::{Hall, Listing, Seat, ZoneLock};
+use zone_lock::{CutFault, Hall, Listing, Seat, ZoneLock};
 
 const CHANGED: &str = "a refused call changed the locked zone";
 
@@ -107,7 +107,8 @@ pub fn cut<P: Pool, D: Hall, T: Ledger, U: Ledger, R: Wait>(
     let before = listing_of(hold)?;
     let chapter = match hold.lock.cut(hold.rt) {
         Ok(chapter) => chapter,
-        Err(AllocError) => {
+        Err(CutFault::NoBase) => return Err("the state in which the chapter begins is gone"),
+        Err(CutFault::Memory) => {
             expect_unchanged(hold, &before)?;
             hold.lock.cut(hold.rt).map_err(|_| TWICE)?
         }

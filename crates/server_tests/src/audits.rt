@@ -106,8 +106,24 @@ fn are_latest<P: Pool>(report: &Report<P>) -> bool {
         && finished.entries().is_empty()
 }
 
-/// Whether a server that ends a chapter after each turn, and keeps two of them, has the latest two.
-fn keeps_latest<R: Threads + Wait + Clock + Sync>(rt: &R, alloc: Global) -> Option<bool> {
+/// Whether all steps were let go: none is left, and the zone is where they led.
+fn are_let_go<P: Pool>(report: &Report<P>) -> bool {
+    let finished = &report.finished;
+    let steps = report.datagrams.saturating_add(report.turns);
+    finished.first() as u64 == steps
+        && finished.entries().is_empty()
+        && finished.base().is_same(finished.zone().machine())
+        && report.chapters.is_empty()
+        && report.turns >= 1
+}
+
+/// Whether a server that ends a chapter after each turn has the latest two, if it keeps two of them; or
+/// whether it has let all go, if it keeps none.
+fn keeps_latest<R: Threads + Wait + Clock + Sync>(
+    rt: &R,
+    alloc: Global,
+    latest: usize,
+) -> Option<bool> {
     let (sent, reads, impatient) = (AtomicU64::new(0), AtomicU64::new(0), AtomicU64::new(0));
     let room = Room {
         rt,
@@ -117,15 +133,24 @@ fn keeps_latest<R: Threads + Wait + Clock + Sync>(rt: &R, alloc: Global) -> Opti
     };
     let plan = Plan {
         chapter: 1,
-        latest: 2,
+        latest,
         ..PLAN
     };
     let report = report(rt, alloc, &room, plan)?;
+    if latest == 0 {
+        return Some(are_let_go(&report));
+    }
     Some(are_latest(&report))
 }
 
 #[test]
 fn the_latest_chapters_are_kept(rt: HostRuntime) {
-    let kept = keeps_latest(&rt, rt.alloc());
+    let kept = keeps_latest(&rt, rt.alloc(), 2);
+    assert!(rt; kept == Some(true));
+}
+
+#[test]
+fn a_server_without_chapters_lets_its_steps_go(rt: HostRuntime) {
+    let kept = keeps_latest(&rt, rt.alloc(), 0);
     assert!(rt; kept == Some(true));
 }

@@ -1,22 +1,26 @@
-//! The chapters of the history that end while a server runs.
+//! How the history is kept short while a server runs.
 
-ghost use Rattle.std.specs.Prelude.{◌<◌, OnOk, vec_capacity, vec_len};
+ghost use Rattle.std.specs.Prelude.{◌≡◌, ◌<◌, [], OnOk, vec_capacity, vec_len};
 
 use crate::gate::Gate;
 use crate::plan::Plan;
 use crate::worker::Shared;
-use books::Chapter;
+use books::{Chapter, Entry};
 use pools::Pool;
 use std::alloc::{AllocError, Global};
+use std::mem;
 use std::sync::Wait;
 use std::sync::ledger::Ledger;
-use zone_lock::Hall;
+use zone_lock::{Discarded, Hall};
 
-/// The latest chapters, and the place of the first entry behind them.
+/// The latest chapters, and the place of the first entry behind them. If no chapter is kept, the room of
+/// the entries that were let go last: the next ones stand there.
 #[derive(Drop)]
 pub(crate) struct Chapters {
     latest: Vec<Chapter>,
     first: usize,
+    room: Vec<Entry>,
+    ghost room_is_empty: { room.items ≡ [] },
 }
 
 impl Chapters {
@@ -25,10 +29,12 @@ impl Chapters {
         Chapters {
             latest: Vec::new(alloc),
             first: 0,
+            room: Vec::new(alloc),
         }
     }
 
-    /// Ends a chapter if one is due by the plan: a step was the entry at this place.
+    /// Ends a chapter if one is due by the plan: a step was the entry at this place. If no chapter is
+    /// kept, none is made: the entries are let go, once the lock is free.
     pub(crate) fn end_if_due<P: Pool, D: Hall, T: Ledger, U: Ledger, R: Wait, G: Gate>(
         &mut self,
         shared: &Shared<'_, P, D, T, U, R, G>,
@@ -38,11 +44,32 @@ impl Chapters {
         if shared.plan.chapter == 0 || entries < shared.plan.chapter {
             return Ok(());
         }
+        if shared.plan.latest == 0 {
+            self.let_go(shared);
+            return Ok(());
+        }
         self.make_room(shared.plan)?;
-        let chapter = shared.lock.cut(shared.rt)?;
+        let Ok(chapter) = shared.lock.cut(shared.rt) else {
+            return Err(AllocError);
+        };
         self.first = chapter.first().saturating_add(chapter.entries().len());
         self.keep(shared.plan, chapter);
         Ok(())
+    }
+
+    /// Lets the entries so far go, once the lock is free.
+    fn let_go<P: Pool, D: Hall, T: Ledger, U: Ledger, R: Wait, G: Gate>(
+        &mut self,
+        shared: &Shared<'_, P, D, T, U, R, G>,
+    ) {
+        let room = mem::replace(&mut self.room, Vec::new(shared.alloc));
+        let Discarded {
+            base: _,
+            mut entries,
+        } = shared.lock.discard(shared.rt, room);
+        self.first = self.first.saturating_add(entries.len());
+        entries.clear();
+        self.room = entries;
     }
 
     /// Makes room for a chapter, if it is to be kept beside those that are there.
@@ -58,12 +85,10 @@ impl Chapters {
 
     /// Keeps a chapter, and lets the oldest one go if there are as many as are kept.
     fn keep(&mut self, plan: Plan, chapter: Chapter)
-        requires { vec_len self.old.latest < plan.latest
+        requires some { 0 < plan.latest }
+        requires room { vec_len self.old.latest < plan.latest
             → vec_len self.old.latest < vec_capacity self.old.latest }
     {
-        if plan.latest == 0 {
-            return;
-        }
         if self.latest.len() >= plan.latest {
             let _ = self.latest.remove(0);
         }

@@ -11,7 +11,8 @@ pub struct Plan {
     pub tick: u64,
     /// With how many entries or more, after a turn, a chapter of the history ends; 0: none ends.
     pub chapter: usize,
-    /// How many of the latest chapters the report has; those before are let go.
+    /// How many of the latest chapters the report has; those before are let go. If it has none, a
+    /// chapter isn't made: its entries are let go, and the state of the zone isn't copied.
     pub latest: usize,
     /// Whether the report has a receipt of each step.
     pub receipts: bool,

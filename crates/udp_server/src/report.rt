@@ -8,7 +8,6 @@ use pools::Pool;
 use thiserror::Error;
 
 /// What came of a run. Each count stays at `u64::MAX` once it is there.
-#[derive(Drop)]
 pub struct Report<P: Pool> {
     /// How many datagrams made a step.
     pub datagrams: u64,
@@ -30,6 +29,24 @@ pub struct Report<P: Pool> {
     pub chapters: Vec<Chapter>,
     /// The receipts of all steps, seat by seat, if the plan asks for them.
     pub receipts: Vec<Receipt>,
+}
+
+// Written by hand, so that whoever owns a report makes one call at each exit.
+impl<P: Pool> Drop for Report<P> {
+    fn drop(self) {
+        let Report {
+            datagrams: _,
+            turns: _,
+            sent: _,
+            dropped: _,
+            refused: _,
+            receive_faults: _,
+            send_faults: _,
+            finished: _,
+            chapters: _,
+            receipts: _,
+        } = self;
+    }
 }
 
 /// Why there is no report.

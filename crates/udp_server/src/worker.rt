@@ -67,7 +67,6 @@ impl Counts {
 }
 
 /// One who makes steps.
-#[derive(Drop)]
 pub(crate) struct Worker<D: Hall, T: Ledger, U: Ledger, C: Moments> {
     pub(crate) number: usize,
     pub(crate) seat: Seat<D, T, U>,
@@ -75,6 +74,20 @@ pub(crate) struct Worker<D: Hall, T: Ledger, U: Ledger, C: Moments> {
     pub(crate) outlet: Outlet,
     pub(crate) receipts: Vec<Receipt>,
     pub(crate) counts: Counts,
+}
+
+// Written by hand, so that whoever owns a worker makes one call at each exit.
+impl<D: Hall, T: Ledger, U: Ledger, C: Moments> Drop for Worker<D, T, U, C> {
+    fn drop(self) {
+        let Worker {
+            number: _,
+            seat: _,
+            clock: _,
+            outlet: _,
+            receipts: _,
+            counts: _,
+        } = self;
+    }
 }
 
 /// What a worker leaves at its end.

@@ -1,5 +1,6 @@
 -- What stands behind a lock.
-use Rattle.std.specs.Prelude.{◌≡◌, ◌≤◌, ◌+◌, ◌*◌, ◌^◌, ℕ, List, [], length}
+use Rattle.std.specs.Prelude.{◌≡◌, ◌≤◌, ◌+◌, ◌*◌, ◌^◌, ◌++◌, ℕ, List, [], length, Option}
+use Rattle.std.specs.Option.{ForSome}
 use Rattle.admission.specs.Calls.{in_use}
 use Rattle.zone_config.specs.Defaults.{default_parts}
 use Rattle.zone_events.specs.declared.event.Event.{Event}
@@ -12,18 +13,19 @@ use Rattle.books.specs.declared.book.Entry.{Entry}
 use Rattle.books.specs.declared.book.Receipt.{Receipt}
 use Rattle.books.specs.declared.totals.Totals.{Totals}
 use Rattle.books.specs.Books.{BookRun}
-use Rattle.books.specs.Totals.{lent_of, no_totals, totals_with}
+use Rattle.books.specs.Chapters.{FinishedValue}
+use Rattle.books.specs.Totals.{datagrams_of, lent_of, no_totals, totals_with, turns_of}
 
 -- a state of a zone without pools
 abbrev pub idle_state : State
 idle_state = opening (default_parts [] (record { ip = []; port = 0 }) []) []
 
 -- The place of the book's first entry in the whole history, the totals of the entries before it, the
--- state in which the book begins, its entries, and the zone as it runs.
+-- state in which the book begins, unless no copy of it is kept, its entries, and the zone as it runs.
 pub record Held : Type 0 where
   pub first : ℕ
   pub carried : Totals
-  pub base : State
+  pub base : Option State
   pub entries : List Entry
   pub zone : Running
 
@@ -33,18 +35,32 @@ abbrev pub IsLedInUse : State → State → ℕ → ℕ → Type 0
 IsLedInUse old new lent returned =
     in_use new.tables.calls + returned ≡ in_use old.tables.calls + lent
 
--- What holds whenever the lock is free. The book leads from its base to the state of the zone.
--- Before its first entry there were as many datagrams and turns as its place says. If no chapter
--- was cut, the book begins with the state in which the zone was locked; otherwise what is in use at
--- its base follows from the totals before it, and its settings are the same.
+-- the totals after these entries, but for what came back in them
+pub record AreCarriedOn (before : Totals) (entries : List Entry) (after : Totals) : Type 0 where
+  pub datagrams : after.datagrams ≡ before.datagrams + datagrams_of entries
+  pub turns : after.turns ≡ before.turns + turns_of entries
+  pub lent : after.lent ≡ before.lent + lent_of entries
+
+-- What holds whenever the lock is free. The steps before the book, kept or not, are a run from the
+-- state in which the zone was locked to the one in which the book began: as many as the place of its
+-- first entry says, with the totals that were carried. The book leads on from there to the state of the
+-- zone; if a copy of the state in which it began is kept, it is that state. If there was no step before
+-- the book, it began in the state in which the zone was locked; otherwise what was in use where it began
+-- follows from the totals before it, and the settings are the same.
 pub record IsKept (opened : State) (h : Held) : Type 0 where
-  pub run : BookRun h.base h.entries h.zone.state
+  pub past : List Entry
+  pub began : State
+  pub before : BookRun opened past began
+  pub places : length past ≡ h.first
+  pub totals : AreCarriedOn no_totals past h.carried
+  pub base : ForSome h.base (λ base. base ≡ began)
+  pub run : BookRun began h.entries h.zone.state
   pub first : h.carried.datagrams + h.carried.turns ≡ h.first
   pub opened_before : Sound opened
-  pub opened_at : h.first ≡ 0 → (h.base ≡ opened) × (h.carried ≡ no_totals)
-  pub settings : h.base.tables.config ≡ opened.tables.config
-  pub carried : IsLedInUse opened h.base h.carried.lent h.carried.returned
-  pub backed : in_use h.zone.state.tables.calls ≤ in_use h.base.tables.calls + lent_of h.entries
+  pub opened_at : h.first ≡ 0 → (began ≡ opened) × (h.carried ≡ no_totals)
+  pub settings : began.tables.config ≡ opened.tables.config
+  pub carried : IsLedInUse opened began h.carried.lent h.carried.returned
+  pub backed : in_use h.zone.state.tables.calls ≤ in_use began.tables.calls + lent_of h.entries
   pub sound : Sound h.zone.state
   pub few : h.first + length h.entries ≤ h.zone.state.steps
 
@@ -86,3 +102,12 @@ pub record IsStepOfSome (event : Event) (outcome : Outcome) : Type 0 where
   pub new : Running
   pub sound : Sound old.state
   pub step : RunningStep old event outcome new
+
+-- The whole history of a zone that was locked in this state, up to what is left of it: with the entries
+-- that are left, those before them, which may have been let go, are a run of the machine to the zone.
+-- They are as many as the place of the first entry that is left says, and their totals were carried.
+pub record IsWholeHistory (opened : State) (f : FinishedValue) : Type 0 where
+  pub past : List Entry
+  pub run : BookRun opened (past ++ f.entries) f.zone.state
+  pub places : length past ≡ f.first
+  pub totals : AreCarriedOn no_totals past f.carried

@@ -1,8 +1,9 @@
 //! A zone behind a lock, with the history of its steps: whoever has a seat may make a step. The book
 //! under the lock is a run of the machine at any time, and the shares that the seats have of the
-//! ledgers add up to what the history has.
+//! ledgers add up to what the history has. What was done can be taken out in chapters, or let go.
 #![tactic(auto)]
 
+mod cutting;
 mod ledgers;
 mod listing;
 mod lock;
@@ -10,7 +11,8 @@ mod locked;
 mod order;
 mod seat;
 
+pub use cutting::{CutFault, Discarded, cut_locked, discard_locked};
 pub use listing::Listing;
 pub use lock::{Blanks, OpenFault, ZoneLock};
-pub use locked::{Locked, apply_locked, cut_locked, list_locked};
+pub use locked::{Locked, apply_locked, list_locked};
 pub use seat::{Hall, Seat};

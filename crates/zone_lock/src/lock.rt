@@ -1,21 +1,23 @@
 //! The lock.
 
 ghost use Rattle.std.specs.Prelude.{◌≡◌, ◌≢◌, ◌≤◌, ◌+◌, ◌<◌, ℕ, Some, slice_get, sum_by, vec_len};
-ghost use Rattle.std.specs.Prelude.{◌^◌, length, IfOk, IfErr, OnOk, OnErr, vec_capacity, ◌⊎◌};
+ghost use Rattle.std.specs.Prelude.{◌^◌, length, IfOk, IfErr, OnOk, OnErr, vec_capacity, ◌⊎◌, [], None};
 ghost use Rattle.ras_machine.specs.Soundness.{Sound};
 ghost use Rattle.books.specs.Books.{BookRun};
 ghost use Rattle.books.specs.Totals.{datagrams_of, lent_of, returned_by, turns_of};
-ghost use Rattle.zone_lock.specs.Held.{IsLedInUse, IsStepOfSome, entry_by, receipt_at};
+ghost use Rattle.zone_lock.specs.Held.{IsKept, IsLedInUse, IsStepOfSome, IsWholeHistory, entry_by};
+ghost use Rattle.zone_lock.specs.Held.{receipt_at};
 ghost use Rattle.zone_lock.specs.Faults.{open_fault_number};
 ghost use Rattle.zone_lock.specs.Listings.{IsListingOfSome};
 ghost use Rattle.zone_lock.specs.Seats.{IsSeatCount, seated, seated_after};
 
+use crate::cutting::{CutFault, Discarded, cut_locked, discard_locked};
 use crate::ledgers::Ledgers;
 use crate::listing::Listing;
-use crate::locked::{Locked, cut_locked, list_locked, make_step};
+use crate::locked::{Locked, list_locked, make_step};
 use crate::order::Order;
 use crate::seat::{Hall, Seat};
-use books::{Chapter, Finished, Receipt, SharedSnapshot, Totals};
+use books::{Chapter, Entry, Finished, Receipt, SharedSnapshot, Totals};
 use pools::Pool;
 use ras_core::{Prepared, StepFault, Zone};
 use std::alloc::{AllocError, Global};
@@ -23,13 +25,23 @@ use std::sync::ledger::{Blank, Ledger, Share};
 use std::sync::{Mutex, Wait};
 
 /// A zone behind a lock.
-#[derive(Drop)]
 pub struct ZoneLock<P: Pool, D: Hall, T: Ledger, U: Ledger> {
     alloc: Global,
     seats: usize,
     inner: Mutex<Locked<P, D, T, U>>,
     ghost some: { 0 < seats },
     ghost all: { seats ≡ D.all },
+}
+
+// Written by hand, so that whoever owns a lock makes one call at each exit.
+impl<P: Pool, D: Hall, T: Ledger, U: Ledger> Drop for ZoneLock<P, D, T, U> {
+    fn drop(self) {
+        let ZoneLock {
+            alloc: _,
+            seats: _,
+            inner: _,
+        } = self;
+    }
 }
 
 /// Three new ledgers, with a part for each seat: of datagrams, of turns, and of units lent.
@@ -115,7 +127,7 @@ impl<P: Pool, D: Hall, T: Ledger, U: Ledger> ZoneLock<P, D, T, U> {
             carried: Totals::none(),
             so_far: Totals::none(),
             opened_units: zone.in_use(),
-            base,
+            base: Some(base),
             entries: Vec::new(alloc),
             zone,
             ledgers,
@@ -166,18 +178,29 @@ impl<P: Pool, D: Hall, T: Ledger, U: Ledger> ZoneLock<P, D, T, U> {
     }
 
     /// Waits for the lock and ends a chapter.
-    pub fn cut<R: Wait>(&self, rt: &R) -> Result<Chapter, AllocError> {
+    pub fn cut<R: Wait>(&self, rt: &R) -> Result<Chapter, CutFault> {
         cut_locked(&mut *self.inner.lock(rt))
     }
 
-    /// Takes the zone out, with its history since the last chapter. It is refused if and only if
-    /// the seats are not all of this lock's; lock and seats then come back.
+    /// Waits for the lock and takes the entries so far out of it. Letting them go is for the caller, once
+    /// the lock is free. Those that come next stand in `room`, which has none yet. No chapter can be cut
+    /// afterwards.
+    pub fn discard<R: Wait>(&self, rt: &R, room: Vec<Entry>) -> Discarded
+        requires { room.items ≡ [] }
+    {
+        discard_locked(&mut *self.inner.lock(rt), room)
+    }
+
+    /// Takes the zone out, with its history since the last chapter. If entries were discarded, so are
+    /// those since then, and the history is left without entries. It is refused if and only if the seats
+    /// are not all of this lock's; lock and seats then come back.
     pub fn finish(
         self,
         seats: Vec<Seat<D, T, U>>,
     ) -> Result<Finished<P>, (Self, Vec<Seat<D, T, U>>)>
         requires { (D.parts ≡ D.all) × (T.parts ≡ D.all) × (U.parts ≡ D.all) }
         ensures all { OnOk result (vec_len seats ≡ D.all) }
+        ensures history { IfOk result (IsWholeHistory D.opened) }
         ensures run { IfOk result (λ f. BookRun f.base f.entries f.zone.state) }
         ensures sound { IfOk result (λ f. Sound f.zone.state) }
         ensures opened { IfOk result (λ f. f.first ≡ 0 → f.base ≡ D.opened) }
@@ -215,7 +238,7 @@ impl<P: Pool, D: Hall, T: Ledger, U: Ledger> ZoneLock<P, D, T, U> {
             entries,
             zone,
             ledgers,
-        } = inner.into_inner();
+        } = settled(inner.into_inner());
         let Ledgers {
             mut datagrams,
             mut turns,
@@ -227,6 +250,20 @@ impl<P: Pool, D: Hall, T: Ledger, U: Ledger> ZoneLock<P, D, T, U> {
         lent.audit(&mut my_lent);
         Ok(Finished::new(zone, base, entries, first, carried))
     }
+}
+
+/// What stood behind a lock. If no copy of the state in which its entries begin is kept, they are let
+/// go, and it begins in the state of the zone.
+fn settled<P: Pool, D: Hall, T: Ledger, U: Ledger>(locked: Locked<P, D, T, U>) -> Locked<P, D, T, U>
+    ensures kept { IsKept D.opened result }
+    ensures begun { result.base ≡ None → result.entries ≡ [] }
+{
+    let mut locked = locked;
+    if locked.base.is_none() {
+        let room = Vec::new(*locked.entries.allocator());
+        let _ = discard_locked(&mut locked, room);
+    }
+    locked
 }
 
 /// The state of a zone, which is the base of its history.

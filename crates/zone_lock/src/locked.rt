@@ -1,11 +1,10 @@
 //! What stands behind the lock, and what is done with it by whoever holds it.
 
 ghost use Rattle.std.specs.Prelude.{◌≡◌, ◌≤◌, ◌<◌, ◌+◌, ◌*◌, ◌^◌, ◌++◌, ◌∷◌, [], ◌↔◌, length};
-ghost use Rattle.std.specs.Prelude.{IfOk, OnOk, OnErr, Err, vec_capacity};
+ghost use Rattle.std.specs.Prelude.{IfOk, OnErr, Err, vec_capacity};
 ghost use Rattle.ras_machine.specs.Machine.{most_steps};
 ghost use Rattle.ras_machine.specs.Steps.{HasFewOctets};
 ghost use Rattle.ras_core.specs.Runs.{RunningStep};
-ghost use Rattle.books.specs.Totals.{returned_by, totals_with};
 ghost use Rattle.zone_lock.specs.Held.{IsKept, entry_by, receipt_at};
 ghost use Rattle.zone_lock.specs.Listings.{IsListing};
 ghost use Rattle.zone_lock.specs.Seats.{seated_after};
@@ -14,25 +13,24 @@ use crate::ledgers::Ledgers;
 use crate::listing::{Listing, listing_of};
 use crate::order::Order;
 use crate::seat::{Hall, Seat};
-use books::{Chapter, Entry, Receipt, SharedSnapshot, Totals};
+use books::{Entry, Receipt, SharedSnapshot, Totals};
 use pools::Pool;
 use ras_core::{Event, Outcome, Prepared, StepFault, Zone};
-use std::alloc::{AllocError, Global};
+use std::alloc::AllocError;
 use std::marker::Model;
-use std::mem;
 use std::sync::ledger::Ledger;
 
 /// A zone with the part of its history since the last chapter: the place of its first entry in the
 /// whole history, the totals of the entries before it, the totals so far (units that come back are
 /// counted when a chapter ends), the units that were in use when the zone was locked, the state in
-/// which it begins, its entries, the zone, and the ledgers.
+/// which it begins, if a copy of it is kept, its entries, the zone, and the ledgers.
 #[derive(Drop)]
 pub struct Locked<P: Pool, D: Hall, T: Ledger, U: Ledger> {
     pub(crate) first: usize,
     pub(crate) carried: Totals,
     pub(crate) so_far: Totals,
     pub(crate) opened_units: u64,
-    pub(crate) base: SharedSnapshot,
+    pub(crate) base: Option<SharedSnapshot>,
     pub(crate) entries: Vec<Entry>,
     pub(crate) zone: Zone<P>,
     pub(crate) ledgers: Ledgers<D, T, U>,
@@ -173,41 +171,4 @@ pub fn list_locked<P: Pool, D: Hall, T: Ledger, U: Ledger>(
     ensures kept { IsKept D.opened locked.now }
 {
     listing_of(&locked.zone)
-}
-
-/// Ends a chapter: the entries so far are taken out, and the state that they lead to, which is copied
-/// once, is the end of the chapter and the base of what comes. If there is no memory, nothing has
-/// changed.
-pub fn cut_locked<P: Pool, D: Hall, T: Ledger, U: Ledger>(
-    locked: &mut Locked<P, D, T, U>,
-) -> Result<Chapter, AllocError>
-    ensures chapter { IfOk result (λ chapter. chapter ≡ record {
-      first = locked.old.first;
-      base = locked.old.base;
-      entries = locked.old.entries;
-      end = locked.old.zone.state;
-    }) }
-    ensures first { OnOk result
-        (locked.new.first ≡ locked.old.first + length locked.old.entries) }
-    ensures carried { OnOk result (locked.new.carried
-        ≡ totals_with locked.old.carried locked.old.entries
-        (returned_by locked.old.base locked.old.entries locked.old.zone.state)) }
-    ensures base { OnOk result (locked.new.base ≡ locked.old.zone.state) }
-    ensures entries { OnOk result (locked.new.entries ≡ []) }
-    ensures zone { locked.new.zone ≡ locked.old.zone }
-    ensures err { OnErr result (locked.new ≡ locked.old) }
-    ensures kept { IsKept D.opened locked.new }
-{
-    let alloc: Global = *locked.entries.allocator();
-    let end = SharedSnapshot::new(alloc, locked.zone.snapshot()?)?;
-    let next = end.again()?;
-    let first = locked.first + locked.entries.len();
-    locked.so_far.returned = locked.opened_units as u128 + locked.so_far.lent
-        - locked.zone.in_use() as u128;
-    locked.carried = locked.so_far;
-    let entries = mem::replace(&mut locked.entries, Vec::new(alloc));
-    let base = mem::replace(&mut locked.base, next);
-    let chapter = Chapter::new(locked.first, base, entries, end);
-    locked.first = first;
-    Ok(chapter)
 }

@@ -11,32 +11,32 @@ use Rattle.book_audit.proofs.joined.joined_totals.Goals as goal
 pub totals_in-totals-requires : goal.totals_in-totals-requires
 totals_in-totals-requires g c =
     let l = lead_on c.args.chapters.now c.args.finished.now c.beginning-start.result.now
-    c.machine-base.result.now c.first.result c.do_lead.result c.beginning-start.ensures
-    (c.machine-base.ensures.machine ∙ c.base.ensures) c.first.ensures c.do_lead.ensures.runs
+    c.base-base.result.now c.first.result c.do_lead.result c.beginning-start.ensures
+    c.base-base.ensures c.first.ensures c.do_lead.ensures.runs
     c.do_lead.ensures.lead c.if-not-do_lead.false in
     few_entries l
 
 pub returned_between-requires-clause-few : goal.returned_between-requires-clause-few
 returned_between-requires-clause-few g c =
     let l = lead_on c.args.chapters.now c.args.finished.now c.beginning-start.result.now
-    c.machine-base.result.now c.first.result c.do_lead.result c.beginning-start.ensures
-    (c.machine-base.ensures.machine ∙ c.base.ensures) c.first.ensures c.do_lead.ensures.runs
+    c.base-base.result.now c.first.result c.do_lead.result c.beginning-start.ensures
+    c.base-base.ensures c.first.ensures c.do_lead.ensures.runs
     c.do_lead.ensures.lead c.if-not-do_lead.false in
     omega (arith, few_entries l, c.totals_in-totals.ensures.steps, c.totals_in-totals.ensures.units)
 
 pub returned_between-requires-clause-fair : goal.returned_between-requires-clause-fair
 returned_between-requires-clause-fair g c =
     let l = lead_on c.args.chapters.now c.args.finished.now c.beginning-start.result.now
-    c.machine-base.result.now c.first.result c.do_lead.result c.beginning-start.ensures
-    (c.machine-base.ensures.machine ∙ c.base.ensures) c.first.ensures c.do_lead.ensures.runs
+    c.base-base.result.now c.first.result c.do_lead.result c.beginning-start.ensures
+    c.base-base.ensures c.first.ensures c.do_lead.ensures.runs
     c.do_lead.ensures.lead c.if-not-do_lead.false in
     fair_chapters l c.totals_in-totals.result c.totals_in-totals.ensures.totals
 
 pub returns-then-not-are_same-clause-none : goal.returns-then-not-are_same-clause-none
 returns-then-not-are_same-clause-none g c =
     let l = lead_on c.args.chapters.now c.args.finished.now c.beginning-start.result.now
-    c.machine-base.result.now c.first.result c.do_lead.result c.beginning-start.ensures
-    (c.machine-base.ensures.machine ∙ c.base.ensures) c.first.ensures c.do_lead.ensures.runs
+    c.base-base.result.now c.first.result c.do_lead.result c.beginning-start.ensures
+    c.base-base.ensures c.first.ensures c.do_lead.ensures.runs
     c.do_lead.ensures.lead c.if-not-do_lead.false in
     let t = c.totals_in-totals.result in
     let sums = c.totals_in-totals.ensures.totals in
@@ -48,8 +48,8 @@ returns-then-not-are_same-clause-none g c =
 pub totals_after-totals-requires-clause-steps : goal.totals_after-totals-requires-clause-steps
 totals_after-totals-requires-clause-steps g c =
     let l = lead_on c.args.chapters.now c.args.finished.now c.beginning-start.result.now
-    c.machine-base.result.now c.first.result c.do_lead.result c.beginning-start.ensures
-    (c.machine-base.ensures.machine ∙ c.base.ensures) c.first.ensures c.do_lead.ensures.runs
+    c.base-base.result.now c.first.result c.do_lead.result c.beginning-start.ensures
+    c.base-base.ensures c.first.ensures c.do_lead.ensures.runs
     c.do_lead.ensures.lead c.if-not-do_lead.false in
     let run = c.entries.ensures.run in
     let all = few_in_all l run in
@@ -60,8 +60,8 @@ totals_after-totals-requires-clause-steps g c =
 pub returned_between-requires-2-clause-few : goal.returned_between-requires-2-clause-few
 returned_between-requires-2-clause-few g c =
     let l = lead_on c.args.chapters.now c.args.finished.now c.beginning-start.result.now
-    c.machine-base.result.now c.first.result c.do_lead.result c.beginning-start.ensures
-    (c.machine-base.ensures.machine ∙ c.base.ensures) c.first.ensures c.do_lead.ensures.runs
+    c.base-base.result.now c.first.result c.do_lead.result c.beginning-start.ensures
+    c.base-base.ensures c.first.ensures c.do_lead.ensures.runs
     c.do_lead.ensures.lead c.if-not-do_lead.false in
     let run = c.entries.ensures.run in
     let all = few_in_all l run in
@@ -80,8 +80,8 @@ returned_between-requires-2-clause-few g c =
 pub returned_between-requires-2-clause-fair : goal.returned_between-requires-2-clause-fair
 returned_between-requires-2-clause-fair g c =
     let l = lead_on c.args.chapters.now c.args.finished.now c.beginning-start.result.now
-    c.machine-base.result.now c.first.result c.do_lead.result c.beginning-start.ensures
-    (c.machine-base.ensures.machine ∙ c.base.ensures) c.first.ensures c.do_lead.ensures.runs
+    c.base-base.result.now c.first.result c.do_lead.result c.beginning-start.ensures
+    c.base-base.ensures c.first.ensures c.do_lead.ensures.runs
     c.do_lead.ensures.lead c.if-not-do_lead.false in
     let t = c.totals_in-totals.result in
     let sums = c.totals_in-totals.ensures.totals in
@@ -97,8 +97,8 @@ returned_between-requires-2-clause-fair g c =
 pub returns-clause-joined : goal.returns-clause-joined
 returns-clause-joined g c =
     let l = lead_on c.args.chapters.now c.args.finished.now c.beginning-start.result.now
-    c.machine-base.result.now c.first.result c.do_lead.result c.beginning-start.ensures
-    (c.machine-base.ensures.machine ∙ c.base.ensures) c.first.ensures c.do_lead.ensures.runs
+    c.base-base.result.now c.first.result c.do_lead.result c.beginning-start.ensures
+    c.base-base.ensures c.first.ensures c.do_lead.ensures.runs
     c.do_lead.ensures.lead c.if-not-do_lead.false in
     let t = c.totals_in-totals.result in
     let sums = c.totals_in-totals.ensures.totals in
@@ -110,16 +110,16 @@ returns-clause-joined g c =
 pub returns-clause-run : goal.returns-clause-run
 returns-clause-run g c =
     let l = lead_on c.args.chapters.now c.args.finished.now c.beginning-start.result.now
-    c.machine-base.result.now c.first.result c.do_lead.result c.beginning-start.ensures
-    (c.machine-base.ensures.machine ∙ c.base.ensures) c.first.ensures c.do_lead.ensures.runs
+    c.base-base.result.now c.first.result c.do_lead.result c.beginning-start.ensures
+    c.base-base.ensures c.first.ensures c.do_lead.ensures.runs
     c.do_lead.ensures.lead c.if-not-do_lead.false in
     whole_run l c.entries.ensures.run
 
 pub returns-clause-totals : goal.returns-clause-totals
 returns-clause-totals g c =
     let l = lead_on c.args.chapters.now c.args.finished.now c.beginning-start.result.now
-    c.machine-base.result.now c.first.result c.do_lead.result c.beginning-start.ensures
-    (c.machine-base.ensures.machine ∙ c.base.ensures) c.first.ensures c.do_lead.ensures.runs
+    c.base-base.result.now c.first.result c.do_lead.result c.beginning-start.ensures
+    c.base-base.ensures c.first.ensures c.do_lead.ensures.runs
     c.do_lead.ensures.lead c.if-not-do_lead.false in
     let t = c.totals_in-totals.result in
     let sums = c.totals_in-totals.ensures.totals in

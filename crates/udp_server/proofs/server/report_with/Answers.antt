@@ -2,6 +2,7 @@ use Rattle.udp_server.proofs.server.report_with.Goals as goal
 
 pub returns-clause-served : goal.returns-clause-served
 returns-clause-served g c = record {
+  history = c.in-Ok.ensures.history;
   run = c.in-Ok.ensures.run;
   sound = c.in-Ok.ensures.sound;
   opened_at = c.in-Ok.ensures.opened;

@@ -1,10 +1,11 @@
 use Rattle.std.proofs.Common.{ap, sym, refl, subst, ℕ, List, length, ◌∙◌, ◌+◌, ◌-◌}
+use Rattle.std.specs.Prelude.{Option}
 use Rattle.ras_machine.specs.State.{State}
 use Rattle.books.specs.declared.book.Entry.{Entry}
 use Rattle.books.specs.declared.totals.Totals.{Totals}
 use Rattle.zone_lock.specs.Held.{IsInside}
 use Rattle.zone_lock.proofs.Histories.{cut_so, inside_cut}
-use Rattle.zone_lock.proofs.locked.cut_locked.Goals as goal
+use Rattle.zone_lock.proofs.cutting.discard_locked.Goals as goal
 
 pub invariant_of-locked : goal.invariant_of-locked
 invariant_of-locked g c =
@@ -18,20 +19,19 @@ invariant_of-locked g c =
     let h = cut_so l.first l.carried l.base l.entries.items l.zone in
     let cut = inside_cut g.D.Hall.opened h l.so_far carried l.opened_units _ _ _ c.locked.invariant
     refl refl refl (ap (λ (n : ℕ). l.opened_units + l.so_far.lent - n) c.in_use.ensures.sum) in
-    let base_is = c.replace-base.ensures.after ∙ (c.in_ok-next.ensures
-    ∙ (c.in_ok-end.ensures ∙ c.in_ok-snapshot.ensures)) in
-    let entries_are = ap (λ v. v.items) c.replace-entries.ensures.after ∙ c.new-2.ensures.items in
+    let base_is = c.replace-base.ensures.after in
+    let entries_are = ap (λ v. v.items) c.replace-entries.ensures.after ∙ c.requires in
     let first_is = ap (λ (n : ℕ). l.first + n) (c.len.ensures ∙ l.entries.ok.0) in
     subst (λ (n : ℕ). IsInside g.D.Hall.opened
     (cut_so n carried c.replace-base.new.dest c.replace-entries.new.dest.items l.zone) carried
     l.opened_units l.ledgers.datagrams.total l.ledgers.turns.total l.ledgers.lent.total)
     (sym first_is)
-    (subst (λ (s : State). IsInside g.D.Hall.opened
+    (subst (λ (s : Option State). IsInside g.D.Hall.opened
     (cut_so (l.first + length l.entries.items) carried s c.replace-entries.new.dest.items l.zone)
     carried l.opened_units l.ledgers.datagrams.total l.ledgers.turns.total l.ledgers.lent.total)
     (sym base_is)
     (subst (λ (es : List Entry). IsInside g.D.Hall.opened
-    (cut_so (l.first + length l.entries.items) carried l.zone.state es l.zone) carried
+    (cut_so (l.first + length l.entries.items) carried _ es l.zone) carried
     l.opened_units l.ledgers.datagrams.total l.ledgers.turns.total l.ledgers.lent.total)
     (sym entries_are) cut))
 
