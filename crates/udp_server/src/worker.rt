@@ -182,7 +182,10 @@ impl<D: Hall, T: Ledger, U: Ledger, C: Moments> Worker<D, T, U, C> {
         ensures { result ≡ receipt.outcome.output }
     {
         let Some(buffer) = buffer else {
-            return output_of(receipt);
+            return match output_of(receipt) {
+                Some(reply) => Some(self.short(reply)),
+                None => None,
+            };
         };
         let reply = match &receipt.outcome.output {
             Some(output) => Some(output.copy_into(buffer)),
@@ -190,6 +193,19 @@ impl<D: Hall, T: Ledger, U: Ledger, C: Moments> Worker<D, T, U, C> {
         };
         self.receipts.push_reserved(receipt);
         reply
+    }
+
+    /// The same reply in memory of its own length, if there is any: the seat gets the buffer back, in
+    /// which there is room for the longest one.
+    fn short(&mut self, reply: Datagram) -> Datagram
+        ensures { result ≡ reply }
+    {
+        let Ok(bytes) = reply.bytes.copy() else {
+            return reply;
+        };
+        let Datagram { to, bytes: buffer } = reply;
+        self.seat.give_back(buffer.into_vec());
+        Datagram { to, bytes }
     }
 
     /// Hands a reply to the sender. One that finds no place in the ring is dropped.

@@ -50,6 +50,7 @@ impl<D: Hall, T: Ledger, U: Ledger> Ledgers<D, T, U> {
             datagrams: my_datagrams,
             turns: my_turns,
             lent: my_lent,
+            buffer: _,
         } = seat;
         datagrams.add(my_datagrams, datagrams_in(event));
         turns.add(my_turns, turns_in(event));

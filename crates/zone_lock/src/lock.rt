@@ -121,7 +121,7 @@ impl<P: Pool, D: Hall, T: Ledger, U: Ledger> ZoneLock<P, D, T, U> {
         let Ok(all) = Vec::with_capacity(alloc, seats) else {
             return Err((zone, OpenFault::Memory));
         };
-        let (ledgers, all) = seats_of(all, seats, blanks);
+        let (ledgers, all) = seats_of(alloc, all, seats, blanks);
         let locked = Locked {
             first: 0,
             carried: Totals::none(),
@@ -158,7 +158,7 @@ impl<P: Pool, D: Hall, T: Ledger, U: Ledger> ZoneLock<P, D, T, U> {
             seat.new ≡ seated_after seat.old prepared receipt.outcome) }
         ensures err { OnErr result (seat.new ≡ seat.old) }
     {
-        match Order::new(self.alloc, prepared) {
+        match Order::new(self.alloc, prepared, seat) {
             Ok(order) => make_step(&mut *self.inner.lock(rt), seat, order),
             Err(_) => {
                 if self.inner.lock(rt).zone.is_closed() {
@@ -279,6 +279,7 @@ fn base_of<P: Pool>(alloc: Global, zone: &Zone<P>) -> Result<SharedSnapshot, All
 
 /// This many seats, which made no step, with the books of their ledgers.
 fn seats_of<D: Hall, T: Ledger, U: Ledger>(
+    alloc: Global,
     room: Vec<Seat<D, T, U>>,
     seats: usize,
     blanks: Blanks,
@@ -313,6 +314,7 @@ fn seats_of<D: Hall, T: Ledger, U: Ledger>(
             datagrams: my_datagrams.split_off(1, 0),
             turns: my_turns.split_off(1, 0),
             lent: my_lent.split_off(1, 0),
+            buffer: Vec::new(alloc),
         });
     }
     (
@@ -346,6 +348,7 @@ fn merged<D: Hall, T: Ledger, U: Ledger>(
         mut datagrams,
         mut turns,
         mut lent,
+        buffer: _,
     } = first;
     while let Some(seat) = seats.pop() {
         let Seat {
@@ -354,6 +357,7 @@ fn merged<D: Hall, T: Ledger, U: Ledger>(
             datagrams: d,
             turns: t,
             lent: u,
+            buffer: _,
         } = seat;
         datagrams.merge(d);
         turns.merge(t);

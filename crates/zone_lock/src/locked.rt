@@ -90,7 +90,7 @@ pub fn apply_locked<P: Pool, D: Hall, T: Ledger, U: Ledger>(
     if locked.zone.is_closed() {
         return Err(StepFault::Closed);
     }
-    let order = Order::new(*locked.entries.allocator(), prepared)?;
+    let order = Order::new(*locked.entries.allocator(), prepared, seat)?;
     make_step(locked, seat, order)
 }
 

@@ -2,8 +2,11 @@
 
 ghost use Rattle.std.specs.Prelude.{◌≡◌, ◌≤◌, [], IfOk, vec_capacity};
 
+use crate::seat::{Hall, Seat};
 use ras_core::{Event, Prepared};
 use std::alloc::{AllocError, Global};
+use std::mem;
+use std::sync::ledger::Ledger;
 
 /// The most octets of an output.
 const MAX_OUTPUT: usize = 20_000;
@@ -19,8 +22,14 @@ pub(crate) struct Order {
 }
 
 impl Order {
-    /// What a step of this event needs.
-    pub(crate) fn new(alloc: Global, prepared: Prepared) -> Result<Self, AllocError>
+    /// What a step of this event by a seat needs. The buffer is the one that the seat has, if it is
+    /// large enough.
+    pub(crate) fn new<D: Hall, T: Ledger, U: Ledger>(
+        alloc: Global,
+        prepared: Prepared,
+        seat: &mut Seat<D, T, U>,
+    ) -> Result<Self, AllocError>
+        ensures seat { seat.new ≡ seat.old }
         ensures prepared { IfOk result (λ order. order.prepared ≡ prepared) }
         ensures kept { IfOk result (λ order. order.kept ≡ prepared) }
         ensures told { IfOk result (λ order. order.told ≡ prepared) }
@@ -29,7 +38,9 @@ impl Order {
     {
         let kept = prepared.event()?;
         let told = prepared.event()?;
-        let buffer = Vec::with_capacity(alloc, MAX_OUTPUT)?;
+        let mut buffer = mem::replace(&mut seat.buffer, Vec::new(alloc));
+        buffer.clear();
+        buffer.reserve(MAX_OUTPUT)?;
         Ok(Order {
             prepared,
             kept,

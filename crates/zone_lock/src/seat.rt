@@ -1,6 +1,6 @@
 //! Seats: who may make steps of a zone behind a lock.
 
-ghost use Rattle.std.specs.Prelude.{ℕ, []};
+ghost use Rattle.std.specs.Prelude.{◌≡◌, ℕ, []};
 ghost use Rattle.ras_machine.specs.State.{State};
 ghost use Rattle.zone_lock.specs.Held.{idle_state};
 
@@ -21,7 +21,8 @@ impl Hall for Brand {
     ghost opened = { idle_state };
 }
 
-/// One who may make steps: its number, how many steps it made, and its shares of the three ledgers.
+/// One who may make steps: its number, how many steps it made, and its shares of the three ledgers. It
+/// may have a buffer for the octets of its next receipt, of which contracts see nothing.
 #[derive(Drop)]
 pub struct Seat<D: Hall, T: Ledger, U: Ledger> {
     pub(crate) number: usize,
@@ -29,6 +30,7 @@ pub struct Seat<D: Hall, T: Ledger, U: Ledger> {
     pub(crate) datagrams: Share<D>,
     pub(crate) turns: Share<T>,
     pub(crate) lent: Share<U>,
+    pub(crate) buffer: Vec<u8>,
 }
 
 impl<D: Hall, T: Ledger, U: Ledger> Model for Seat<D, T, U> {
@@ -41,4 +43,14 @@ impl<D: Hall, T: Ledger, U: Ledger> Model for Seat<D, T, U> {
 
     ghost invariant = { λ s. (s.datagrams.parts ≡ 1) × (s.turns.parts ≡ 1) × (s.lent.parts ≡ 1)
         × (s.calls ≡ s.datagrams.amount + s.turns.amount) };
+}
+
+impl<D: Hall, T: Ledger, U: Ledger> Seat<D, T, U> {
+    /// Gives the seat a buffer that is needed no more. The octets of its next receipt stand there, so
+    /// that no memory is requested for them if there is room for 20,000.
+    pub fn give_back(&mut self, buffer: Vec<u8>)
+        ensures { self.new ≡ self.old }
+    {
+        self.buffer = buffer;
+    }
 }
