@@ -1,5 +1,5 @@
--- The list of a finite map has each of its rows once, so a map that another part of the rows makes
--- is the same from the list and from the rows where they are kept.
+-- The list of a finite map has each of its rows once. So a map by another part of the rows is the
+-- same, whether it is made from this list or from the rows as they are stored.
 use Rattle.std.proofs.Common.{◌≡◌, ℕ, zero, suc, List, [], ◌∷◌, refl, sym, ◌∙◌, ap, subst, Some}
 use Rattle.std.proofs.Common.{None, Option}
 use Rattle.std.specs.Prelude.{slice_get, T}

@@ -1,4 +1,4 @@
--- The rows of a table by rising key are what its finite map lists.
+-- The rows of a table, sorted by rising key, are the list of its finite map.
 use Rattle.std.proofs.Common.{◌≡◌, ◌≢◌, ℕ, zero, suc, ◌<◌, ◌≤◌, Bool, true, false, ◌&&◌, List, []}
 use Rattle.std.proofs.Common.{◌∷◌, length, get_or, refl, sym, ◌∙◌, ap, subst, cond, nat_eq, Some}
 use Rattle.std.proofs.Common.{arith}
@@ -29,7 +29,7 @@ record IsRisingBy {K X : Type 0} (R : K → K → Ordering) (key : X → K) (row
   rises : (i j : ℕ) (r s : X) → i < j → slice_get rows i ≡ Some r → slice_get rows j ≡ Some s
       → R (key r) (key s) ≡ Less
 
--- where the row at this place comes from, when those at a and b change places
+-- the place from which the row at k comes, if those at a and b are exchanged
 abbrev exchanged : ℕ → ℕ → ℕ → ℕ
 exchanged a b k = cond (nat_eq k a) b (cond (nat_eq k b) a k)
 
