@@ -70,7 +70,7 @@ AreDue-pushed entries m id due =
       others = λ j differ. refl;
     })
 
--- the place at which a search by key stops
+-- the place that a search by key finds
 module _ {K V : Type 0} (test : K → Bool) where
   found_from : (es : List (K × V)) (k i : ℕ) → position_from test k (keys_of es) ≡ Some i
       → (j : ℕ) × (i ≡ k + j) × (e : K × V) × (slice_get es j ≡ Some e) × (test e.0 ≡ true)
