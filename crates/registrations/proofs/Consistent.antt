@@ -39,7 +39,7 @@ none_at live address none id r there is =
     ∙ ap (λ b. cond b (Some r) None) (find_fails nat_list_cmp_total exact_bytes
     (λ s. same_address s.call_signal address) live none id r there))
 
--- whose it was before one registration was changed
+-- whose registration it was before one was changed
 pub record WasThere (live : Live) (id : List ℕ) (f : Registration → Registration) (i : List ℕ)
     (s r : Registration) : Type 0 where
   pub there : fin.get live i ≡ Some r
