@@ -39,7 +39,7 @@ none_known kept legs s x h = cases kept.whole refl h where
   cases true whole e = sym (s.each whole x) ∙ (Decides-eqb (count_of kept x) 0).0 e
   cases false whole e = absurd (cc e)
 
--- where there is no call
+-- if there is no call
 pub AreLegCounts-empty : (kept : LegCounts) → AreZero kept → AreLegCounts kept (legs_of fin.empty)
 AreLegCounts-empty kept zero = record {
   each = λ whole x. zero.each whole x

@@ -8,7 +8,7 @@ use thiserror::Error;
 /// Why the table of the calls isn't changed, or not copied.
 #[derive(Clone, Copy, Debug, PartialEq, Eq, Error)]
 pub enum CallFault {
-    /// As many calls are open as may be.
+    /// No further call may be open.
     #[error("as many calls are open as may be")]
     Full,
     /// Two endpoints take part already.
