@@ -8,13 +8,14 @@ use Rattle.pools.specs.Account.{Account, opening_account}
 use Rattle.pools.specs.Account.{account_after_answer, account_after_return}
 use Rattle.pools.specs.Kinds.{fixed_answer, IsStepAnswer, paced_answer, paced_after_answer}
 
--- the account of a pool that was made so, and was asked nothing yet
+-- the account of a pool that was made by this description, and was asked nothing yet
 abbrev pub account_of : PoolSpec → Account
 account_of (Fixed limit) = opening_account limit
 account_of (Step limit step) = opening_account limit
 account_of (Paced limit burst) = opening_account limit
 
--- the pool that was made so, of its kind and with its step or burst, and was asked nothing yet
+-- the pool that was made by this description, of its kind and with its step or burst, and was asked
+-- nothing yet
 abbrev pub pool_of : PoolSpec → StandardPool
 pool_of (Fixed limit) = pool.Fixed (opening_account limit)
 pool_of (Step limit step) =
