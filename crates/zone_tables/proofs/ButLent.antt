@@ -66,7 +66,7 @@ same_after_change now (Calls (Lowering key units pool back)) z =
 same_after_change now (Calls (Leaving key endpoint)) z =
     same_after_end z.pools (freed_by_leave z.calls key endpoint)
 
--- so they counted no more
+-- so they counted nothing more
 pub counts_same : (old new : List Figures) → AreSameButLent old new → CountsOneMore old new
 counts_same old new same most h k d below =
     let here : k < length old = omega (arith, below, same.each) in
