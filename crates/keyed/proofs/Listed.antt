@@ -62,7 +62,7 @@ module _ {K V : Type 0} {R : K → K → Ordering} (o : IsTotalOrder R) (same : 
 
   module _ {A : Type 0} {P : A → A → Ordering} (p : IsTotalOrder P) (once : IsAntisymmetric P)
       (part : K × V → A) where
-    -- the rows of a map, of which no two agree in a part
+    -- the rows of a map; no two of them agree in a part
     pub AreApart-part : (m : FinMap R V)
         → ((k q : K) (v w : V) → fin.get m k ≡ Some v → fin.get m q ≡ Some w
         → part (k, v) ≡ part (q, w) → k ≡ q)

@@ -24,7 +24,7 @@ use Rattle.keyed.proofs.Maps.{itself}
 use Rattle.keyed.proofs.Places.{IsMapOf, one_map}
 use Rattle.keyed.proofs.Rows.{Changed-set, IsMapOf-rows}
 
--- each key is below those of the rows behind it
+-- each key is below those of the rows after it
 record IsRisingBy {K X : Type 0} (R : K → K → Ordering) (key : X → K) (rows : List X) : Type 0 where
   rises : (i j : ℕ) (r s : X) → i < j → slice_get rows i ≡ Some r → slice_get rows j ≡ Some s
       → R (key r) (key s) ≡ Less
