@@ -57,7 +57,7 @@ module _ (entries next : List Entry) (m n : Moments) (due : AreDue entries m) wh
       (λ differ. d.others i differ not_last
       ∙ (due i ∙ ap (option_and_then end_of) (sym (c.others i differ not_last)))))
 
--- an entry that isn't watched is put behind the others
+-- an entry that isn't watched is put after the others
 pub AreDue-pushed : (entries : List Entry) (m : Moments) (id : List ℕ) → AreDue entries m
     → AreDue (entries ++ (id, None) ∷ []) m
 AreDue-pushed entries m id due =
