@@ -122,8 +122,8 @@ impl AliasTable {
     }
 
     /// Enters an alias for its holder, in place of what was entered for it there. It is refused if
-    /// another endpoint holds it, and for want of memory; the alias then comes back. Memory is
-    /// never wanting if there is room, or if this endpoint holds the alias already.
+    /// another endpoint holds it, and for want of memory; the alias then comes back. It never fails
+    /// for want of memory if there is room, or if this endpoint holds the alias already.
     pub fn set(
         &mut self,
         alias: Alias,
@@ -172,8 +172,8 @@ impl AliasTable {
         retain_others(&mut self.rows, holder);
     }
 
-    /// Takes out each of these aliases that this endpoint holds. The time grows with the length of
-    /// the list alone.
+    /// Takes out each of these aliases that this endpoint holds. The time grows only with the
+    /// length of the list.
     pub fn drop_all(&mut self, aliases: &[Alias], holder: &EndpointId)
         ensures { Becomes self.old self.new
             (without_aliases self.old.held aliases.now holder.now) }
