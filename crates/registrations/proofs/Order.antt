@@ -66,7 +66,7 @@ module _ (rows : Slab Registration) where
       (sym (ap (λ w. slice_get (cons_option w (order_of rows entries)) (suc j)) (h zero d refl).1)
       ∙ there)
 
-  -- a row at an empty place, with an entry behind all others
+  -- a row at an empty place, with an entry after all others
   pub order_put : (next : Slab Registration) (entries : List Entry) (id : List ℕ) (i : ℕ)
       (r : Registration) → EachLeads rows entries → get rows i ≡ None
       → Updates rows next i (Some r)

@@ -1,5 +1,5 @@
--- Registrations in a list, of which no two share an identifier or a call signal address, and the
--- finite map that they make.
+-- Registrations in a list, and the finite map that they make. No two of them share an identifier or
+-- a call signal address.
 use Rattle.std.proofs.Common.{◌≡◌, ◌<◌, ◌≤◌, ◌+◌, ℕ, Bool, true, false, List, [], ◌∷◌, ◌++◌}
 use Rattle.std.proofs.Common.{length, nat_eq, refl, sym, ◌∙◌, ap, cond, zero, suc, ◌||◌, Some, None}
 use Rattle.std.proofs.Common.{arith, take}

@@ -442,7 +442,7 @@ module _ {S : Type 0} (rows : Slab Registration) (by_identifier : HashMap (List 
   not_found_by address is = sym (address_none rows by_identifier by_address most s address is)
       ∙ ap (λ u. at_address u.live address) view
 
-  -- who is live has an entry in the index
+  -- each endpoint that is registered has an entry in the index
   pub is_named : (id : List ℕ) → IsSome (fin.get t.live id)
       → IsSome (hash.get (pointwise nat_eq) by_identifier id)
   is_named id is = cases (hash.get (pointwise nat_eq) by_identifier id) refl where

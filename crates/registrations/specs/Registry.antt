@@ -66,7 +66,7 @@ pub record Stays (old new : Registry) : Type 0 where
 abbrev pub with_identifier : List ℕ → Registration → Registration
 with_identifier id r = record r { identifier = id }
 
--- its time to live is granted anew
+-- it has a new time to live
 abbrev pub with_deadline : ℕ → Registration → Registration
 with_deadline deadline r = record r { deadline = deadline }
 

@@ -259,8 +259,8 @@ impl Registrations {
     }
 
     /// Registers an endpoint under an unused identifier, which is written into the registration.
-    /// Nothing is added if the table is full, or for want of memory. Memory is never wanting if
-    /// there is room.
+    /// Nothing is added if the table is full, or for want of memory. It never fails for want of
+    /// memory if there is room.
     pub fn add(
         &mut self,
         registration: Registration,
@@ -304,7 +304,7 @@ impl Registrations {
         Ok(())
     }
 
-    /// Enters a registration behind all others. There has to be room. This takes no memory.
+    /// Enters a registration after all others. There has to be room. This takes no memory.
     fn put(&mut self, registration: Registration)
         requires few { map.len self.old.live < self.old.most }
         requires room { 0 < self.old.room }
@@ -340,7 +340,7 @@ impl Registrations {
         Some(registration)
     }
 
-    /// Grants a time to live anew.
+    /// Grants a new time to live.
     pub fn renew(&mut self, id: &EndpointId, deadline: u64)
         requires { IsSome (map.get self.old.live id.now) }
         ensures { Updates self.old self.new (update self.old.live id.now (with_deadline deadline)) }
