@@ -56,7 +56,7 @@ module _ {S : Type 0} (old new : IndexMap CallKey Call S) (most : ℕ) (u : InUs
     legs = AreLegCounts-keeps kept counts (legs_of (open_of old)) s.legs k;
   }
 
-  -- the legs are counted anew if no call is left
+  -- the counts of the legs start again if no call is left
   pub AreCounted-anew : (counts : LegCounts) → (length old.entries ≡ 0 → AreZero counts)
       → (length old.entries ≢ 0 → counts ≡ kept) → AreCounted old most u counts
   AreCounted-anew counts none some = record {

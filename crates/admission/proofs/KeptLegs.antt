@@ -29,7 +29,7 @@ pub AreLegCounts-keeps : (old new : LegCounts) (legs : List ℕ → ℕ) → Are
 AreLegCounts-keeps old new legs s k =
     record { each = λ whole x. k.each x ∙ s.each (sym k.whole ∙ whole) x }
 
--- an endpoint of which no leg is known has none
+-- an endpoint that is known to have no leg has none
 pub none_known : (kept : LegCounts) (legs : List ℕ → ℕ) → AreLegCounts kept legs → (x : List ℕ)
     → option_eq nat_eq (known kept x) (Some 0) ≡ true → legs x ≡ 0
 none_known kept legs s x h = cases kept.whole refl h where

@@ -319,7 +319,7 @@ len_stored calls most t s view =
     ∙ len_entries call_key_decides call_key_cmp_total
     call_key_cmp-IsAntisymmetric calls.entries s.apart
 
--- the table is full if and only if the most calls that there may be are stored
+-- the table is full if and only if the limit of stored calls is reached
 pub full_stored : {S : Type 0} (calls : IndexMap CallKey Call S) (most : ℕ) (t : CallTable)
     → AreStored calls most → table_of calls most ≡ t
     → (fin.len t.calls ≡ t.most) ↔ (length calls.entries ≡ most)

@@ -11,7 +11,7 @@ use ras_module::EndpointId;
 use std::alloc::{AllocError, Global};
 
 /// In how many calls each endpoint has a leg. If a leg can't be counted for want of memory, the
-/// counts are given up, and nothing is known until they start anew.
+/// counts are given up, and nothing is known until they start again.
 #[derive(Drop)]
 pub struct LegCounts {
     // an endpoint without an entry has no leg
@@ -66,7 +66,7 @@ impl LegCounts {
         }
     }
 
-    /// Makes room for both legs of each of this many calls, if there is memory.
+    /// Makes room for both legs of this many calls, if there is memory.
     pub fn reserve(&mut self, calls: usize)
         ensures { Keeps self.old self.new }
     {
@@ -124,7 +124,7 @@ impl LegCounts {
         }
     }
 
-    /// Notes how many calls are left: if there is none, the counts start anew.
+    /// Notes how many calls are left. If there is none, the counts start again.
     pub fn calls_left(&mut self, calls: usize)
         requires { calls ≡ 0 → AreZero self.old }
         ensures none { calls ≡ 0 → AreZero self.new }

@@ -229,8 +229,8 @@ impl Calls {
         Ok(())
     }
 
-    /// Opens a call with its first leg. Nothing is changed if no further call may be open, or for
-    /// want of memory. Memory is never wanting if there is room.
+    /// Opens a call with its first leg. Nothing is changed if the limit of open calls is reached,
+    /// or for want of memory. It never fails for want of memory if there is room.
     pub fn open(&mut self, key: CallKey, pool: usize, units: u32, leg: Leg) -> Result<(), CallFault>
         requires { map.get self.old.calls key ≡ None }
         ensures ok { OnOk result (Adds self.old self.new
