@@ -131,7 +131,7 @@ module _ {S : Type 0} (rows : IndexMap KeptKey KeptEntry S) (most : ℕ) (t : Ke
     λ n. (let row = from_named n in is ∙ any_found id rows.entries row.0 row.1 row.2),
   )
 
-  -- and if and only if the list has it
+  -- and the list has an identifier if and only if a kept reply tells it
   pub listed_named : Contains (identifiers_of rows.entries) id ↔ IsNamed t.kept id
   listed_named = (
     λ h. (let row = told_by id rows.entries h in named_from row.0 row.1 row.2),

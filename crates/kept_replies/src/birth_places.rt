@@ -12,7 +12,7 @@ use indexmap::{IndexMap, IndexSet};
 use std::alloc::Global;
 use std::marker::Model;
 
-/// Births by places, for look-ups by birth. It is whole unless memory was wanting: then rows are
+/// Births by places, for look-ups by birth. It is whole unless memory was refused: then rows are
 /// searched, until there is memory for it again.
 #[derive(Drop)]
 pub(crate) struct BirthPlaces {

@@ -70,7 +70,7 @@ impl KeptState {
 }
 
 impl KeptEntry {
-    /// Whether the moment has come at which the reply is no longer kept.
+    /// Whether the time for which the reply is kept has ended.
     pub fn is_over(&self, now: u64) -> bool
         ensures { result ≡ is_over now self.now }
     {

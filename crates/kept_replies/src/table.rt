@@ -188,7 +188,7 @@ impl Kept {
         }
     }
 
-    /// Whether the most replies that may be kept are kept.
+    /// Whether the limit of kept replies is reached.
     pub fn is_full(&self) -> bool
         ensures full { IsTrue result ↔ (map.len self.now.kept ≡ self.now.most) }
         ensures sound { IsConsistent self.now }
@@ -196,7 +196,7 @@ impl Kept {
         self.len() == self.most
     }
 
-    /// Whether the most replies that may be kept are kept, and none of them is over.
+    /// Whether the limit of kept replies is reached, and none of them is over.
     pub fn is_busy(&self, now: u64) -> bool
         ensures { IsTrue result ↔ IsBusy self.now now }
     {

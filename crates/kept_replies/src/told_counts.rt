@@ -18,7 +18,7 @@ use ras_module::EndpointId;
 use std::alloc::Global;
 use std::marker::Model;
 
-/// Identifiers by how often they are told. It is whole unless memory was wanting: then rows are
+/// Identifiers by how often they are told. It is whole unless memory was refused: then rows are
 /// searched, until there is memory for it again.
 #[derive(Drop)]
 pub(crate) struct ToldCounts {
@@ -88,7 +88,7 @@ impl ToldCounts {
         }
     }
 
-    /// Counts a reply that is kept from now on, which may tell an identifier. This takes no memory.
+    /// Counts one more kept reply, which may tell an identifier. This takes no memory.
     pub(crate) fn add(&mut self, named: Option<&EndpointId>)
         ensures still { IsTrue self.new.is_whole → IsTrue self.old.is_whole }
         ensures times { IsTrue self.new.is_whole → (id : List ℕ)
@@ -103,7 +103,7 @@ impl ToldCounts {
             && write_times(&mut self.counts, id, times + 1);
     }
 
-    /// Counts a reply no longer, which may tell an identifier.
+    /// Takes a reply, which may tell an identifier, out of the counts.
     pub(crate) fn take_out(&mut self, named: Option<&EndpointId>)
         ensures still { IsTrue self.new.is_whole → IsTrue self.old.is_whole }
         ensures times { IsTrue self.new.is_whole → (id : List ℕ)
@@ -121,8 +121,8 @@ impl ToldCounts {
         }
     }
 
-    /// Counts another reply in place of that of the entry under this key. It may tell an
-    /// identifier. This takes no memory.
+    /// Counts another reply, which may tell an identifier, in place of that of the entry under this
+    /// key. This takes no memory.
     pub(crate) fn replace(
         &mut self,
         rows: &IndexMap<KeptKey, KeptEntry>,
