@@ -40,7 +40,7 @@ pub enum IgnoredCause {
     Unreadable,
     /// It is a message that the gatekeeper doesn't serve.
     NotServed,
-    /// The most replies that may be kept are kept, and none of them is over.
+    /// The limit of kept replies is reached, and none of them is over.
     Busy,
     /// It is a sign of life of an endpoint that isn't registered.
     UnknownEndpoint,
