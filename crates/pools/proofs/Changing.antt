@@ -70,7 +70,7 @@ pub accounts_of-new : (accounts : List Account) → accounts_of (map new_member 
 accounts_of-new [] = refl
 accounts_of-new (a ∷ accounts) = ap (λ bs. a ∷ bs) (accounts_of-new accounts)
 
--- The pools xs, of which callers see what f sees, with their counts.
+-- The pools xs with their counts. Callers see of a pool what f sees.
 module _ {X : Type 0} (f : X → Account) (xs : List X) (cs : List Counts) where
   few_accounts : AreCounted xs cs → length (map f xs) ≤ length cs
   few_accounts are = omega (arith, are.few, are.each, length-map xs f)

@@ -51,7 +51,7 @@ pool_after_return (pool.Step p) n =
 pool_after_return (pool.Paced p) n =
     pool.Paced (record p { account = account_after_return p.account n })
 
--- the pool after a turn: a whole burst may be lent anew
+-- the pool after a turn: a whole burst may be lent again
 abbrev pub pool_after_turn : StandardPool → StandardPool
 pool_after_turn (pool.Fixed account) = pool.Fixed account
 pool_after_turn (pool.Step p) = pool.Step p
