@@ -1,4 +1,4 @@
--- Pools to which units may come back, and of which nothing else changes.
+-- Pools to which units may come back. Nothing else of them changes.
 use Rattle.std.proofs.Common.{◌<◌, ◌+◌, ℕ, List, length, refl, sym, ◌∙◌, subst, Some, None, arith}
 use Rattle.std.specs.Prelude.{Option}
 use Rattle.std.proofs.lemmas.List.{get_or_default, length-set}

@@ -236,7 +236,7 @@ impl Bandwidth {
         }
     }
 
-    /// An endpoint leaves all its calls.
+    /// Takes an endpoint out of all its calls.
     pub fn leave_all(&mut self, endpoint: &EndpointId)
         ensures left { HaveLeft endpoint.now self.old.usage self.new.usage }
         ensures others { HaveOthersLegs endpoint.now self.old.usage.calls self.new.usage.calls }

@@ -259,8 +259,8 @@ impl Endpoints {
     }
 }
 
-/// Takes out all aliases of an endpoint, if it is registered. The time grows with the number of its
-/// aliases alone.
+/// Takes out all aliases of an endpoint, if it is registered. The time grows only with the number
+/// of its aliases.
 fn drop_aliases(registrations: &Registrations, aliases: &mut AliasTable, id: &EndpointId)
     requires { Agree registrations.now.live aliases.old.held }
     ensures { Becomes aliases.old aliases.new (without_holder aliases.old.held id.now) }

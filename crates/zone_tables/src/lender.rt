@@ -23,7 +23,7 @@ pub trait Lender {
     /// lender.
     ghost lends: { Self → List Figures → RequestedUnits → Lend → Self → Type 0 };
 
-    /// Asks for units of a pool, whose index is below `pools.len()`.
+    /// Asks a pool for units. Its index has to be below `pools.len()`.
     fn ask(&mut self, pools: &PoolFigures, pool: usize, units: u64) -> Lend
         requires figures { lends_for self.old pools.now }
         requires may { MayBeAsked pools.now pool units }

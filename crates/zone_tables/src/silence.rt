@@ -28,7 +28,7 @@ pub(crate) fn make_place(
     silences.reserve(1)
 }
 
-/// Enters anew when the silence of an endpoint ends, or nothing if it isn't registered. This is
+/// Enters again when the silence of an endpoint ends, or nothing if it isn't registered. This is
 /// called after each change of a registration or of the number of its endpoint's legs.
 pub(crate) fn watch(
     silences: &mut Silences,

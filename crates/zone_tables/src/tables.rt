@@ -384,7 +384,7 @@ impl ZoneTables {
         Ok(answer)
     }
 
-    /// An endpoint leaves all its calls.
+    /// Takes an endpoint out of all its calls.
     fn leave_all(&mut self, id: &EndpointId)
         ensures tables { self.new ≡ without_legs_of self.old id.now }
         ensures pools { AreSameButLent self.old.pools self.new.pools }
