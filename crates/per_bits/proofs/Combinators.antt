@@ -173,7 +173,7 @@ aligned_takes bits rest e =
     ∙ ap (λ (t : List Bool). take (length bits % 8) bits ++ t) (sym e) in
     (take (length bits % 8) bits, parts, omega (arith, length-take (length bits % 8) bits))
 
--- what is read by a reading function that is exact is what the bits encode
+-- a reader that gives what an exact reading function gives decodes the form
 pub answers : {A F : Type 0} (encodes : A → ℕ → List Bool → Type 0)
     (read : List Bool → Result (A × List Bool) F) → IsExact encodes read
     → (old new : List Bool) (result : Result A F) → Gives read old result new

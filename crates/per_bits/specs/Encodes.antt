@@ -88,7 +88,7 @@ abbrev pub Decodes : {A F : Type 0} → (A → ℕ → List Bool → Type 0) →
 Decodes encodes old (Ok x) new = Passes (encodes x) old new
 Decodes encodes old (Err fault) new = IsUnreadable encodes old × (new ≡ old)
 
--- Bits at one place begin with an encoding of at most one value, in one length.
+-- Bits at one place begin with an encoding of at most one value, and of only one length.
 abbrev pub HasOneReading : {A : Type 0} → (A → ℕ → List Bool → Type 0) → Type 0
 HasOneReading {A} encodes = (v w : A) (place : ℕ) (front other rest more : List Bool) → place < 8
     → encodes v place front → encodes w place other → front ++ rest ≡ other ++ more
