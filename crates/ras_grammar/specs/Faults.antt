@@ -52,7 +52,7 @@ front_of count (Ok characters) = Ok (take count characters)
 front_of count (Err fault) = Err fault
 
 -- What reading returned is what the reading function gives, and the decoder stands after it; after
--- a fault the decoder is where it was. A fault may also be that memory was wanting. The reading
+-- a fault the decoder is where it was. A fault may also be that memory was refused. The reading
 -- function knows nothing of that.
 abbrev pub GivesUnlessMemory : {A : Type 0} → (List Bool → Result (A × List Bool) ReadFault)
     → List Bool
@@ -61,6 +61,6 @@ GivesUnlessMemory reading old (Ok x) new = reading old ≡ Ok (x, new)
 GivesUnlessMemory reading old (Err fault) new = ((fault ≡ Memory) ⊎ (reading old ≡ Err fault)) ×
     (new ≡ old)
 
--- The result is this one, unless memory was wanting.
+-- The result is this one, unless memory was refused.
 abbrev pub IsUnlessMemory : {A : Type 0} → Result A ReadFault → Result A ReadFault → Type 0
 IsUnlessMemory expected result = (result ≡ Err Memory) ⊎ (result ≡ expected)
