@@ -93,8 +93,7 @@ number_used rows taken id n is has =
     subst (λ (m : ℕ). has_number (map number_of (used rows taken)) m ≡ true) is
     (has_its_number (used rows taken) id (used_any rows taken id ∙ has))
 
--- the k-th number that is tried, if the search begins at this one: after the last of 64 bits comes
--- 1
+-- the k-th number that is tried, if the search begins here: after the last of 64 bits comes 1
 abbrev pub number_at : ℕ → ℕ → ℕ
 number_at start k =
     if nat_lt (start + k) 18446744073709551616 then start + k
