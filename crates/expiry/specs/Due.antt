@@ -37,7 +37,7 @@ abbrev pub is_to_be_asked : Times → ℕ → Registration → Bool
 is_to_be_asked times now r =
     is_unheard times now r || is_asked_less times r && is_unanswered times now r
 
--- it was asked all the times that it may be asked, and gave no sign of life
+-- it was interrogated `asks` times and gave no sign of life
 abbrev pub is_silent : Times → ℕ → Registration → Bool
 is_silent times now r = nat_eq r.tries times.asks && is_unanswered times now r
 

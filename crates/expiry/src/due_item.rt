@@ -60,8 +60,8 @@ fn asks_for_life(registrations: &Registrations, id: &EndpointId, now: u64, times
     }
 }
 
-/// Whether a registered endpoint, if it is in a call, was asked all the times that it may be asked,
-/// and gave no sign of life.
+/// Whether a registered endpoint, if it is in a call, was interrogated `asks` times and gave no
+/// sign of life.
 fn gave_no_life(registrations: &Registrations, id: &EndpointId, now: u64, times: &Times) -> bool
     ensures { IsTrue result ↔ IsLiveAnd (is_silent times.now now) registrations.now.live id.now }
 {

@@ -131,8 +131,7 @@ pub(crate) fn is_to_be_asked(registration: &Registration, now: u64, times: &Time
     registration.tries < times.asks && has_passed(registration.asked, times.ask_wait, now)
 }
 
-/// Whether an endpoint in a call was asked all the times that it may be asked, and gave no sign of
-/// life.
+/// Whether an endpoint in a call was interrogated `asks` times and gave no sign of life.
 pub(crate) fn is_silent(registration: &Registration, now: u64, times: &Times) -> bool
     ensures { result ≡ is_silent times.now now registration.now }
 {
