@@ -31,8 +31,9 @@ pub record IsConfig (parts : ConfigParts) : Type 0 where
   pub ranges : range_fault parts ≡ None
   pub default_pool : has_default parts.networks ≡ true
 
--- The settings are those of the configuration. Or the fault names the first key out of range. Or,
--- if there is none, the fault is that the last pool has a network, or that there is no pool.
+-- The settings are those of the configuration. Or the fault names the first key out of range, or,
+-- after the keys, a network with too many bits. Or, if there is none of these, the fault is that
+-- the last pool has a network, or that there is no pool.
 abbrev pub IsConfigAnswer : ConfigParts → Result ConfigParts ConfigFault → Type 0
 IsConfigAnswer parts (Ok config) = (config ≡ parts) × IsConfig parts
 IsConfigAnswer parts (Err (OutOfRange key)) = range_fault parts ≡ Some key.now
