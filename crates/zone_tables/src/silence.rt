@@ -77,7 +77,7 @@ fn end_of(registration: &Registration, legs: usize, times: &Times) -> Option<u64
 }
 
 /// When the silence of an endpoint in a call ends. None if no clock reaches that moment, or if the
-/// endpoint was asked more often than it may be.
+/// endpoint was interrogated more than `asks` times.
 fn end_in_call(registration: &Registration, times: &Times) -> Option<u64>
     ensures { result ≡ end_in_call times.now registration.now }
 {

@@ -21,7 +21,7 @@ end_after since wait = if nat_lt (since + wait) (2 ^ 64) then Some (since + wait
 
 -- when the silence of an endpoint in a call ends: if it wasn't asked since it was heard, the time
 -- `silence` after it was heard; else the time `ask_wait` after it was asked, unless it was asked
--- more often than it may be
+-- more than `asks` times
 abbrev pub end_in_call : Times → Registration → Option ℕ
 end_in_call times r =
     if nat_eq r.tries 0 then end_after r.heard times.silence
