@@ -56,7 +56,7 @@ module _ {S : Type 0} (old new : IndexMap CallKey Call S) (most : ℕ) (u : InUs
     legs = AreLegCounts-keeps kept counts (legs_of (open_of old)) s.legs k;
   }
 
-  -- the legs are counted anew, where no call is left
+  -- the counts of the legs start again if no call is left
   pub AreCounted-anew : (counts : LegCounts) → (length old.entries ≡ 0 → AreZero counts)
       → (length old.entries ≢ 0 → counts ≡ kept) → AreCounted old most u counts
   AreCounted-anew counts none some = record {
@@ -110,7 +110,7 @@ module _ {S : Type 0} (old new : IndexMap CallKey Call S) (most : ℕ) (u : InUs
 
       module _ (counts : LegCounts) (endpoint : List ℕ) (has : has_leg endpoint call ≡ true)
           (goes : Goes kept counts endpoint) where
-        -- another endpoint stays
+        -- an endpoint leaves, and another stays
         pub AreCounted-left : has_other call.legs endpoint ≡ true
             → Rewrites (with_legs_but endpoint) old new key → AreCounted new most u counts
         AreCounted-left other r =
@@ -122,7 +122,7 @@ module _ {S : Type 0} (old new : IndexMap CallKey Call S) (most : ℕ) (u : InUs
             (AreSums-left (open_of old) key u s.sums call endpoint there other)
             (AreLegCounts-leave (open_of old) key kept s.legs counts call endpoint goes there has)
 
-        -- none stays
+        -- an endpoint leaves, and none stays
         pub AreCounted-ended : (v : InUse) → has_other call.legs endpoint ≡ false
             → (removed : Option Call) → removed ≡ hash.get same_call_key old key
             → hash.IsUnique same_call_key new → hash.Updates same_call_key old new key None

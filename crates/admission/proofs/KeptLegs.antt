@@ -29,7 +29,7 @@ pub AreLegCounts-keeps : (old new : LegCounts) (legs : List ℕ → ℕ) → Are
 AreLegCounts-keeps old new legs s k =
     record { each = λ whole x. k.each x ∙ s.each (sym k.whole ∙ whole) x }
 
--- an endpoint of which no leg is known has none
+-- an endpoint that is known to have no leg has none
 pub none_known : (kept : LegCounts) (legs : List ℕ → ℕ) → AreLegCounts kept legs → (x : List ℕ)
     → option_eq nat_eq (known kept x) (Some 0) ≡ true → legs x ≡ 0
 none_known kept legs s x h = cases kept.whole refl h where
@@ -39,7 +39,7 @@ none_known kept legs s x h = cases kept.whole refl h where
   cases true whole e = sym (s.each whole x) ∙ (Decides-eqb (count_of kept x) 0).0 e
   cases false whole e = absurd (cc e)
 
--- where there is no call
+-- if there is no call
 pub AreLegCounts-empty : (kept : LegCounts) → AreZero kept → AreLegCounts kept (legs_of fin.empty)
 AreLegCounts-empty kept zero = record {
   each = λ whole x. zero.each whole x

@@ -1,4 +1,4 @@
--- What an endpoint that leaves a call leaves of it.
+-- What is left of a call when an endpoint leaves it.
 use Rattle.std.proofs.Common.{◌≡◌, ℕ, true, false, List, sym, ◌∙◌, ap, Some, None}
 use Rattle.std.specs.Prelude.{Option, is_some, if◌then◌else◌, option_and_then}
 use Rattle.std.specs.FinMap as fin
@@ -10,7 +10,7 @@ use Rattle.admission.specs.Calls.{OpenCalls, with_legs, rest_of_call, put_or_rem
 use Rattle.admission.specs.Calls.{freed_by, freed_by_leave}
 use Rattle.admission.proofs.LegLemmas.{other_left, none_left}
 
--- the legs of others, where another endpoint has one
+-- the legs of others, if another endpoint has one
 pub rest-other : (call : Call) (endpoint : List ℕ) → has_other call.legs endpoint ≡ true
     → rest_of_call endpoint call ≡ Some (with_legs_but endpoint call)
 rest-other call endpoint other =
@@ -35,7 +35,7 @@ module _ (calls : OpenCalls) (key : CallKey) (endpoint : List ℕ) (call : Call)
   freed_is w rest = ap (option_and_then (freed_by endpoint)) there
       ∙ ap (λ x. if is_some x then None else Some (call.pool, call.units)) rest
 
-  -- where another endpoint has a leg, the call stays with it, and nothing is freed
+  -- if another endpoint has a leg, the call stays with it, and nothing is freed
   pub after_leave-other : has_other call.legs endpoint ≡ true
       → after_leave calls key endpoint ≡ fin.insert calls key (with_legs_but endpoint call)
   after_leave-other other =
@@ -44,7 +44,7 @@ module _ (calls : OpenCalls) (key : CallKey) (endpoint : List ℕ) (call : Call)
   pub freed-other : has_other call.legs endpoint ≡ true → freed_by_leave calls key endpoint ≡ None
   freed-other other = freed_is (Some (with_legs_but endpoint call)) (rest-other call endpoint other)
 
-  -- where none has, the call ends, and its units are freed
+  -- if none has, the call ends, and its units are freed
   pub after_leave-last : has_other call.legs endpoint ≡ false
       → after_leave calls key endpoint ≡ fin.remove calls key
   after_leave-last last = left_is None (rest-last call endpoint last)

@@ -52,7 +52,7 @@ module _ (figure : Call → ℕ) (calls : OpenCalls) (key : CallKey) where
       → total figure (update calls key change) ≡ total figure calls
   total-kept call change there keeps = omega (arith, total-update call change there, keeps)
 
-  -- an endpoint that leaves a call where another stays
+  -- an endpoint leaves a call in which another stays
   pub total-left : (call : Call) (endpoint : List ℕ) → fin.get calls key ≡ Some call
       → has_other call.legs endpoint ≡ true
       → total figure (after_leave calls key endpoint) + figure call
@@ -65,7 +65,7 @@ module _ (figure : Call → ℕ) (calls : OpenCalls) (key : CallKey) where
             (with_legs_but endpoint call) there,
       )
 
-  -- and where none does
+  -- and one in which none stays
   pub total-ended : (call : Call) (endpoint : List ℕ) → fin.get calls key ≡ Some call
       → has_other call.legs endpoint ≡ false
       → total figure calls ≡ figure call + total figure (after_leave calls key endpoint)
@@ -111,7 +111,7 @@ module _ (calls : OpenCalls) (key : CallKey) where
   in_use_of-set_units p call units there =
       total-update (units_from p) calls key call (with_units units) there
 
-  -- an endpoint that leaves frees units with the last leg alone
+  -- an endpoint that leaves frees units only if its leg is the last
   pub in_use-left : (call : Call) (endpoint : List ℕ) → fin.get calls key ≡ Some call
       → has_other call.legs endpoint ≡ true
       → in_use (after_leave calls key endpoint) ≡ in_use calls
@@ -137,7 +137,7 @@ module _ (calls : OpenCalls) (key : CallKey) where
   in_use_of-ended p call endpoint there last =
       omega (arith, total-ended (units_from p) calls key call endpoint there last)
 
--- one where a test passes, as `leg_count` counts
+-- 1 if a test passes, and else 0, as `leg_count` counts
 abbrev count : Bool → ℕ
 count b = if b then 1 else 0
 
@@ -147,7 +147,7 @@ has_leg_in legs x = is_some (leg_of legs x)
 abbrev is_of : List ℕ → Leg → Bool
 is_of x leg = pointwise nat_eq leg.endpoint x
 
--- what is the one endpoint and not the other
+-- an endpoint that is one of two different ones isn't the other
 other_than : (a b x : List ℕ) → a ≡ x → pointwise nat_eq a b ≡ false → pointwise nat_eq b x ≡ false
 other_than a b x e h = false_from_ne_true (pointwise nat_eq b x)
     (λ t. cc (h, (texts_decide a b).1 (e ∙ sym ((texts_decide b x).0 t))))
@@ -285,7 +285,7 @@ zero_count : (b : Bool) → count b ≤ 0 → b ≡ false
 zero_count true h = absurd (omega arith)
 zero_count false h = refl
 
--- an endpoint has no leg exactly where it is in no call
+-- an endpoint has no leg if and only if it is in no call
 pub IsInNoCall-zero : (calls : OpenCalls) (x : List ℕ) → legs_of calls x ≡ 0 → IsInNoCall calls x
 IsInNoCall-zero calls x zero key = cases (fin.get calls key) refl where
   cases : (w : Option Call) → fin.get calls key ≡ w → leg_of (legs_in w) x ≡ None
@@ -355,7 +355,7 @@ module _ (P : Leg → Type 0) (calls : OpenCalls) (key : CallKey) (each : EachLe
       (λ other. All-filter (λ leg. not (pointwise nat_eq leg.endpoint endpoint)) P
       call.legs (each key call there))
 
--- the legs of the calls in which an endpoint takes no part are others'
+-- if an endpoint takes part in no call, all legs are those of other endpoints
 pub EachLeg-other : (calls : OpenCalls) (x : List ℕ) → IsInNoCall calls x
     → EachLeg (λ leg. leg.endpoint ≢ x) calls
 EachLeg-other calls x none key call there =

@@ -297,8 +297,8 @@ module _ {S : Type 0} (calls : IndexMap CallKey Call S) (most : ℕ) (t : CallTa
         none_from (leg_of call.legs endpoint)
         (sym (ap (has_leg endpoint) row.2.value_is) ∙ none row.0 row.1 row.2.there)
 
-  -- the first entry's call with a leg of the endpoint is one, and where there is no such entry
-  -- there is none
+  -- the first entry whose call has a leg of the endpoint gives such a call; if there is no such
+  -- entry, there is no such call
   pub call_found : MatchOption (option_map key_of (find (λ e. has_leg endpoint e.1) calls.entries))
       (IsInNoCall t.calls endpoint)
       (λ key. IsSome (leg_at t.calls key endpoint))
@@ -319,7 +319,7 @@ len_stored calls most t s view =
     ∙ len_entries call_key_decides call_key_cmp_total
     call_key_cmp-IsAntisymmetric calls.entries s.apart
 
--- the table is full just where as many calls are stored as there may be
+-- the table is full if and only if the limit of stored calls is reached
 pub full_stored : {S : Type 0} (calls : IndexMap CallKey Call S) (most : ℕ) (t : CallTable)
     → AreStored calls most → table_of calls most ≡ t
     → (fin.len t.calls ≡ t.most) ↔ (length calls.entries ≡ most)

@@ -15,8 +15,8 @@ use Rattle.admission.specs.Legs.{AreLegs, leg_of, same_leg, without_leg}
 abbrev pub OpenCalls : Type 0
 OpenCalls = FinMap call_key_cmp Call
 
--- with the most that there may be, and how many more can be opened so that no memory is taken for
--- them
+-- the calls, the most that there may be, and how many more can be opened so that no memory is taken
+-- for them
 pub record CallTable : Type 0 where
   pub calls : OpenCalls
   pub most : ℕ
@@ -43,14 +43,14 @@ units_of call = call.units
 abbrev pub in_use : OpenCalls → ℕ
 in_use calls = total units_of calls
 
--- of one pool: the sum over the calls whose units it lent
+-- bandwidth in use of one pool: the sum over the calls whose units it lent
 abbrev pub units_from : ℕ → Call → ℕ
 units_from pool call = if nat_eq call.pool pool then call.units else 0
 
 abbrev pub in_use_of : OpenCalls → ℕ → ℕ
 in_use_of calls pool = total (units_from pool) calls
 
--- the legs of a call, and none where there is no call
+-- the legs of a call, or none if there is no call
 abbrev pub legs_in : Option Call → List Leg
 legs_in None = []
 legs_in (Some call) = call.legs
@@ -86,16 +86,16 @@ with_leg leg call = record call { legs = call.legs ++ leg ∷ [] }
 abbrev pub with_units : ℕ → Call → Call
 with_units units call = record call { units = units }
 
--- the call with these legs alone: without any it ends
+-- the call with only these legs; without any it ends
 abbrev pub with_legs : List Leg → Call → Option Call
 with_legs [] call = None
 with_legs (leg ∷ legs) call = Some (record call { legs = leg ∷ legs })
 
--- what an endpoint that leaves a call leaves of it
+-- what is left of a call when an endpoint leaves it
 abbrev pub rest_of_call : List ℕ → Call → Option Call
 rest_of_call endpoint call = with_legs (without_leg call.legs endpoint) call
 
--- the calls where this is what the key has
+-- the calls, if this is what stands under the key
 abbrev pub put_or_remove : OpenCalls → CallKey → Option Call → OpenCalls
 put_or_remove calls key None = remove calls key
 put_or_remove calls key (Some call) = insert calls key call
@@ -105,7 +105,7 @@ abbrev pub after_leave : OpenCalls → CallKey → List ℕ → OpenCalls
 after_leave calls key endpoint =
     put_or_remove calls key (option_and_then (rest_of_call endpoint) (get calls key))
 
--- the pool and the units of a call whose last leg went so
+-- the pool and the units of a call, if no leg is left after this endpoint's
 abbrev pub freed_by : List ℕ → Call → Option (ℕ × ℕ)
 freed_by endpoint call =
     if is_some (rest_of_call endpoint call) then None else Some (call.pool, call.units)
@@ -132,20 +132,20 @@ pub record IsConsistent (t : CallTable) : Type 0 where
   pub few : len t.calls ≤ t.most
   pub most : t.most ≤ 20000
 
--- the table has what it had, and no less room
+-- the table has the same calls, and no less room
 pub record Stays (old new : CallTable) : Type 0 where
   pub rows : new.calls ≡ old.calls
   pub most : new.most ≡ old.most
   pub room : old.room ≤ new.room
 
--- what a change that takes no memory and no room makes of the table
+-- after a change that takes no memory and no room, the table has these
 pub record Becomes (old new : CallTable) (calls : OpenCalls) : Type 0 where
   pub rows : new.calls ≡ calls
   pub most : new.most ≡ old.most
   pub room : old.room ≤ new.room
   pub sound : IsConsistent new
 
--- what one more call makes of the table
+-- after one more call was opened, the table has these
 pub record Adds (old new : CallTable) (calls : OpenCalls) : Type 0 where
   pub rows : new.calls ≡ calls
   pub most : new.most ≡ old.most

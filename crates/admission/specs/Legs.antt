@@ -9,15 +9,15 @@ use Rattle.admission.specs.declared.leg.Leg.{Leg}
 abbrev pub endpoint_of : Leg → List ℕ
 endpoint_of leg = leg.endpoint
 
--- legs are compared by their endpoint, and by the octets and the port of the address that it was
--- told
+-- legs are compared by their endpoint, and by the octets and the port of the address that the
+-- endpoint was told
 abbrev pub same_leg : Leg → Leg → Bool
 same_leg =
     eq_of_both (on (λ leg. leg.endpoint) (pointwise nat_eq))
     (eq_of_both (on (λ leg. leg.told.ip) (pointwise nat_eq)) (on (λ leg. leg.told.port) ◌==◌))
 
--- a call is between two endpoints, of which one may not have asked for admission yet: one or two
--- legs, of different endpoints
+-- a call is between two endpoints, and perhaps only one of them has asked for admission so far: it
+-- has one or two legs, of different endpoints
 pub record AreLegs (legs : List Leg) : Type 0 where
   pub some : 1 ≤ length legs
   pub few : length legs ≤ 2

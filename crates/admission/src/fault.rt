@@ -8,7 +8,7 @@ use thiserror::Error;
 /// Why the table of the calls isn't changed, or not copied.
 #[derive(Clone, Copy, Debug, PartialEq, Eq, Error)]
 pub enum CallFault {
-    /// As many calls are open as may be.
+    /// The limit of open calls is reached.
     #[error("as many calls are open as may be")]
     Full,
     /// Two endpoints take part already.

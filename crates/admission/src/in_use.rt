@@ -4,8 +4,8 @@ ghost use Rattle.std.specs.Prelude.{◌≡◌, ◌≤◌, ◌<◌, ◌+◌, ◌^
 ghost use Rattle.std.specs.Option.{option_copied};
 ghost use Rattle.admission.specs.inside.Sums.{sum_of, AreZero, Grows};
 
-/// The units of the calls: of all, and of each pool. A zone has at most 16 pools; those of a pool
-/// with a larger number aren't kept.
+/// The units of all calls, and of the calls of each pool. A zone has at most 16 pools; the units of
+/// a pool with a larger number aren't kept.
 #[derive(Clone, Copy)]
 pub struct InUse {
     pub total: u64,
@@ -13,7 +13,7 @@ pub struct InUse {
 }
 
 impl InUse {
-    /// What no calls use.
+    /// The sums of no calls.
     pub fn none() -> Self
         ensures { AreZero result }
     {
@@ -23,14 +23,14 @@ impl InUse {
         }
     }
 
-    /// The units of the calls of one pool, where they are kept.
+    /// The units of the calls of one pool, if they are kept.
     pub fn of_pool(&self, pool: usize) -> Option<&u64>
         ensures { option_copied result ≡ slice_get self.now.by_pool pool }
     {
         self.by_pool.get(pool)
     }
 
-    /// The calls of this pool use so many units more.
+    /// The calls of this pool use this many units more.
     pub fn add(&mut self, pool: usize, units: u32)
         requires total { self.old.total + units < 2 ^ 64 }
         requires pool { pool < length self.old.by_pool → sum_of self.old pool + units < 2 ^ 64 }
@@ -42,7 +42,7 @@ impl InUse {
         }
     }
 
-    /// The calls of this pool use so many units fewer.
+    /// The calls of this pool use this many units fewer.
     pub fn take(&mut self, pool: usize, units: u32)
         requires total { units ≤ self.old.total }
         requires pool { pool < length self.old.by_pool → units ≤ sum_of self.old pool }

@@ -12,7 +12,7 @@ pub struct Leg {
 }
 
 impl Default for Leg {
-    /// A leg that is none: what stands in an unused place of a list.
+    /// A leg of no endpoint: it stands in the unused places of a list.
     fn default() -> Leg {
         Leg {
             endpoint: EndpointId::new(BmpString::new(&[48]).unwrap()),

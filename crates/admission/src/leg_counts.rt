@@ -10,8 +10,8 @@ use indexmap::IndexMap;
 use ras_module::EndpointId;
 use std::alloc::{AllocError, Global};
 
-/// In how many calls each endpoint has a leg. Where a leg can't be counted for want of memory, the
-/// counts are given up, and nothing is known until they start anew.
+/// In how many calls each endpoint has a leg. If a leg can't be counted for want of memory, the
+/// counts are given up, and nothing is known until they start again.
 #[derive(Drop)]
 pub struct LegCounts {
     // an endpoint without an entry has no leg
@@ -23,7 +23,7 @@ pub struct LegCounts {
 }
 
 impl LegCounts {
-    /// Of no calls. This takes no memory.
+    /// The counts of no calls. This takes no memory.
     pub fn new(alloc: Global) -> Self
         ensures zero { AreZero result }
         ensures whole { IsTrue result.whole }
@@ -47,7 +47,7 @@ impl LegCounts {
         })
     }
 
-    /// In how many calls this endpoint has a leg, where it is known.
+    /// In how many calls this endpoint has a leg, if that is known.
     pub fn of(&self, endpoint: &EndpointId) -> Option<usize>
         ensures { result ≡ known self.now endpoint.now }
     {
@@ -66,17 +66,17 @@ impl LegCounts {
         }
     }
 
-    /// Makes room for both legs of each of so many calls, where there is memory.
+    /// Makes room for both legs of this many calls, if there is memory.
     pub fn reserve(&mut self, calls: usize)
         ensures { Keeps self.old self.new }
     {
         let missing = calls.saturating_mul(2).saturating_sub(self.legs);
-        // where there was none, a leg that comes and finds no room shows it
+        // if there was no memory, the counts are given up when a leg comes that finds no room
         let _ = self.counts.reserve(missing);
     }
 
-    /// Counts one leg more. This takes no memory: where there is no room for it, the counts are
-    /// given up.
+    /// Counts one leg more. This takes no memory: if there is no room for it, the counts are given
+    /// up.
     pub fn come(&mut self, endpoint: &EndpointId)
         requires { IsTrue self.old.whole → count_of self.old endpoint.now < 2 ^ 63 }
         ensures comes { Comes self.old self.new endpoint.now }
@@ -111,7 +111,7 @@ impl LegCounts {
         self.put(*endpoint, count - 1);
     }
 
-    /// The endpoint has so many legs.
+    /// Writes how many legs the endpoint has.
     fn put(&mut self, endpoint: EndpointId, count: usize)
         ensures puts { Puts self.old self.new endpoint count }
         ensures new { 0 < spare self.old.counts → self.new.whole ≡ self.old.whole }
@@ -124,7 +124,7 @@ impl LegCounts {
         }
     }
 
-    /// So many calls are left: where there is none, the counts start anew.
+    /// Notes how many calls are left. If there is none, the counts start again.
     pub fn calls_left(&mut self, calls: usize)
         requires { calls ≡ 0 → AreZero self.old }
         ensures none { calls ≡ 0 → AreZero self.new }

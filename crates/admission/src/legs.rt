@@ -81,7 +81,7 @@ impl Legs {
         self.items.push(leg);
     }
 
-    /// Takes the leg of an endpoint out, where another has one.
+    /// Takes the leg of an endpoint out. Another endpoint has to have one.
     pub(crate) fn remove(&mut self, endpoint: &EndpointId)
         requires { IsTrue (has_other self.old endpoint.now) }
         ensures { self.new ≡ without_leg self.old endpoint.now }

@@ -1,5 +1,5 @@
-//! The calls that the gatekeeper has admitted (H.323, 7.2): who takes part in each, and the bandwidth
-//! that they use.
+//! The calls that the gatekeeper has admitted (H.323, 7.2): who takes part in each, and the
+//! bandwidth that they use.
 #![tactic(auto)]
 
 mod call;

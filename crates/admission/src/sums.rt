@@ -52,7 +52,7 @@ pub(crate) fn call_in(calls: &IndexMap<CallKey, Call>, endpoint: &EndpointId) ->
     None
 }
 
-/// The key of such a call, if one stands at this place or behind it.
+/// The key of such a call, if one stands at this place or after it.
 pub(crate) fn call_from(
     calls: &IndexMap<CallKey, Call>,
     place: usize,

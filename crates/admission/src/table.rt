@@ -28,7 +28,7 @@ use std::marker::Model;
 /// What an endpoint that left a call has ended.
 #[derive(Clone, Copy, Debug, PartialEq, Eq)]
 pub struct Left {
-    /// The pool and the units of the call, where its last leg went.
+    /// The pool and the units of the call, if its last leg went.
     pub ended: Option<(usize, u32)>,
 }
 
@@ -39,13 +39,13 @@ pub struct Calls {
     // what the calls use, and how many legs each endpoint has: changed with the calls
     in_use: InUse,
     leg_counts: LegCounts,
-    // where the call stood that an endpoint left last: the next search begins there, so that an
-    // endpoint leaves all its calls in one pass
+    // where the call stood that was left last: the next search begins there, so that an endpoint
+    // leaves all its calls in one pass
     left_at: usize,
 }
 
-// By hand, so that it is one call where such a table is dropped: a derived one is written out at each
-// exit of each function that owns a table, field by field down to the buffers.
+// By hand, so that it is one call where such a table is dropped: a derived one is written out at
+// each exit of each function that owns a table, field by field down to the buffers.
 impl Drop for Calls {
     fn drop(self) {
         let Calls {
@@ -80,7 +80,7 @@ impl Model for Calls {
 }
 
 impl Calls {
-    /// No call, where so many may be open. This takes no memory.
+    /// A table with no call, in which at most this many may be open. This takes no memory.
     pub fn new(alloc: Global, most: usize) -> Self
         requires some { 1 ≤ most }
         requires few { most ≤ 20000 }
@@ -152,7 +152,7 @@ impl Calls {
         self.calls.get(key)
     }
 
-    /// Where the call with this key stands, which only a search asks.
+    /// Where the call with this key stands. Only a search for a call asks this.
     fn place_of(&self, key: &CallKey) -> usize {
         self.calls.get_index_of(key).unwrap_or(0)
     }
@@ -164,7 +164,7 @@ impl Calls {
         self.get(key)?.legs.get(endpoint)
     }
 
-    /// The key of a call with a leg of this endpoint: any of them, and None where there is none.
+    /// The key of a call with a leg of this endpoint: any of them. None if there is none.
     pub fn call_of(&self, endpoint: &EndpointId) -> Option<CallKey>
         ensures { MatchOption result (IsInNoCall self.now.calls endpoint.now)
             (λ key. IsSome (leg_at self.now.calls key endpoint.now)) }
@@ -214,7 +214,7 @@ impl Calls {
         rising(*self.calls.allocator(), &self.calls)
     }
 
-    /// Makes room for so many more.
+    /// Makes room for this many more.
     pub fn reserve(&mut self, more: usize) -> Result<(), AllocError>
         ensures calls { self.new.calls ≡ self.old.calls }
         ensures most { self.new.most ≡ self.old.most }
@@ -229,8 +229,8 @@ impl Calls {
         Ok(())
     }
 
-    /// Opens a call with its first leg. Nothing is changed where as many are open as may be, and for
-    /// want of memory, which is never where there is room.
+    /// Opens a call with its first leg. Nothing is changed if the limit of open calls is reached,
+    /// or for want of memory. It never fails for want of memory if there is room.
     pub fn open(&mut self, key: CallKey, pool: usize, units: u32, leg: Leg) -> Result<(), CallFault>
         requires { map.get self.old.calls key ≡ None }
         ensures ok { OnOk result (Adds self.old self.new
@@ -305,7 +305,8 @@ impl Calls {
         Ok(())
     }
 
-    /// Takes an endpoint's leg out of a call, which ends with its last leg. This takes no memory.
+    /// Takes an endpoint's leg out of a call. The call ends with its last leg. This takes no
+    /// memory.
     pub fn leave(&mut self, key: &CallKey, endpoint: &EndpointId) -> Result<Left, CallFault>
         ensures ok { OnOk result (Becomes self.old self.new
             (after_leave self.old.calls key.now endpoint.now)) }

@@ -111,7 +111,7 @@ was_held held id alias h is = cases (fin.get held alias) refl where
   cases (Some x) there = by_test (pointwise nat_eq x.holder id) (texts_decide x.holder id) _
       (λ same. some_none (sym is ∙ get-without_own held id alias x there same)) (another x there)
 
--- an alias that no other endpoint holds is entered
+-- if no other endpoint holds an alias, none does after this endpoint entered one
 free_with_alias : (held : Held) (a b : Alias) (id : List ℕ) (address : Address)
     → (IsHeldByAnother held a id → ⊥) → IsHeldByAnother (with_alias held b id address) a id → ⊥
 free_with_alias held a b id address free other =

@@ -1,4 +1,4 @@
--- What is left of the aliases where an endpoint gives up all that are its own.
+-- What is left of the aliases after an endpoint gave up all that are its own.
 use Rattle.std.proofs.Common.{◌≡◌, ℕ, Bool, true, false, cond, List, [], ◌∷◌, refl, sym, ◌∙◌, ap}
 use Rattle.std.proofs.Common.{Some, None, ◌≢◌, ◌++◌, arith}
 use Rattle.std.specs.Prelude.{Option, Contains, nat_eq}
@@ -22,7 +22,8 @@ without_aliases-push held (a ∷ aliases) alias id =
     without_aliases-push (without_alias held a id) aliases alias id
 
 module _ (id : List ℕ) (q : Alias) where
-  -- what an alias has when one is given up: what it had, or nothing where it is that one
+  -- what is held under an alias after one is given up: the same as before, or nothing if it is that
+  -- one
   one_left : (held : Held) (a : Alias) (b : Bool) → is_held_by id (fin.get held a) ≡ b
       → (q ≢ a → fin.get (without_alias held a id) q ≡ fin.get held q)
       × (b ≡ true → fin.get (without_alias held a id) a ≡ None)
@@ -52,12 +53,12 @@ module _ (id : List ℕ) (q : Alias) where
       (λ differ. (one_left held a (is_held_by id (fin.get held a)) refl).0 differ) in
       stays (without_alias held a id) aliases (ap (is_held_by id) same ∙ other) ∙ same
 
-  -- what nobody holds, nobody holds later
+  -- an alias that nobody holds is held by nobody afterwards
   none_still : (held : Held) (aliases : List Alias) → fin.get held q ≡ None
       → fin.get (without_aliases held aliases id) q ≡ None
   none_still held aliases none = stays held aliases (ap (is_held_by id) none) ∙ none
 
-  -- one of the list goes, where it is the endpoint's own
+  -- an alias of the list goes, if this endpoint holds it
   goes : (held : Held) (aliases : List Alias) → Contains aliases q
       → is_held_by id (fin.get held q) ≡ true
       → fin.get (without_aliases held aliases id) q ≡ None
@@ -74,7 +75,7 @@ module _ (id : List ℕ) (q : Alias) where
       (ap (is_held_by id) ((one_left held a (is_held_by id (fin.get held a)) refl).0 differ)
       ∙ own)))
 
--- where the list has all aliases that the endpoint holds, it is as if the endpoint went
+-- if the list has all aliases that the endpoint holds, the result is as if the endpoint had left
 pub without_all : (held : Held) (aliases : List Alias) (id : List ℕ)
     → ((alias : Alias) → is_held_by id (fin.get held alias) ≡ true → Contains aliases alias)
     → without_aliases held aliases id ≡ without_holder held id

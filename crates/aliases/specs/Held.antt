@@ -19,7 +19,7 @@ pub record Holding : Type 0 where
 abbrev pub Held : Type 0
 Held = FinMap alias_cmp Holding
 
--- with how many more there is room, so that no memory is taken for them
+-- the aliases, and for how many more there is room, so that no memory is taken for them
 pub record HeldAliases : Type 0 where
   pub held : Held
   pub room : ℕ
@@ -40,7 +40,7 @@ is_elsewhere address (Some h) = not (same_address h.address address)
 abbrev pub conflicts : Held → Address → List Alias → List Alias
 conflicts held address aliases = filter (λ alias. is_elsewhere address (get held alias)) aliases
 
--- the aliases that others than this endpoint hold
+-- the aliases that other endpoints than this one hold
 abbrev pub without_holder : Held → List ℕ → Held
 without_holder held id = retain_values held (λ h. not (pointwise nat_eq h.holder id))
 
@@ -49,11 +49,11 @@ abbrev pub is_held_by : List ℕ → Option Holding → Bool
 is_held_by id None = false
 is_held_by id (Some h) = pointwise nat_eq h.holder id
 
--- this endpoint holds the alias no more, and whoever else holds it still does
+-- this endpoint no longer holds the alias; another that holds it still does
 abbrev pub without_alias : Held → Alias → List ℕ → Held
 without_alias held alias id = if is_held_by id (get held alias) then remove held alias else held
 
--- so it is with each alias of the list
+-- the same for each alias of the list
 abbrev pub without_aliases : Held → List Alias → List ℕ → Held
 without_aliases held [] id = held
 without_aliases held (alias ∷ aliases) id =
@@ -66,13 +66,13 @@ holding_by id address = record { holder = id; address = address }
 abbrev pub with_alias : Held → Alias → List ℕ → Address → Held
 with_alias held alias id address = insert held alias (holding_by id address)
 
--- so is each alias of the list
+-- the same for each alias of the list
 abbrev pub with_aliases : Held → List Alias → List ℕ → Address → Held
 with_aliases held [] id address = held
 with_aliases held (alias ∷ aliases) id address =
     with_aliases (with_alias held alias id address) aliases id address
 
--- what a change that takes no memory and no room makes of the table
+-- after a change that takes no memory and no room, this is held
 pub record Becomes (old new : HeldAliases) (held : Held) : Type 0 where
   pub rows : new.held ≡ held
   pub room : old.room ≤ new.room

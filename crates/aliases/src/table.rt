@@ -21,8 +21,8 @@ pub struct AliasTable {
     rows: IndexMap<Alias, Holder>,
 }
 
-// By hand, so that it is one call where such a table is dropped: a derived one is written out at each
-// exit of each function that owns a table, field by field down to the buffers.
+// By hand, so that it is one call where such a table is dropped: a derived one is written out at
+// each exit of each function that owns a table, field by field down to the buffers.
 impl Drop for AliasTable {
     fn drop(self) {
         let AliasTable { rows: _ } = self;
@@ -77,8 +77,8 @@ impl AliasTable {
         self.rows.get(alias)
     }
 
-    /// Those of the aliases that an endpoint with another call signal address holds, in their order
-    /// and as often as they stand there.
+    /// Those of these aliases that an endpoint with another call signal address holds: in the order
+    /// of the list, repeats included.
     pub fn conflicts(&self, aliases: &[Alias], address: Address) -> Result<AliasList, AllocError>
         ensures { IfOk result (λ list. list ≡ conflicts self.now.held address aliases.now) }
     {
@@ -111,7 +111,7 @@ impl AliasTable {
         }
     }
 
-    /// Makes room for so many more.
+    /// Makes room for this many more.
     pub fn reserve(&mut self, more: usize) -> Result<(), AllocError>
         ensures held { self.new.held ≡ self.old.held }
         ensures ok { OnOk result (more ≤ self.new.room) }
@@ -121,9 +121,9 @@ impl AliasTable {
         self.rows.reserve(more)
     }
 
-    /// Enters an alias for its holder, in place of what was entered for it there. The alias comes
-    /// back where another endpoint holds it, and for want of memory, which is never where there is
-    /// room, nor where its holder has it already.
+    /// Enters an alias for its holder, in place of what was entered for it there. It is refused if
+    /// another endpoint holds it, and for want of memory; the alias then comes back. It never fails
+    /// for want of memory if there is room, or if this endpoint holds the alias already.
     pub fn set(
         &mut self,
         alias: Alias,
@@ -151,8 +151,8 @@ impl AliasTable {
         }
     }
 
-    /// Enters each of the aliases for its holder, within the room that was made, where no other
-    /// endpoint holds one of them. This takes no memory.
+    /// Enters each of these aliases for its holder, within the room that was made. No other
+    /// endpoint may hold one of them. This takes no memory.
     pub fn set_all(&mut self, aliases: &[Alias], holder: EndpointId, address: Address)
         requires room { length aliases.now ≤ self.old.room }
         requires free { (alias : Alias) → Contains aliases.now alias
@@ -172,8 +172,8 @@ impl AliasTable {
         retain_others(&mut self.rows, holder);
     }
 
-    /// Takes out each of these aliases that this endpoint holds, in time that grows with the length
-    /// of the list alone.
+    /// Takes out each of these aliases that this endpoint holds. The time grows only with the
+    /// length of the list.
     pub fn drop_all(&mut self, aliases: &[Alias], holder: &EndpointId)
         ensures { Becomes self.old self.new
             (without_aliases self.old.held aliases.now holder.now) }
@@ -183,7 +183,7 @@ impl AliasTable {
         }
     }
 
-    /// Takes out an alias, where this endpoint holds it.
+    /// Takes out an alias, if this endpoint holds it.
     fn drop_one(&mut self, alias: &Alias, holder: &EndpointId)
         ensures { Becomes self.old self.new (without_alias self.old.held alias.now holder.now) }
     {

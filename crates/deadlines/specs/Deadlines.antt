@@ -8,12 +8,12 @@ use Rattle.keyed.specs.Maps.{put_if}
 abbrev pub Moments : Type 0
 Moments = FinMap nat_cmp ℕ
 
--- with the number below which places can have one with no further memory
+-- the moments, with the number below which a place can have one with no further memory
 pub record DeadlineTable : Type 0 where
   pub moments : Moments
   pub room : ℕ
 
--- the moment of one place, if it has one, is another's
+-- the moment of `from`, if it has one, is given to `to`, which has no other
 abbrev pub renamed : Moments → ℕ → ℕ → Moments
 renamed moments from to = put_if (remove (remove moments from) to) to (get moments from)
 

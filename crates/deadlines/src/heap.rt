@@ -10,7 +10,7 @@ ghost use Rattle.deadlines.specs.inside.Heap.{IsHeapAround, IsHeapAbove, IsIndex
 
 use crate::due::Due;
 
-/// Where the row of this place stands, and None where it has none.
+/// Where the row of this place stands, or None if it has none.
 pub fn row_of(rows: &[Due], at: &[usize], place: usize) -> Option<usize>
     requires { IsIndexed rows.now at.now }
     ensures { MatchOption result (IsAbsent rows.now place)
@@ -41,7 +41,7 @@ fn exchange(rows: &mut [Due], at: &mut [usize], i: usize, j: usize)
     at[second] = j;
 }
 
-/// Moves this row up until the row above it is due no later, and answers where it stands then.
+/// Moves this row up until the row above it is due no later. Returns where it stands then.
 fn sift_up(rows: &mut [Due], at: &mut [usize], from: usize) -> usize
     requires indexed { IsIndexed rows.old at.old }
     requires within { from < length rows.old }
@@ -63,7 +63,8 @@ fn sift_up(rows: &mut [Due], at: &mut [usize], from: usize) -> usize
     i
 }
 
-/// Where the row stands that is due first of those below the row at i.
+/// Of the rows directly below the row at i, where the one stands that is due first. None if there
+/// are none.
 fn least_below(rows: &[Due], i: usize) -> Option<usize>
     requires { i < length rows.now }
     ensures { MatchOption result (length rows.now ≤ 2 * i + 1) (λ k. (k < length rows.now) × IsParent i k
@@ -166,7 +167,7 @@ pub fn take_out(rows: &mut Vec<Due>, at: &mut [usize], i: usize)
     }
 }
 
-/// Makes the row at i that of another place, which has none.
+/// Gives the row at i to another place, which has none.
 pub fn relabel(rows: &mut [Due], at: &mut [usize], i: usize, to: usize)
     requires indexed { IsIndexed rows.old at.old }
     requires heap { IsHeap rows.old }

@@ -11,14 +11,13 @@ use std::alloc::{AllocError, Global};
 use std::marker::Model;
 
 /// At most one moment for each place. Places are numbers, as those of rows in a `Vec`, and moments
-/// are in any unit. Contracts see a finite map from places to moments, and the room: places below it
-/// can have a moment with no further memory. A change takes about as many steps as the number of
-/// moments has binary digits.
+/// are in any unit. Contracts see a finite map from places to moments, and the room: places below
+/// it can have a moment with no further memory. For n moments, a change takes about log2(n) steps.
 #[derive(Drop)]
 pub struct Deadlines {
     // a heap: the children of the row at i stand at 2 i + 1 and 2 i + 2, and are due no earlier
     rows: Vec<Due>,
-    // where the row of each place stands, if there is one: else this is any number
+    // where the row of each place stands, if it has one; else this is any number
     at: Vec<usize>,
 }
 
@@ -78,7 +77,7 @@ impl Deadlines {
         self.at.len()
     }
 
-    /// The moment of this place, and None where it has none.
+    /// The moment of this place, or None if it has none.
     pub fn get(&self, place: usize) -> Option<u64>
         ensures { result ≡ map.get self.now.moments place }
     {
@@ -86,7 +85,7 @@ impl Deadlines {
         Some(self.rows[i].moment)
     }
 
-    /// The least moment, with a place that has it: any of them. None where no place has a moment.
+    /// The least moment, with any one of the places that have it. None if no place has a moment.
     pub fn earliest(&self) -> Option<(u64, usize)>
         ensures there { IfSome result (λ d. map.get self.now.moments d.1 ≡ Some d.0) }
         ensures least { IfSome result (λ d. IsLeast self.now.moments d.0) }
@@ -96,8 +95,8 @@ impl Deadlines {
         Some((first.moment, first.place))
     }
 
-    /// Makes room for moments of the places below this number. It fails only for want of memory, and
-    /// then nothing is changed.
+    /// Makes room for moments of the places below this number. It fails only for want of memory,
+    /// and then nothing is changed.
     pub fn reserve(&mut self, places: usize) -> Result<(), AllocError>
         ensures moments { self.new.moments ≡ self.old.moments }
         ensures ok { OnOk result (self.new.room ≡ max self.old.room places) }
@@ -133,8 +132,8 @@ impl Deadlines {
         }
     }
 
-    /// Gives the moment of one place, if it has one, to another, in place of what that had. Then
-    /// `from` has none, unless it is `to`. This takes no memory.
+    /// Gives the moment of `from` to `to`, in place of what `to` had. If `from` has none, then `to`
+    /// has none either. After this `from` has none, unless it is `to`. This takes no memory.
     pub fn rename(&mut self, from: usize, to: usize)
         requires { to < self.old.room }
         ensures moments { self.new.moments ≡ renamed self.old.moments from to }

@@ -29,7 +29,7 @@ the_live test live id h = cases (fin.get live id) refl h where
   cases None is h = absurd h
   cases (Some r) is h = (r, is, h)
 
--- none passes where all are later
+-- no registration passes if all are later
 pub none_live : (test : Registration → Bool) (live : Live) (id : List ℕ)
     → ((r : Registration) → fin.get live id ≡ Some r → test r ≡ false)
     → IsLiveAnd test live id → ⊥
@@ -38,7 +38,7 @@ none_live test live id none h =
     cc (r.2, none r.0 r.1)
 
 module _ (now : ℕ) (times : Times) (calls : OpenCalls) where
-  -- where it answers nothing, neither test passes of an endpoint in a call
+  -- if nothing is due of an endpoint in a call, it passes neither test
   nothing_asked : (r : Registration) → item_of now times calls r ≡ None
       → IsInCall calls r.identifier → is_to_be_asked times now r ≡ true → ⊥
   nothing_asked r none in_call asked =
@@ -70,7 +70,7 @@ module _ (now : ℕ) (times : Times) (calls : OpenCalls) where
         cases false h false true q e = some_none e
         cases false h false false q e = cc q
 
-  -- a search through all registrations that found nothing: nothing is due of any
+  -- if a search through all registrations found nothing, nothing is due of any
   pub none_due : (t : Registry) (end : ℕ) → IsNumbered t → IsConsistent t.live
       → end ≡ fin.len t.live
       → ((j : ℕ) (r : Registration) → j < end → slice_get t.order j ≡ Some r

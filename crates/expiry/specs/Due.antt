@@ -1,8 +1,8 @@
 -- What is due at a moment. A registration that is not renewed ends with its time to live (H.225.0,
 -- timeToLive). An endpoint that takes part in a call and is silent is asked for a sign of life by
--- an InfoRequest, some times on end (H.323, 8.4.2, status); where no answer comes, it loses its
--- legs and stays registered. A request that was told to wait is served again, and a reply is kept
--- for some time only (H.225.0, RAS timers and request in progress).
+-- an InfoRequest, a number of times in a row (H.323, 8.4.2, status). If no answer comes, it loses
+-- its legs and stays registered. A request that was told to wait is served again, and a reply is
+-- kept for a limited time (H.225.0, RAS timers and request in progress).
 use Rattle.std.specs.Prelude.{◌≤◌, ◌+◌, ◌&&◌, ◌||◌, ℕ, Bool, List, Option, Some, None}
 use Rattle.std.specs.Prelude.{nat_eq, nat_le, nat_lt, IsTrue, if◌then◌else◌}
 use Rattle.std.specs.Option.{IsSomeAnd}
@@ -37,7 +37,7 @@ abbrev pub is_to_be_asked : Times → ℕ → Registration → Bool
 is_to_be_asked times now r =
     is_unheard times now r || is_asked_less times r && is_unanswered times now r
 
--- it was asked as often as it is, and gave no sign of life
+-- it was interrogated `asks` times and gave no sign of life
 abbrev pub is_silent : Times → ℕ → Registration → Bool
 is_silent times now r = nat_eq r.tries times.asks && is_unanswered times now r
 
@@ -68,7 +68,7 @@ abbrev pub IsNoEndpointDue : ℕ → Times → Live → OpenCalls → Type 0
 IsNoEndpointDue now times live calls =
     (item : DueItem) → IsEndpointItem now times live calls item → ⊥
 
--- the item is due now, where the pools' next turn is at the moment `next`
+-- the item is due now; the pools' next turn is at the moment `next`
 abbrev pub IsDue : ℕ → ℕ → Times → Live → OpenCalls → KeptReplies → DueItem → Type 0
 IsDue now next times live calls kept (RegistrationOver id) =
     IsLiveAnd (is_deadline_past now) live id

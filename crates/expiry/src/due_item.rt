@@ -13,8 +13,8 @@ use ras_module::EndpointId;
 use registrations::Registrations;
 use zone_events::DueItem;
 
-/// Whether this item is due now, where the pools' next turn is at the moment `next_turn`. Moments are
-/// in milliseconds. This takes no memory.
+/// Whether this item is due now. The pools' next turn is at the moment `next_turn`. Moments are in
+/// milliseconds. This takes no memory.
 pub fn is_due(
     item: &DueItem,
     registrations: &Registrations,
@@ -60,8 +60,8 @@ fn asks_for_life(registrations: &Registrations, id: &EndpointId, now: u64, times
     }
 }
 
-/// Whether a registered endpoint, if it is in a call, was asked as often as it is, and gave no sign of
-/// life.
+/// Whether a registered endpoint, if it is in a call, was interrogated `asks` times and gave no
+/// sign of life.
 fn gave_no_life(registrations: &Registrations, id: &EndpointId, now: u64, times: &Times) -> bool
     ensures { IsTrue result ↔ IsLiveAnd (is_silent times.now now) registrations.now.live id.now }
 {

@@ -14,8 +14,9 @@ use ras_module::EndpointId;
 use registrations::{Registration, Registrations};
 use zone_events::DueItem;
 
-/// Something that is due now, where the pools' next turn is at the moment `next_turn`: any of what
-/// is due, and None exactly where nothing is. Moments are in milliseconds. This takes no memory.
+/// Something that is due now: any one item that is due. None if and only if nothing is due. The
+/// pools' next turn is at the moment `next_turn`. Moments are in milliseconds. This takes no
+/// memory.
 pub fn due(
     registrations: &Registrations,
     calls: &Calls,
@@ -32,7 +33,8 @@ pub fn due(
     due_beside(endpoint, registrations, kept, now, next_turn)
 }
 
-/// The same, by what is due of an endpoint in a call, if anything is.
+/// The same, if it is known what is due of an endpoint in a call: `endpoint` is such an item, or
+/// None if there is none.
 pub fn due_beside(
     endpoint: Option<DueItem>,
     registrations: &Registrations,
@@ -65,7 +67,7 @@ pub fn due_beside(
     None
 }
 
-/// What is due of an endpoint in a call, of any that something is due of.
+/// An item that is due of an endpoint in a call: any such item. None if there is none.
 fn endpoint_due(
     registrations: &Registrations,
     calls: &Calls,
@@ -129,14 +131,14 @@ pub(crate) fn is_to_be_asked(registration: &Registration, now: u64, times: &Time
     registration.tries < times.asks && has_passed(registration.asked, times.ask_wait, now)
 }
 
-/// Whether an endpoint in a call was asked as often as it is, and gave no sign of life.
+/// Whether an endpoint in a call was interrogated `asks` times and gave no sign of life.
 pub(crate) fn is_silent(registration: &Registration, now: u64, times: &Times) -> bool
     ensures { result ≡ is_silent times.now now registration.now }
 {
     registration.tries == times.asks && has_passed(registration.asked, times.ask_wait, now)
 }
 
-/// Whether so much time has passed since a moment.
+/// Whether the time `wait` has passed since a moment.
 const fn has_passed(since: u64, wait: u64, now: u64) -> bool
     ensures { result ≡ nat_le (since + wait) now }
 {

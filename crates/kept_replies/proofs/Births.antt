@@ -28,7 +28,7 @@ use Rattle.kept_replies.specs.declared.key.KeptKey.{KeptKey}
 use Rattle.kept_replies.proofs.KeyOrder.{key_cmp_total, key_cmp-IsAntisymmetric, key_decides}
 use Rattle.kept_replies.proofs.StoredKept.{rows_of, table_of}
 
--- the laws of births, for each map whose entries don't share one
+-- what holds of births, for each map whose entries don't share one
 module _ (m : KeptReplies) (h : AreBornApart m) where
   apart : AreApart birth_of (row_in (fin.entries m))
   apart =
@@ -73,7 +73,7 @@ module _ {S : Type 0} (rows : IndexMap KeptKey KeptEntry S) (most : ℕ) (s : Ar
         born_apart (apart (rows_of rows) s.births) is_map
         (listed.IsMapOf-listed key_cmp_total key_cmp-IsAntisymmetric (rows_of rows))
 
-    -- where no row passes a test, nothing that is kept does
+    -- if no row passes a test, nothing that is kept does
     pub none_kept_passes : (test : KeptEntry → Bool) → NoRowPasses test rows.entries
         → NonePasses test (rows_of rows)
     none_kept_passes test none key entry there =
@@ -95,7 +95,7 @@ module _ {S : Type 0} (rows : IndexMap KeptKey KeptEntry S) (most : ℕ) (s : Ar
         some_and (Some other) row is passes =
             ap (λ (row : KeptKey × KeptEntry). test row.1) (same_some other row is) ∙ passes
 
--- a search of the values stops where one of the rows does
+-- a search of the values finds the place that one of the rows finds
 position_values : (test : KeptEntry → Bool) (es : List (KeptKey × KeptEntry))
     → position test (values_of es) ≡ position (λ row. test row.1) es
 position_values test es =
@@ -111,7 +111,7 @@ module _ {S : Type 0} (rows : IndexMap KeptKey KeptEntry S) (most : ℕ) (t : Ke
   pub births_are : births_of rows.entries ≡ births t.kept
   births_are = births_stored rows most s ∙ ap (λ u. births u.kept) view
 
-  -- the row that stands where a search by birth stops
+  -- the row at the place that a search by birth finds
   pub row_born : (born : ℕ) (place : Option ℕ)
       → place ≡ position (λ entry. nat_eq entry.born born) (hash.values rows)
       → option_and_then (λ i. slice_get rows.entries i) place ≡ fin.get (births t.kept) born
@@ -147,9 +147,9 @@ module _ {S : Type 0} (rows : IndexMap KeptKey KeptEntry S) (most : ℕ) (t : Ke
         cases None none = none_kept_passes rows most s test none
         cases (Some born) passes = kept_passes rows most s test born passes
 
--- what a consistent table says by its births
+-- what holds of a consistent table by its births
 module _ (t : KeptTable) (sound : IsConsistent t) where
-  -- where no entry passes a test, none that is found by a birth does
+  -- if no entry passes a test, none that is found by a birth does
   pub none_passes : (test : KeptEntry → Bool) (born : ℕ) → NonePasses test t.kept
       → Passes test t.kept born → ⊥
   none_passes test born none h = passing (fin.get (births t.kept) born) refl h where

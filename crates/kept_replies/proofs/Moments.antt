@@ -62,7 +62,7 @@ pub Writes-postponed : (old new : DueTable) (place moment : ℕ) (s : KeptState)
 Writes-postponed old new place moment (Done reply until) h w = absurd (omega (arith, h))
 Writes-postponed old new place moment (Pending request reply retry left) h w = w
 
--- no moment stands among none
+-- no moment has come if there is none
 pub none_among : (m : Moments) (now : ℕ) → m ≡ fin.empty → NoneCame now m
 none_among m now is place moment there =
     some_none (sym there ∙ (ap (λ (x : Moments). fin.get x place) is ∙ fin.get-empty _ place))

@@ -122,7 +122,7 @@ module _ {S : Type 0} (rows : IndexMap KeptKey KeptEntry S) (most : ℕ) (t : Ke
       (let at = is_map.stands n.key n.entry n.there in
       (at.0, at.1, record { there = at.2.there; named = ap named_by at.2.value_is ∙ n.named }))
 
-  -- the search finds a row exactly where a kept reply tells the identifier
+  -- the search finds a row if and only if a kept reply tells the identifier
   pub any_named : (found : Bool)
       → found ≡ list_any (λ row. is_named_by id row.1) rows.entries
       → IsTrue found ↔ IsNamed t.kept id
@@ -131,14 +131,14 @@ module _ {S : Type 0} (rows : IndexMap KeptKey KeptEntry S) (most : ℕ) (t : Ke
     λ n. (let row = from_named n in is ∙ any_found id rows.entries row.0 row.1 row.2),
   )
 
-  -- and the list has it
+  -- and the list has an identifier if and only if a kept reply tells it
   pub listed_named : Contains (identifiers_of rows.entries) id ↔ IsNamed t.kept id
   listed_named = (
     λ h. (let row = told_by id rows.entries h in named_from row.0 row.1 row.2),
     λ n. (let row = from_named n in tells id rows.entries row.0 row.1 row.2),
   )
 
--- so the list has exactly the identifiers that are told
+-- so the list has the identifiers that are told, and no others
 pub all_named : {S : Type 0} (rows : IndexMap KeptKey KeptEntry S) (most : ℕ) (t : KeptTable)
     → AreStored rows most → table_of rows most ≡ t
     → {X E : Type 0} (items : X → List (List ℕ)) (result : Result X E)

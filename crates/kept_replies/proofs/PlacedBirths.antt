@@ -25,7 +25,7 @@ use Rattle.kept_replies.specs.declared.key.KeptKey.{KeptKey}
 abbrev Rows : Type 0
 Rows = List (KeptKey × KeptEntry)
 
--- a search by birth stops where one of the entries does
+-- a search by birth finds the place that one of the entries finds
 pub same_place : (born : ℕ) (rows : Rows)
     → position (nat_eq born) (births_in rows)
     ≡ position (λ entry. nat_eq entry.born born) (values_of rows)
@@ -115,7 +115,7 @@ module _ {S : Type 0} (old new : IndexMap KeptKey KeptEntry S) (before after : B
         ∙ (sym (births_written (same_key key) entry old.entries place (sym at))
         ∙ ap births_in (sym (r.entries was there))))
 
-    -- one more stands behind the others
+    -- one more stands after the others
     pub AreBorn-appended : (row : KeptKey × KeptEntry) → Appends old.entries new.entries row
         → (IsTrue after.is_whole → after.births ≡ before.births ++ birth_of row ∷ [])
         → AreBorn new.entries after

@@ -28,7 +28,7 @@ Row = KeptKey × KeptEntry
 abbrev pub Seen : Type 0
 Seen = IndexMap KeptKey KeptEntry (Unit {0})
 
--- what a search by key found is there, and where it found none, there is none
+-- what a search by key found is there; if it found none, there is none
 pub there_is : {A : Type 0} (w : Option A) → true ≡ is_some w → (a : A) × (w ≡ Some a)
 there_is None h = absurd (cc h)
 there_is (Some a) h = (a, refl)
@@ -47,7 +47,7 @@ AreRows-empty rows due none ends retries = record {
   fit = omega (arith, ap length none);
 }
 
--- a row more has a place
+-- there is a place for one more row
 pub one_fits : (w : Option KeptEntry) (n m r : ℕ) → n ≡ m + (if is_some w then 0 else 1) → m < r
     → n ≤ r
 one_fits None n m r is fits = omega (arith, is, fits)
@@ -128,7 +128,7 @@ module _ {S : Type 0} (old new : IndexMap KeptKey KeptEntry S) (before after : D
         same_room = λ i. min (r.same_room i) (room i - r.same_length i);
       })
 
--- where there is no entry, none is changed
+-- if there is no entry, none is changed
 pub Rewrites-none : {S : Type 0} (rows : IndexMap KeptKey KeptEntry S)
     (change : KeptEntry → KeptEntry) (key : KeptKey) → hash.get same_key rows key ≡ None
     → hash.IsUnique same_key rows → Rewrites change rows rows key
@@ -140,7 +140,7 @@ Rewrites-none rows change key none unique = record {
   same_room = refl;
 }
 
--- where there is no row, none goes
+-- if there is no row, none goes
 pub Removes-none : {S : Type 0} (rows : IndexMap KeptKey KeptEntry S) (place : ℕ)
     → slice_get rows.entries place ≡ None → Removes rows rows (slice_get rows.entries place)
 Removes-none rows place none = subst (λ (w : Option Row). Removes rows rows w) (sym none) (record {

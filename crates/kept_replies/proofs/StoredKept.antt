@@ -227,7 +227,7 @@ module _ {S : Type 0} (old new : IndexMap KeptKey KeptEntry S) (key : KeptKey) (
         room = room;
       })
 
--- where a new key finds a place, there are no more than there may be
+-- if a new key finds a place, there are no more than there may be
 few_put : (was : Option KeptEntry) (n m most : ℕ)
     → n ≡ m + (if is_some was then 0 else 1) → m ≤ most → (was ≡ None → m < most) → n ≤ most
 few_put None n m most is few one = omega (arith, one refl, is)
@@ -253,7 +253,7 @@ module _ {S : Type 0} (old new : IndexMap KeptKey KeptEntry S) (most : ℕ) (t :
       ))) is
       (subst (λ (u : KeptTable). IsFreeBirth u.kept key entry.born) (sym view) free)
 
-  -- one goes, if it is one
+  -- a row goes, if there is one
   pub AreStored-less : (row : Option (KeptKey × KeptEntry)) → Removes old new row
       → AreStored new most
   AreStored-less None r = AreStored-same old new most s (r.unchanged refl)
@@ -290,7 +290,7 @@ pub passing_stays : (v w : Option KeptEntry) (P : KeptEntry → Type 0) → v �
     → IsSomeAnd v P
 passing_stays v w P is h = subst (λ (x : Option KeptEntry). IsSomeAnd x P) (sym is) h
 
--- a request that waits once more is served again one time at least
+-- a request that waits once more is served again at least once
 pub IsEntry-postponed : (moment : ℕ) (entry : KeptEntry) → 2 ≤ left_in entry.state
     → IsEntry (postponed moment entry)
 IsEntry-postponed moment entry h = state entry.state h where

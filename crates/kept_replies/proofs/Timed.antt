@@ -24,7 +24,7 @@ use Rattle.deadlines.proofs.Renamed.{renamed_same, get_renamed_to, get_renamed_f
 use Rattle.deadlines.proofs.Renamed.{get_renamed_other}
 use Rattle.kept_replies.specs.inside.Due.{AreDueAt, moved}
 
--- what stands last goes to a place
+-- what stands last takes another place
 pub record Moved {A : Type 0} (before after : ℕ → Option A) (place last : ℕ) : Type 0 where
   pub here : place ≢ last → after place ≡ before last
   pub gone : after last ≡ None
@@ -69,7 +69,7 @@ module _ {X : Type 0} where
             (λ above. get_take_past (set xs i (get_or xs last d)) last j (omega (arith, above))
             ∙ sym (slice_get_past xs j (omega (arith, above, count, differ))))
 
--- the moments of places, when what stands last goes to one
+-- the moments of places, if what stands last takes another place
 pub Moved-moments : (m : Moments) (place last : ℕ)
     → Moved (fin.get m) (fin.get (moved m place last)) place last
 Moved-moments m place last =
@@ -109,7 +109,7 @@ module _ {X : Type 0} (moment : X → Option ℕ) where
         ∙ (h.due i ∙ ap (option_and_then moment) (sym (c.others i differ))));
   }
 
-  -- what stands last goes to one place, and so does its moment
+  -- what stands last takes another place, and so does its moment
   pub AreDueAt-moved : (rows next : List X) (m n : Moments) (place last : ℕ)
       → AreDueAt moment rows m → Moved (row_in rows) (row_in next) place last
       → Moved (fin.get m) (fin.get n) place last → AreDueAt moment next n
@@ -129,7 +129,7 @@ module _ {X : Type 0} (moment : X → Option ℕ) where
         ∙ (h.due i ∙ ap (option_and_then moment) (sym (c.others i differ not_last)))));
   }
 
--- the place at which a search by key stops is written
+-- a value is written at the place that a search by key finds
 module _ {K V : Type 0} (test : K → Bool) (w : V) where
   later : (e : K × V) (es fs : List (K × V)) (j : ℕ) (v : Option (K × V))
       → Changed (row_in es) (row_in fs) j v → Changed (row_in (e ∷ es)) (row_in (e ∷ fs)) (suc j) v

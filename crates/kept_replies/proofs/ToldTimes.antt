@@ -26,7 +26,7 @@ use Rattle.kept_replies.specs.declared.key.KeptKey.{KeptKey}
 abbrev Rows : Type 0
 Rows = List (KeptKey × KeptEntry)
 
--- a row tells an identifier where it is told at all
+-- an identifier is told more than 0 times if and only if a row tells it
 pub some_tell : (id : List ℕ) (rows : Rows)
     → nat_lt 0 (times_in rows id) ≡ list_any (λ row. is_named_by id row.1) rows
 some_tell id [] = refl
@@ -73,7 +73,7 @@ module _ {S : Type 0} (old new : IndexMap KeptKey KeptEntry S) (before after : T
         sum_by-set_value (tells id) (same_key key) old.entries was (change was) there,
       )
 
-  -- one more stands behind the others
+  -- one more stands after the others
   pub AreTold-appended : (row : KeptKey × KeptEntry) → Appends old.entries new.entries row
       → (IsTrue after.is_whole → (id : List ℕ)
       → times after id ≡ times before id + once (named_by row.1) id)

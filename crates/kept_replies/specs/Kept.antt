@@ -1,6 +1,6 @@
--- What the gatekeeper keeps of its replies, as a finite map from datagrams. An endpoint that hears
--- no reply sends its request again, the same datagram, and is then told the same (H.225.0, RAS
--- timers and request in progress).
+-- What the gatekeeper keeps of its replies, as a finite map from datagrams. An endpoint that gets
+-- no reply sends its request again, as the same datagram, and then gets the same reply (H.225.0,
+-- RAS timers and request in progress).
 use Rattle.std.specs.Prelude.{◌≡◌, ◌≤◌, ◌+◌, ◌-◌, ℕ, Bool, false, List, Option, Some, None, nat_le}
 use Rattle.std.specs.Prelude.{IsTrue}
 use Rattle.std.specs.Option.{IsSomeAnd}
@@ -20,8 +20,8 @@ use Rattle.kept_replies.specs.declared.entry.KeptState.TheVariants.{Done, Pendin
 abbrev pub KeptReplies : Type 0
 KeptReplies = FinMap key_cmp KeptEntry
 
--- with the most that there may be, and how many more can be kept so that no memory is taken for
--- them
+-- what is kept, the most that there may be, and how many more can be kept so that no memory is
+-- taken for them
 pub record KeptTable : Type 0 where
   pub kept : KeptReplies
   pub most : ℕ
@@ -54,12 +54,12 @@ IsListOf kept list = places.entries_of birth_of itself list ≡ entries (births 
 abbrev pub done : ℕ → Reply → ℕ → KeptEntry
 done born reply until = record { born = born; state = Done reply until }
 
--- the request is served again at this moment, and at most so many times in all, that one included
+-- the request is served again at this moment, and at most this many times in all, that one included
 abbrev pub pending : ℕ → Request → Reply → ℕ → ℕ → KeptEntry
 pending born request reply retry left =
     record { born = born; state = Pending request reply retry left }
 
--- the reply that is sent again, be it the last or a requestInProgress
+-- the reply that is sent again, be it the last one or a requestInProgress
 abbrev pub reply_in : KeptState → Reply
 reply_in (Done reply until) = reply
 reply_in (Pending request reply retry left) = reply
@@ -89,7 +89,7 @@ abbrev pub NonePasses : (KeptEntry → Bool) → KeptReplies → Type 0
 NonePasses test kept =
     (key : KeptKey) (entry : KeptEntry) → get kept key ≡ Some entry → test entry ≡ false
 
--- there is no place for one more, and none becomes free now
+-- no further reply may be kept, and none of those that are kept is over
 pub record IsBusy (t : KeptTable) (now : ℕ) : Type 0 where
   pub full : len t.kept ≡ t.most
   pub none_over : NonePasses (is_over now) t.kept
@@ -109,7 +109,7 @@ pub record IsNamed (kept : KeptReplies) (id : List ℕ) : Type 0 where
   pub there : get kept key ≡ Some entry
   pub named : named_by entry ≡ Some id
 
--- an entry for this datagram may have this birth: no entry for another has it
+-- an entry for this datagram may have this birth: no entry for another datagram has it
 abbrev pub IsFreeBirth : KeptReplies → KeptKey → ℕ → Type 0
 IsFreeBirth kept key born =
     (other : KeptKey) (entry : KeptEntry) → get kept other ≡ Some entry → entry.born ≡ born
@@ -119,7 +119,7 @@ IsFreeBirth kept key born =
 abbrev pub finished : Reply → ℕ → KeptEntry → KeptEntry
 finished reply until entry = record entry { state = Done reply until }
 
--- its request is served again later, one time less
+-- its request is served again later, and the times that are left are one fewer
 abbrev pub postponed_in : ℕ → KeptState → KeptState
 postponed_in moment (Done reply until) = Done reply until
 postponed_in moment (Pending request reply retry left) = Pending request reply moment (left - 1)
@@ -127,33 +127,33 @@ postponed_in moment (Pending request reply retry left) = Pending request reply m
 abbrev pub postponed : ℕ → KeptEntry → KeptEntry
 postponed moment entry = record entry { state = postponed_in moment entry.state }
 
--- how often the request is served again
+-- how often the request may be served again
 abbrev pub left_in : KeptState → ℕ
 left_in (Done reply until) = 0
 left_in (Pending request reply retry left) = left
 
--- what is left without this row
+-- what is kept without this row
 abbrev pub without : KeptReplies → Option (KeptKey × KeptEntry) → KeptReplies
 without kept None = kept
 without kept (Some row) = remove kept row.0
 
--- the entry with this birth went
+-- what is kept without the entry with this birth
 abbrev pub without_birth : KeptReplies → ℕ → KeptReplies
 without_birth kept born = without kept (get (births kept) born)
 
--- what a change that takes no memory and no room makes of the table
+-- after a change that takes no memory and no room, this is kept
 pub record Becomes (old new : KeptTable) (kept : KeptReplies) : Type 0 where
   pub rows : new.kept ≡ kept
   pub most : new.most ≡ old.most
   pub room : old.room ≤ new.room
 
--- what one more entry, or one in place of another, makes of the table
+-- after one entry was added, or put in place of another, this is kept
 pub record Adds (old new : KeptTable) (kept : KeptReplies) : Type 0 where
   pub rows : new.kept ≡ kept
   pub most : new.most ≡ old.most
   pub room : old.room ≤ new.room + 1
 
--- a request that is served again is so one time at least
+-- a request that waits is served again at least once
 abbrev pub IsState : KeptState → Type 0
 IsState (Done reply until) = Unit {0}
 IsState (Pending request reply retry left) = 1 ≤ left

@@ -12,7 +12,7 @@ use indexmap::{IndexMap, IndexSet};
 use std::alloc::Global;
 use std::marker::Model;
 
-/// Births by places, for look-ups by birth. It is whole but where memory was wanting: then rows are
+/// Births by places, for look-ups by birth. It is whole unless memory was refused: then rows are
 /// searched, until there is memory for it again.
 #[derive(Drop)]
 pub(crate) struct BirthPlaces {
@@ -52,7 +52,7 @@ impl BirthPlaces {
         all
     }
 
-    /// Makes it whole again, and ready for one more row, where there is memory for it.
+    /// Makes it whole again, and ready for one more row, if there is memory for it.
     pub(crate) fn prepare(&mut self, rows: &IndexMap<KeptKey, KeptEntry>)
         requires { AreBorn rows.now.entries self.old }
         ensures { AreBorn rows.now.entries self.new }
@@ -63,11 +63,11 @@ impl BirthPlaces {
         self.make_room(1);
     }
 
-    /// Makes room for more births, where there is memory for it.
+    /// Makes room for more births, if there is memory for it.
     fn make_room(&mut self, more: usize)
         ensures { self.new ≡ self.old }
     {
-        // one besides, since a birth goes by adding another first
+        // one more, since to replace a birth another is added first
         let _room = self.births.reserve(more.saturating_add(1));
     }
 
@@ -83,7 +83,7 @@ impl BirthPlaces {
         }
     }
 
-    /// Adds the birth of a row behind the others. This takes no memory.
+    /// Adds the birth of a row after the others. This takes no memory.
     pub(crate) fn add(&mut self, born: u64)
         ensures still { IsTrue self.new.is_whole → IsTrue self.old.is_whole }
         ensures births { IsTrue self.new.is_whole
@@ -97,7 +97,7 @@ impl BirthPlaces {
         self.is_whole = false;
     }
 
-    /// The row at this place has another birth. This takes no memory.
+    /// Gives the row at this place another birth. This takes no memory.
     pub(crate) fn replace(&mut self, place: usize, born: u64)
         requires { IsTrue self.old.is_whole → place < length self.old.births }
         ensures still { IsTrue self.new.is_whole → IsTrue self.old.is_whole }
@@ -113,7 +113,7 @@ impl BirthPlaces {
         self.take_out(place);
     }
 
-    /// The birth at this place goes, and the last comes in its place.
+    /// Takes out the birth at this place, and the last comes in its place.
     pub(crate) fn take_out(&mut self, place: usize)
         ensures still { self.new.is_whole ≡ self.old.is_whole }
         ensures births { IfSome (slice_get self.old.births place)

@@ -72,7 +72,7 @@ impl DueMoments {
         self.retries.reserve(places)
     }
 
-    /// The entry at this place is in this state.
+    /// Writes the moments of the entry at this place, which is in this state.
     pub(crate) fn write(&mut self, place: usize, state: &KeptState)
         requires { place < self.old.room }
         ensures { Writes self.old self.new place (end_in state.now) (retry_in state.now) }
@@ -83,7 +83,7 @@ impl DueMoments {
         }
     }
 
-    /// The reply at this place is over at a moment.
+    /// Notes that the reply at this place is over at the moment `until`.
     pub(crate) fn finish(&mut self, place: usize, until: u64)
         requires { place < self.old.room }
         ensures { Writes self.old self.new place (Some until) None }
@@ -92,7 +92,7 @@ impl DueMoments {
         self.retries.clear(place);
     }
 
-    /// The request at this place is served again at a moment.
+    /// Notes that the request at this place is served again at the moment `retry`.
     pub(crate) fn wait(&mut self, place: usize, retry: u64)
         requires { place < self.old.room }
         ensures { Writes self.old self.new place None (Some retry) }
@@ -101,7 +101,7 @@ impl DueMoments {
         self.retries.set(place, retry);
     }
 
-    /// What stands at this place goes, and what stands last comes in its place.
+    /// Takes out what stands at this place, and what stands last comes in its place.
     pub(crate) fn take_out(&mut self, place: usize, last: usize)
         requires { place < self.old.room }
         ensures { TakesOut self.old self.new place last }
@@ -110,14 +110,14 @@ impl DueMoments {
         take_moment(&mut self.retries, place, last);
     }
 
-    /// A place whose reply is over.
+    /// A place whose reply is over. None if there is none.
     pub(crate) fn over(&self, now: u64) -> Option<usize>
         ensures { MatchOption result (NoneCame now self.now.ends) (Came now self.now.ends) }
     {
         place_due(&self.ends, now)
     }
 
-    /// A place whose request is to be served again.
+    /// A place whose request is to be served again. None if there is none.
     pub(crate) fn retry(&self, now: u64) -> Option<usize>
         ensures { MatchOption result (NoneCame now self.now.retries) (Came now self.now.retries) }
     {

@@ -10,7 +10,7 @@ use std::alloc::AllocError;
 /// What is kept of the reply to a datagram. Moments are in milliseconds.
 #[derive(PartialEq, Eq, Drop)]
 pub struct KeptEntry {
-    /// How many steps the gatekeeper had made before: no two entries share it.
+    /// How many steps the gatekeeper had made before. No two entries share this number.
     pub born: u64,
     /// How far the request is.
     pub state: KeptState,
@@ -35,7 +35,7 @@ pub enum KeptState {
 }
 
 impl KeptState {
-    /// The reply, be it the last or a RequestInProgress.
+    /// The reply, be it the last one or a RequestInProgress.
     pub fn reply(&self) -> &Reply
         ensures { result.now ≡ reply_in self.now }
     {
@@ -70,7 +70,7 @@ impl KeptState {
 }
 
 impl KeptEntry {
-    /// Whether the moment has come until which the reply is kept.
+    /// Whether the time for which the reply is kept has ended.
     pub fn is_over(&self, now: u64) -> bool
         ensures { result ≡ is_over now self.now }
     {
@@ -90,7 +90,7 @@ impl KeptEntry {
         }
     }
 
-    /// The identifier that it tells an endpoint, where its reply is a RegistrationConfirm.
+    /// The identifier that it tells an endpoint, if its reply is a RegistrationConfirm.
     pub fn identifier(&self) -> Option<&EndpointId>
         ensures { option_copied result ≡ named_by self.now }
     {
@@ -108,7 +108,7 @@ impl KeptEntry {
     }
 }
 
-/// The identifier that a reply tells an endpoint, where it is a RegistrationConfirm.
+/// The identifier that a reply tells an endpoint, if it is a RegistrationConfirm.
 pub(crate) fn identifier_in(reply: &Reply) -> Option<&EndpointId>
     ensures { option_copied result ≡ identifier_in reply.now }
 {

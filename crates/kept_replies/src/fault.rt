@@ -8,7 +8,7 @@ use thiserror::Error;
 /// Why no room is made for one more reply.
 #[derive(Clone, Copy, Debug, PartialEq, Eq, Error)]
 pub enum ReserveFault {
-    /// As many replies are kept as may be, and none of them is over.
+    /// The limit of kept replies is reached, and none of them is over.
     #[error("as many replies are kept as may be")]
     Busy,
     /// Memory was refused.

@@ -15,7 +15,7 @@ use std::hash::{Hash, Hasher};
 pub struct KeptKey {
     /// The address that the datagram came from.
     pub source: Source,
-    /// All its octets, also those behind the request.
+    /// All its octets, also those after the request.
     pub bytes: Octets,
 }
 

@@ -1,5 +1,5 @@
-//! What the gatekeeper keeps of its replies, so that a request that is sent again is told the same
-//! (H.225.0, RAS timers and request in progress).
+//! What the gatekeeper keeps of its replies, so that a request that is sent again gets the same
+//! reply (H.225.0, RAS timers and request in progress).
 #![tactic(auto)]
 
 mod birth_places;

@@ -192,7 +192,7 @@ impl KeptRows {
         }
     }
 
-    /// The request of an entry was answered.
+    /// Notes that the request of an entry was answered.
     pub(crate) fn finish(&mut self, key: &KeptKey, reply: Reply, until: u64)
         ensures { Rewrites (finished reply until) self.old self.new key.now }
     {
@@ -203,7 +203,7 @@ impl KeptRows {
         }
     }
 
-    /// The request of an entry is to wait once more.
+    /// Makes the request of an entry wait once more.
     pub(crate) fn postpone(&mut self, key: &KeptKey, moment: u64)
         requires { IsSomeAnd (get same_key self.old key.now) (λ entry. 2 ≤ left_in entry.state) }
         ensures { Rewrites (postponed moment) self.old self.new key.now }
@@ -214,7 +214,7 @@ impl KeptRows {
         }
     }
 
-    /// Removes the row at this place, where there is one.
+    /// Removes the row at this place, if there is one.
     pub(crate) fn remove_at(&mut self, place: usize)
         ensures { Removes self.old self.new (slice_get self.old.entries place) }
     {

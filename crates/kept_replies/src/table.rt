@@ -57,7 +57,7 @@ impl Model for Kept {
 }
 
 impl Kept {
-    /// Nothing is kept, where so many replies may be. This takes no memory.
+    /// A table with nothing kept, for at most this many replies. This takes no memory.
     pub fn new(alloc: Global, most: usize) -> Self
         requires some { 1 ≤ most }
         requires few { most ≤ 65536 }
@@ -134,7 +134,7 @@ impl Kept {
         self.rows.get_index(place)
     }
 
-    /// The birth of an entry that is over: any of them, and None where there is none.
+    /// The birth of an entry that is over: any of them. None if there is none.
     pub fn over(&self, now: u64) -> Option<u64>
         ensures found { MatchOption result (NonePasses (is_over now) self.now.kept)
             (Passes (is_over now) self.now.kept) }
@@ -143,8 +143,8 @@ impl Kept {
         self.rows.over(now)
     }
 
-    /// The birth of an entry whose request is to be served again: any of them, and None where
-    /// there is none.
+    /// The birth of an entry whose request is to be served again: any of them. None if there is
+    /// none.
     pub fn retry(&self, now: u64) -> Option<u64>
         ensures found { MatchOption result (NonePasses (is_retry now) self.now.kept)
             (Passes (is_retry now) self.now.kept) }
@@ -153,7 +153,7 @@ impl Kept {
         self.rows.retry(now)
     }
 
-    /// Whether a RegistrationConfirm that is kept tells this identifier, over or not.
+    /// Whether a kept RegistrationConfirm tells this identifier, be it over or not.
     pub fn is_named(&self, id: &EndpointId) -> bool
         ensures { IsTrue result ↔ IsNamed self.now.kept id.now }
     {
@@ -177,7 +177,8 @@ impl Kept {
         rising(*rows.allocator(), rows)
     }
 
-    /// Whether an entry for this datagram may have this birth, as no entry for another has it.
+    /// Whether an entry for this datagram may have this birth. It may if no entry for another
+    /// datagram has it.
     pub fn is_free(&self, key: &KeptKey, born: u64) -> bool
         ensures { IsTrue result ↔ IsFreeBirth self.now.kept key.now born }
     {
@@ -187,7 +188,7 @@ impl Kept {
         }
     }
 
-    /// Whether as many replies are kept as may be.
+    /// Whether the limit of kept replies is reached.
     pub fn is_full(&self) -> bool
         ensures full { IsTrue result ↔ (map.len self.now.kept ≡ self.now.most) }
         ensures sound { IsConsistent self.now }
@@ -195,14 +196,14 @@ impl Kept {
         self.len() == self.most
     }
 
-    /// Whether as many replies are kept as may be, and none of them is over.
+    /// Whether the limit of kept replies is reached, and none of them is over.
     pub fn is_busy(&self, now: u64) -> bool
         ensures { IsTrue result ↔ IsBusy self.now now }
     {
         self.is_full() && self.over(now).is_none()
     }
 
-    /// Makes room for one more, if there may be one more once an entry that is over is dropped.
+    /// Makes room for one more, if there may be one more after an entry that is over was dropped.
     pub fn reserve(&mut self, now: u64) -> Result<(), ReserveFault>
         ensures kept { self.new.kept ≡ self.old.kept }
         ensures most { self.new.most ≡ self.old.most }
@@ -235,8 +236,8 @@ impl Kept {
         self.put(key, KeptEntry { born, state });
     }
 
-    /// Keeps a request that was told to wait by this reply, and is to be served again at the
-    /// moment `retry`, and so many times in all. This takes no memory.
+    /// Keeps a request that was told to wait by this reply. It is to be served again at the moment
+    /// `retry`, and at most `left` times in all. This takes no memory.
     pub fn pend(
         &mut self,
         key: KeptKey,
@@ -276,8 +277,8 @@ impl Kept {
         self.rows.put(key, entry);
     }
 
-    /// The request of an entry was answered: the reply is kept until a moment. This takes no
-    /// memory.
+    /// Notes that the request of an entry was answered, and keeps its reply until a moment. This
+    /// takes no memory.
     pub fn finish(&mut self, key: &KeptKey, reply: Reply, until: u64)
         requires { IsSome (map.get self.old.kept key.now) }
         ensures becomes { Becomes self.old self.new
@@ -287,7 +288,7 @@ impl Kept {
         self.rows.finish(key, reply, until);
     }
 
-    /// The request of an entry is to wait once more, until the moment `retry`. This takes no
+    /// Makes the request of an entry wait once more, until the moment `retry`. This takes no
     /// memory.
     pub fn postpone(&mut self, key: &KeptKey, retry: u64)
         requires { IsSomeAnd (map.get self.old.kept key.now) (λ entry. 2 ≤ left_in entry.state) }
@@ -298,8 +299,8 @@ impl Kept {
         self.rows.postpone(key, retry);
     }
 
-    /// Drops an entry that is over, any of them, and answers its birth. Where none is over,
-    /// nothing is changed. This takes no memory.
+    /// Drops an entry that is over, any of them, and returns its birth. If none is over, it returns
+    /// None and nothing is changed. This takes no memory.
     pub fn drop_one_expired(&mut self, now: u64) -> Option<u64>
         ensures over { IfSome result (Passes (is_over now) self.old.kept) }
         ensures dropped { IfSome result
@@ -312,7 +313,7 @@ impl Kept {
         Some(born)
     }
 
-    /// Drops the entry with this birth, where there is one. This takes no memory.
+    /// Drops the entry with this birth, if there is one. This takes no memory.
     pub fn drop_born(&mut self, born: u64)
         ensures becomes { Becomes self.old self.new (without_birth self.old.kept born) }
         ensures sound { IsConsistent self.new }

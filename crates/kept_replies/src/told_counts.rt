@@ -18,7 +18,7 @@ use ras_module::EndpointId;
 use std::alloc::Global;
 use std::marker::Model;
 
-/// Identifiers by how often they are told. It is whole but where memory was wanting: then rows are
+/// Identifiers by how often they are told. It is whole unless memory was refused: then rows are
 /// searched, until there is memory for it again.
 #[derive(Drop)]
 pub(crate) struct ToldCounts {
@@ -57,7 +57,7 @@ impl ToldCounts {
         all
     }
 
-    /// Makes it whole again, and ready for one more row, where there is memory for it.
+    /// Makes it whole again, and ready for one more row, if there is memory for it.
     pub(crate) fn prepare(&mut self, rows: &IndexMap<KeptKey, KeptEntry>)
         requires { AreTold rows.now.entries self.old }
         ensures { AreTold rows.now.entries self.new }
@@ -68,11 +68,11 @@ impl ToldCounts {
         self.make_room(1);
     }
 
-    /// Makes room for more identifiers, where there is memory for it.
+    /// Makes room for more identifiers, if there is memory for it.
     fn make_room(&mut self, more: usize)
         ensures { self.new ≡ self.old }
     {
-        // one besides, since a reply goes by adding another first
+        // one more, since to replace a reply another is added first
         let _room = self.counts.reserve(more.saturating_add(1));
     }
 
@@ -88,7 +88,7 @@ impl ToldCounts {
         }
     }
 
-    /// One more reply is kept, which may tell an identifier. This takes no memory.
+    /// Counts one more kept reply, which may tell an identifier. This takes no memory.
     pub(crate) fn add(&mut self, named: Option<&EndpointId>)
         ensures still { IsTrue self.new.is_whole → IsTrue self.old.is_whole }
         ensures times { IsTrue self.new.is_whole → (id : List ℕ)
@@ -103,7 +103,7 @@ impl ToldCounts {
             && write_times(&mut self.counts, id, times + 1);
     }
 
-    /// A reply, which may tell an identifier, is kept no more.
+    /// Takes a reply, which may tell an identifier, out of the counts.
     pub(crate) fn take_out(&mut self, named: Option<&EndpointId>)
         ensures still { IsTrue self.new.is_whole → IsTrue self.old.is_whole }
         ensures times { IsTrue self.new.is_whole → (id : List ℕ)
@@ -121,8 +121,8 @@ impl ToldCounts {
         }
     }
 
-    /// The entry under this key gets another reply, which may tell an identifier. This takes no
-    /// memory.
+    /// Counts another reply, which may tell an identifier, in place of that of the entry under this
+    /// key. This takes no memory.
     pub(crate) fn replace(
         &mut self,
         rows: &IndexMap<KeptKey, KeptEntry>,
@@ -148,7 +148,7 @@ fn times_of(counts: &IndexMap<EndpointId, usize>, id: &EndpointId) -> usize
     counts.get(id).copied().unwrap_or(0)
 }
 
-// writes how often an identifier is told, and answers whether there was room for it
+// writes how often an identifier is told, and returns whether there was room for it
 fn write_times(counts: &mut IndexMap<EndpointId, usize>, id: &EndpointId, times: usize) -> bool
     ensures { IsTrue result → Updates same_id counts.old counts.new id.now (Some times) }
 {

@@ -75,12 +75,12 @@ module _ {K : Type 0} {eq : K → K → Bool} (decides : (a b : K) → Decides (
       found q [] = refl
       found q (e ∷ es) = λ i. cond (one_test q e.0 i) (Some e.1) (found q es i)
 
-      -- the finite map of the entries answers as the table does
+      -- a look-up in the finite map of the entries returns what one in the table returns
       pub get_entries : (es : List (K × V)) (q : K)
           → fin.get (fin.from_entries {R = R} es) q ≡ lookup (eq q) es
       get_entries es q = fin.get-from_entries o es q ∙ found q es
 
-      -- it has as many rows, and the sum that is added up over them
+      -- it has the same number of rows, and the same sum over them
       pub len_entries : (es : List (K × V)) → AreApart key_of (row_in es)
           → fin.len (fin.from_entries {R = R} es) ≡ length es
       len_entries es h = ap (λ l. fin.len (fin.from_entries {R = R} l)) (sym (entries_again es))

@@ -1,5 +1,5 @@
--- The list of a finite map has each of its rows once, so a map that another part of the rows makes
--- is the same from the list and from the rows where they are kept.
+-- The list of a finite map has each of its rows once. So a map by another part of the rows is the
+-- same, whether it is made from this list or from the rows as they are stored.
 use Rattle.std.proofs.Common.{◌≡◌, ℕ, zero, suc, List, [], ◌∷◌, refl, sym, ◌∙◌, ap, subst, Some}
 use Rattle.std.proofs.Common.{None, Option}
 use Rattle.std.specs.Prelude.{slice_get, T}
@@ -62,7 +62,7 @@ module _ {K V : Type 0} {R : K → K → Ordering} (o : IsTotalOrder R) (same : 
 
   module _ {A : Type 0} {P : A → A → Ordering} (p : IsTotalOrder P) (once : IsAntisymmetric P)
       (part : K × V → A) where
-    -- the rows of a map, of which no two agree in a part
+    -- the rows of a map; no two of them agree in a part
     pub AreApart-part : (m : FinMap R V)
         → ((k q : K) (v w : V) → fin.get m k ≡ Some v → fin.get m q ≡ Some w
         → part (k, v) ≡ part (q, w) → k ≡ q)

@@ -1,4 +1,4 @@
--- The rows of a table by rising key are what its finite map lists.
+-- The rows of a table, sorted by rising key, are the list of its finite map.
 use Rattle.std.proofs.Common.{◌≡◌, ◌≢◌, ℕ, zero, suc, ◌<◌, ◌≤◌, Bool, true, false, ◌&&◌, List, []}
 use Rattle.std.proofs.Common.{◌∷◌, length, get_or, refl, sym, ◌∙◌, ap, subst, cond, nat_eq, Some}
 use Rattle.std.proofs.Common.{arith}
@@ -24,12 +24,12 @@ use Rattle.keyed.proofs.Maps.{itself}
 use Rattle.keyed.proofs.Places.{IsMapOf, one_map}
 use Rattle.keyed.proofs.Rows.{Changed-set, IsMapOf-rows}
 
--- each key is below those of the rows behind it
+-- each key is below those of the rows after it
 record IsRisingBy {K X : Type 0} (R : K → K → Ordering) (key : X → K) (rows : List X) : Type 0 where
   rises : (i j : ℕ) (r s : X) → i < j → slice_get rows i ≡ Some r → slice_get rows j ≡ Some s
       → R (key r) (key s) ≡ Less
 
--- where the row at this place comes from, when those at a and b change places
+-- the place from which the row at k comes, if those at a and b are exchanged
 abbrev exchanged : ℕ → ℕ → ℕ → ℕ
 exchanged a b k = cond (nat_eq k a) b (cond (nat_eq k b) a k)
 

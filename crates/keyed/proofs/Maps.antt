@@ -142,7 +142,7 @@ module _ {K : Type 0} {R : K → K → Ordering} (o : IsTotalOrder R) (same : Is
           (Changed-same (fin.get m) k)
       cases (Some v) is = Changed-insert m k (f v)
 
-    -- how many
+    -- the number of entries
     pub len_more : (m : FinMap R V) (k : K) (v : V) → fin.get m k ≡ None
         → fin.len (fin.insert m k v) ≡ fin.len m + 1
     len_more m k v absent = fin.len-insert o m k v ∙ ap

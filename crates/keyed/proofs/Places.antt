@@ -43,7 +43,7 @@ module _ {K V X : Type 0} {R : K → K → Ordering} (o : IsTotalOrder R) (same 
         cases q None (Some v) p e = some_none (sym (carried at n m b a q v e) ∙ p)
         cases q None None p e = p ∙ sym e
 
-  -- a row is put at a place, where no other place has its key
+  -- a row is put at a place, and no other place has its key
   pub IsMapOf-put : (at new : ℕ → Option X) (i : ℕ) (r : X) (m : FinMap R V)
       → IsMapOf key value at m → Changed at new i (Some r)
       → ((s : X) → at i ≡ Some s → key s ≡ key r)

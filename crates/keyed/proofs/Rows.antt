@@ -139,7 +139,7 @@ module _ {K V X : Type 0} {R : K → K → Ordering} (o : IsTotalOrder R) (same 
             omega arith))
             ∙ rest.has i r e
 
-  -- the first row's key is no later row's
+  -- no later row has the first row's key
   first_alone : (x : X) (rows : List X) → AreApart key (row_in (x ∷ rows))
       → fin.get (map_of {R = R} key value rows) (key x) ≡ None
   first_alone x rows h = cases (fin.get (map_of {R = R} key value rows) (key x)) refl where
@@ -159,7 +159,7 @@ module _ {K V X : Type 0} {R : K → K → Ordering} (o : IsTotalOrder R) (same 
       ∙ first_alone x rows h in
       (none, IsOnce-rows rows (apart_tail key x rows h))
 
-  -- as many, and the same sum
+  -- the map has the same number of rows, and the same sum
   pub len_rows : (rows : List X) → AreApart key (row_in rows)
       → fin.len (map_of {R = R} key value rows) ≡ length rows
   len_rows [] h = fin.len-empty R V
@@ -195,7 +195,7 @@ module _ {K V X : Type 0} {R : K → K → Ordering} (o : IsTotalOrder R) (same 
       ∙ fin.from_entries_push o same (entries_of key value rows) (key r) (value r)
       (sym (fin.get-from_entries o (entries_of key value rows) (key r)) ∙ absent)
 
-  -- and no row there agrees with it in its key
+  -- if the map has nothing under a key, no row has that key
   pub none_there : (rows : List X) → AreApart key (row_in rows) → (k : K)
       → fin.get (map_of {R = R} key value rows) k ≡ None
       → (j : ℕ) (s : X) → row_in rows j ≡ Some s → key s ≢ k
@@ -287,7 +287,7 @@ module _ {X : Type 0} (p : X → Bool) where
     cases rest true is = (zero, refl, is)
     cases rest false is = fails_first x rows (find_first p rows) is rest
 
--- where one row at most passes, the search among the values of the map finds the same
+-- if at most one row passes, the search among the values of the map finds the same
 module _ {K X : Type 0} {R : K → K → Ordering} (o : IsTotalOrder R) (same : IsAntisymmetric R)
     (key : X → K) (p : X → Bool) where
   pub find_rows : (rows : List X) → AreApart key (row_in rows)
@@ -309,7 +309,7 @@ module _ {K X : Type 0} {R : K → K → Ordering} (o : IsTotalOrder R) (same : 
         (ap p s.2.value_is ∙ passes) found.2 in
         sym s.2.value_is ∙ same_some s.1 r (sym s.2.there ∙ (ap (slice_get rows) place ∙ found.1))))
 
--- the rows that a test leaves stood elsewhere apart, and stay so
+-- rows that are apart stay apart if only those that pass a test are left
 module _ {A X : Type 0} (part : X → A) (test : X → Bool) where
   was_there : (rows : List X) (i : ℕ) (r : X) → slice_get (filter test rows) i ≡ Some r
       → (j : ℕ) × (slice_get rows j ≡ Some r)

@@ -20,13 +20,13 @@ module _ {K V X : Type 0} {R : K → K → Ordering} (o : IsTotalOrder R) (same 
   abbrev pub IsRow : FinMap R V → X → Type 0
   IsRow m r = fin.get m (key r) ≡ Some (value r)
 
-  -- each row of a list is in its own map
+  -- each row of a list is in the map of that list
   all_own : (rows : List X) (m : FinMap R V) → IsMapOf key value (row_in rows) m
       → All (IsRow m) rows
   all_own rows m own k d below =
       own.has k (get_or rows k d) (slice_get-get_or rows k d below)
 
-  -- what a map has of the rows, another map has that has each of them
+  -- a map that has each of these rows has all that their own map has
   carried : (rows : List X) (m n : FinMap R V) → IsMapOf key value (row_in rows) m
       → All (IsRow n) rows
       → (q : K) (v : V) → fin.get m q ≡ Some v → fin.get n q ≡ Some v
@@ -48,7 +48,7 @@ module _ {K V X : Type 0} {R : K → K → Ordering} (o : IsTotalOrder R) (same 
         cases q None (Some v) p e = some_none (sym (carried others n m own' has q v e) ∙ p)
         cases q None None p e = p ∙ sym e
 
-  -- so two tests that are made of each list for the other tell whether the maps are one
+  -- so two tests, of each list for the rows of the other, tell whether the maps are the same
   pub both_have : (rows others : List X) (m n : FinMap R V)
       → IsMapOf key value (row_in rows) m → IsMapOf key value (row_in others) n → (a b : Bool)
       → (IsTrue a ↔ All (IsRow m) others) → (IsTrue b ↔ All (IsRow n) rows)
@@ -62,7 +62,7 @@ module _ {K V X : Type 0} {R : K → K → Ordering} (o : IsTotalOrder R) (same 
         (second.1 (subst (λ m. All (IsRow m) rows) e (all_own rows m own))),
   )
 
-  -- and where one of them fails, they differ
+  -- and if one of them fails, the maps differ
   pub one_lacks : (others : List X) (m n : FinMap R V) → IsMapOf key value (row_in others) n
       → (a : Bool) → (IsTrue a ↔ All (IsRow m) others) → a ≡ false → IsTrue a ↔ (m ≡ n)
   one_lacks others m n own' a first fails = (
@@ -70,7 +70,7 @@ module _ {K V X : Type 0} {R : K → K → Ordering} (o : IsTotalOrder R) (same 
     λ e. first.1 (subst (λ m. All (IsRow m) others) (sym e) (all_own others n own')),
   )
 
--- what was found under a key is this value if and only if a test of equality tells so
+-- a test of equality tells whether the value that was found under a key is this one
 pub found_decides : {V : Type 0} (test : Bool) (found value : V) (looked_up : Option V)
     → Decides test (found ≡ value) → Some found ≡ looked_up
     → IsTrue test ↔ (looked_up ≡ Some value)

@@ -58,7 +58,7 @@ module _ {K V X : Type 0} {R : K → K → Ordering} (o : IsTotalOrder R) (same 
     cases rest false is = rest ∙ sym
         (ap (λ t. cond t (Some (value r)) (fin.find R q (entries_of key value rows))) is)
 
-  -- the first row with a key has what the map has under it
+  -- the first row with a key has the value that the map has under that key
   pub find_key : (q : K) (rows : List X)
       → option_map value (find_first (has_key q) rows) ≡ fin.get (map_of {R = R} key value rows) q
   find_key q rows = entry_named q rows ∙ sym (fin.get-from_entries o (entries_of key value rows) q)
@@ -89,7 +89,7 @@ module _ {K V X : Type 0} {R : K → K → Ordering} (o : IsTotalOrder R) (same 
   place_zero q rows (Some i) h = let at : i ≡ h.0 = omega (arith, h.1) in subst
       (IsPlaceOf key q rows) (sym at) h.2
 
-  -- where a search by a key stops
+  -- the place that a search by a key finds
   pub key_place : (q : K) (rows : List X) → MatchOption (position (has_key q) rows)
       (fin.get (map_of {R = R} key value rows) q ≡ None) (IsPlaceOf key q rows)
   key_place q rows = place_zero q rows _

@@ -43,7 +43,7 @@ module _ {K X : Type 0} {R : K → K → Ordering} (o : IsTotalOrder R) (same : 
   each_row P m f = each_entry P (fin.entries m) (fin.entries_sorted m)
       (λ k r there. f k r (fin.get-entries m k ∙ there))
 
-  -- a sum is bounded where each row's figure is
+  -- a sum is bounded if each row's figure is
   pub total_le : (f : X → ℕ) (bound : ℕ) (m : FinMap R X)
       → ((k : K) (r : X) → fin.get m k ≡ Some r → f r ≤ bound) → total f m ≤ bound * fin.len m
   total_le f bound m each = subst (λ n. total f m ≤ bound * n) (sym (fin.len-entries m))
@@ -86,7 +86,7 @@ module _ {K X : Type 0} {R : K → K → Ordering} (o : IsTotalOrder R) (same : 
               one false is true h rest = absurd (cc (is, ap p (same_some e.1 r h), passes))
               one false is false h rest = rest h
 
-  -- and none where none passes
+  -- and none if none passes
   pub find_none : (p : X → Bool) (m : FinMap R X)
       → ((k : K) (r : X) → fin.get m k ≡ Some r → p r ≡ false)
       → find_first p (fin.values m) ≡ None
@@ -117,7 +117,7 @@ module _ {K X : Type 0} {R : K → K → Ordering} (o : IsTotalOrder R) (same : 
               (x.0, each.0 ∙ ap Some same, sym (ap p same) ∙ is))
           one false is e rest = rest e
 
-  -- where it found none, none passes
+  -- if it found none, none passes
   pub find_fails : (p : X → Bool) (m : FinMap R X) → find_first p (fin.values m) ≡ None
       → (k : K) (r : X) → fin.get m k ≡ Some r → p r ≡ false
   find_fails p m none k r there = search_in (fin.entries m)

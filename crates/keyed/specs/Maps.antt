@@ -1,4 +1,4 @@
--- What a change of one row does to a finite map, and sums over one.
+-- What a change of one row does to a finite map, and sums over finite maps.
 use Rattle.std.specs.Prelude.{◌≡◌, ◌≢◌, ℕ, Bool, Option, Some, None, filter}
 use Rattle.std.specs.List.{sum_by}
 use Rattle.std.specs.Option.{option_map}
@@ -22,7 +22,7 @@ module _ {K V : Type 0} {R : K → K → Ordering} where
   abbrev pub total : (V → ℕ) → FinMap R V → ℕ
   total figure m = sum_by figure (values m)
 
--- a look-up answers this here, and elsewhere as before
+-- after a change a look-up at `a` returns `answer`, and at every other key what it returned before
 pub record Changed {A B : Type 0} (before after : A → Option B) (a : A) (answer : Option B)
     : Type 0 where
   pub here : after a ≡ answer

@@ -13,7 +13,7 @@ abbrev pub map_of : {K V X : Type 0} {R : K → K → Ordering}
     → (X → K) → (X → V) → List X → FinMap R V
 map_of key value rows = from_entries (entries_of key value rows)
 
--- what stands where in a list
+-- the row at this place of a list, if there is one
 abbrev pub row_in : {X : Type 0} → List X → ℕ → Option X
 row_in rows i = slice_get rows i
 
@@ -21,6 +21,6 @@ row_in rows i = slice_get rows i
 pub record AreApart {A X : Type 0} (part : X → A) (at : ℕ → Option X) : Type 0 where
   pub apart : (i j : ℕ) (r s : X) → at i ≡ Some r → at j ≡ Some s → part r ≡ part s → i ≡ j
 
--- the row with this key stands at i
+-- a row stands at i, and has this key
 abbrev pub IsPlaceOf : {K X : Type 0} → (X → K) → K → List X → ℕ → Type 0
 IsPlaceOf key k rows i = IsSomeAnd (slice_get rows i) (λ r. key r ≡ k)

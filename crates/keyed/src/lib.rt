@@ -1,3 +1,3 @@
-//! Tables of rows with keys of their own, as finite maps: the words that their contracts share, and
-//! the lemmas for each way to keep the rows.
+//! Tables whose rows have keys of their own, as finite maps: the definitions that their contracts
+//! share, and the lemmas for each way to store the rows.
 #![tactic(auto)]

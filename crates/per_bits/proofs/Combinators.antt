@@ -53,7 +53,7 @@ then_exact {A} {B} {F} first read_first second read_second p q = record {
       rw (whole, one) two;
 }
 
--- the same where the form is written another way
+-- the same if the form is written another way
 pub exact_as : {A F : Type 0} (encodes other : A → ℕ → List Bool → Type 0)
     (read : List Bool → Result (A × List Bool) F)
     → ((x : A) (place : ℕ) (bits : List Bool) → encodes x place bits → other x place bits)
@@ -88,7 +88,7 @@ check_exact {A} {F} test P x fault to back =
       }
     ] to back
 
--- where no bits are of a form
+-- if no bits are of a form
 pub none_exact : {A F : Type 0} (fault : F)
     → IsExact (λ (x : A) (place : ℕ) (bits : List Bool). ⊥) (λ bits. Err fault)
 none_exact {A} {F} fault = record {
@@ -173,7 +173,7 @@ aligned_takes bits rest e =
     ∙ ap (λ (t : List Bool). take (length bits % 8) bits ++ t) (sym e) in
     (take (length bits % 8) bits, parts, omega (arith, length-take (length bits % 8) bits))
 
--- what a reader that gives so much answers
+-- a reader that gives what an exact reading function gives decodes the form
 pub answers : {A F : Type 0} (encodes : A → ℕ → List Bool → Type 0)
     (read : List Bool → Result (A × List Bool) F) → IsExact encodes read
     → (old new : List Bool) (result : Result A F) → Gives read old result new

@@ -1,4 +1,4 @@
--- Octets behind those that are read do not change what is read of these.
+-- Octets after those that are read do not change what is read of these.
 use Rattle.std.proofs.Common.{◌≡◌, ℕ, zero, suc, ◌+◌, ◌-◌, ◌*◌, ◌%◌, ◌≤◌}
 use Rattle.std.proofs.Common.{List, [], ◌∷◌, ◌++◌, Bool, true, false, cond, length, drop}
 use Rattle.std.proofs.Common.{refl, ap, ◌∙◌, arith, nat_lt, inl, inr, Result, Ok, Err}

@@ -19,7 +19,7 @@ use Rattle.per_bits.proofs.Results.{err_is, guard_ok, guard_err}
 use Rattle.per_bits.proofs.Numbers.{ReadSoFar, number_lt, number-append}
 use Rattle.per_bits.proofs.Octets.{length-bits_of, octet_done}
 
--- a part of an octet: what stands behind its first bits and before its last
+-- a part of an octet: what stands after its first bits and before its last
 octet_part : (x used count left : ℕ) (others : List Bool) → used + count + left ≡ 8
     → drop used (octet x ++ others) ≡ binary count (x / 2 ^ left) ++ (binary left x ++ others)
 unfolding octet
@@ -61,7 +61,7 @@ part_here bits octets rest x used count view front within =
     rw (long, here, take_at value behind count len, drop_at value behind count len, after)
     (ap (λ (n : ℕ). Ok (n, behind)) (number-binary count (x / 2 ^ left)))
 
--- after a part, so many more bits of the number have been read
+-- after a part, that many more bits of the number have been read
 pub part_more : (bits : List Bool) (i n count m : ℕ) (rest after : List Bool)
     → ReadSoFar bits i n rest → number_reading count rest ≡ Ok (m, after)
     → ReadSoFar bits (i + count) (n * 2 ^ count + m) after
@@ -97,7 +97,7 @@ part_more bits i n count m rest after so_far e =
           (number_lt (take (i + count) bits)));
     }
 
--- where the octets end within a part, they end within the number
+-- if the octets end within a part, they end within the number
 pub part_short : (bits : List Bool) (i n count whole : ℕ) (rest : List Bool) (fault : ReadFault)
     → ReadSoFar bits i n rest → i + count ≤ whole → number_reading count rest ≡ Err fault
     → number_reading whole bits ≡ Err fault
@@ -146,7 +146,7 @@ part_last bits octets rest x used count view front full =
     ))
     (ap (λ (n : ℕ). drop n (bits_of octets)) full ∙ octet_done octets rest x front)
 
--- there is no part where no octet is
+-- if there is no octet, there is no part
 pub none_here : (bits : List Bool) (octets : List ℕ) (used count : ℕ)
     → drop used (bits_of octets) ≡ bits → length octets ≡ 0 → 0 < count
     → number_reading count bits ≡ Err Truncated
@@ -160,7 +160,7 @@ none_here bits octets used count view none some =
 
 -- ---- the turns of a number
 
--- a turn of the reader, where the number fits 32 bits
+-- a turn of the reader, if the number fits 32 bits
 pub record Turn (bits : List Bool) (i n : ℕ) (rest : List Bool) : Type 0 where
   pub fits : n < 2 ^ 32
   pub so_far : ReadSoFar bits i n rest

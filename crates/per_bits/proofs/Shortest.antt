@@ -131,7 +131,7 @@ whole_shortest lo hi n place other h =
     offset_shortest (hi - lo) (n - lo) place other
     (subst (λ (m : ℕ). EncodesOffset (hi - lo) m place other) offset h.3)
 
--- how long a length is, behind its padding
+-- how many octets a length has, after its padding
 abbrev length_octets : ℕ → ℕ
 length_octets n = cond (nat_lt n 128) 1 2
 

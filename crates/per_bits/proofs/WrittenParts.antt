@@ -11,7 +11,7 @@ use Rattle.per_bits.proofs.Binary.{length-binary, binary_low}
 use Rattle.per_bits.proofs.Binary.{binary_split, masked}
 use Rattle.per_bits.proofs.Writing.{shown, same, bits_of-push, place_shown, WrittenSoFar}
 
--- bits behind those that the octet has
+-- bits after those that the octet has
 part_push : (used count begun n : ℕ) → n < 2 ^ count
     → binary (used + count) (begun * 2 ^ count + n) ≡ binary used begun ++ binary count n
 part_push used count begun n small =
@@ -27,7 +27,7 @@ cat_lt begun used count n held small =
     pow-add 2 used count ∙ mul_comm (2 ^ used) (2 ^ count) in
     rw power (mul-add-lt begun (2 ^ count) n (2 ^ used) held small)
 
--- the begun octet with a part more
+-- the begun octet with one part more
 pub record Begun (begun used count n more : ℕ) : Type 0 where
   pub value : more ≡ begun * 2 ^ count + n
   pub below : more < 2 ^ (used + count)

@@ -12,7 +12,7 @@ pad place = replicate (pad_length place) false
 abbrev pub then_encoding : (ℕ → List Bool) → (ℕ → List Bool) → ℕ → List Bool
 then_encoding first second place = first place ++ second ((place + length (first place)) % 8)
 
--- n in so many bits, from the next octet on.
+-- n in this many bits, from the next octet on.
 abbrev pub aligned_encoding : ℕ → ℕ → ℕ → List Bool
 aligned_encoding count n place = pad place ++ binary count n
 
@@ -64,6 +64,6 @@ place_in written = length written.bits % 8
 abbrev pub after : Written → List Bool → Written
 after old bits = record { bits = old.bits ++ bits; room = old.room - length bits }
 
--- More bits at the end, for which at most so many bits of room were used.
+-- More bits at the end, for which at most this many bits of room were used.
 abbrev pub Appends : ℕ → Written → List Bool → Written → Type 0
 Appends most old bits new = (new.bits ≡ old.bits ++ bits) × (old.room ≤ new.room + most)

@@ -5,7 +5,7 @@ use Rattle.std.specs.Prelude.{Bool, true, false, length, nat_lt, ◌⊎◌, Resu
 use Rattle.std.specs.List.{AllByRecursion}
 use Rattle.per_bits.specs.Bits.{number, width, octets_for, bits_of, pad_length, place_of}
 
--- Bits of one form, and then bits of another, where the first end.
+-- Bits of one form, and then bits of another, which begin where the first end.
 abbrev pub Then : (ℕ → List Bool → Type 0) → (ℕ → List Bool → Type 0) → ℕ → List Bool → Type 0
 Then first second place bits =
     (front : List Bool) × (rest : List Bool) × (bits ≡ front ++ rest)
@@ -15,7 +15,7 @@ Then first second place bits =
 abbrev pub IsPad : ℕ → List Bool → Type 0
 IsPad place bits = length bits ≡ pad_length place
 
--- A bit-field: so many bits that stand for n (X.691 10.3).
+-- A bit-field: this many bits that stand for n (X.691 10.3).
 abbrev pub EncodesNumber : ℕ → ℕ → ℕ → List Bool → Type 0
 EncodesNumber count n place bits = (length bits ≡ count) × (number bits ≡ n)
 
@@ -27,16 +27,17 @@ EncodesAligned count n = Then IsPad (EncodesNumber count n)
 abbrev pub EncodesBit : Bool → ℕ → List Bool → Type 0
 EncodesBit bit place bits = bits ≡ bit ∷ []
 
--- The number n of 0 to range, where these are more than 65,536: how many octets, less one, as a
--- number of as many as the range needs, and the number in those octets (X.691 10.5.7.4).
+-- The number n of 0 to range, if these are more than 65,536 numbers: first how many octets n has,
+-- less one, in the bits that the range needs for this; then n in those octets (X.691 10.5.7.4).
 abbrev pub EncodesWide : ℕ → ℕ → ℕ → List Bool → Type 0
 EncodesWide range n place bits =
     (more : ℕ) × Then (EncodesNumber (width (octets_for range - 1)) more)
     (λ at octets. (more < octets_for range) × EncodesAligned (8 * (more + 1)) n at octets)
     place bits
 
--- The number n of 0 to range: where these are up to 255 numbers, the fewest bits (X.691 10.5.7.1);
--- where they are 256, one octet (10.5.7.2); where they are up to 65,536, two (10.5.7.3).
+-- The number n of 0 to range. If these are up to 255 numbers, it has the fewest bits (X.691
+-- 10.5.7.1); if they are 256, one octet (10.5.7.2); if they are up to 65,536, two octets
+-- (10.5.7.3).
 abbrev pub EncodesOffset : ℕ → ℕ → ℕ → List Bool → Type 0
 EncodesOffset range n place bits =
     MatchBool (nat_lt range 255) (EncodesNumber (width range) n place bits)
@@ -60,8 +61,8 @@ EncodesLength n = Then IsPad (λ place bits. Then (EncodesBit false) (EncodesNum
 abbrev pub EncodesSmall : ℕ → ℕ → List Bool → Type 0
 EncodesSmall n = Then (EncodesBit false) (EncodesNumber 6 n)
 
--- So many octets, each below 256, octet-aligned: the contents of an OCTET STRING of more than two
--- octets, or of one behind its length (X.691 16).
+-- This many octets, each below 256, octet-aligned: the contents of an OCTET STRING of more than two
+-- octets, or of one after its length (X.691 16).
 abbrev pub EncodesOctets : ℕ → List ℕ → ℕ → List Bool → Type 0
 EncodesOctets count octets = Then IsPad (λ place bits. (length octets ≡ count)
     × AllByRecursion (λ x. x < 256) octets × (bits ≡ bits_of octets))
@@ -81,13 +82,13 @@ IsUnreadable {A} encodes bits = (x : A) (front rest : List Bool) → bits ≡ fr
     → encodes x (place_of bits) front → ⊥
 
 -- What was read is what bits at the front encode, and the reader has passed these; or no bits at
--- the front encode a value, and it is where it was.
+-- the front encode a value, and the reader is where it was.
 abbrev pub Decodes : {A F : Type 0} → (A → ℕ → List Bool → Type 0) → List Bool → Result A F
     → List Bool → Type 0
 Decodes encodes old (Ok x) new = Passes (encodes x) old new
 Decodes encodes old (Err fault) new = IsUnreadable encodes old × (new ≡ old)
 
--- Bits at one place begin with what encodes one value at most, and it has one length.
+-- Bits at one place begin with an encoding of at most one value, and of only one length.
 abbrev pub HasOneReading : {A : Type 0} → (A → ℕ → List Bool → Type 0) → Type 0
 HasOneReading {A} encodes = (v w : A) (place : ℕ) (front other rest more : List Bool) → place < 8
     → encodes v place front → encodes w place other → front ++ rest ≡ other ++ more

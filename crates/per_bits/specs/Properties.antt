@@ -8,30 +8,30 @@ abbrev pub IsShortest : (ℕ → List Bool → Type 0) → ℕ → List Bool →
 IsShortest encodes place bits =
     encodes place bits × ((other : List Bool) → encodes place other → length bits ≤ length other)
 
--- Reading what is written for x at any place, and any bits behind it up to the end of an octet,
+-- Reading what is written for x at any place, with any bits after it up to the end of an octet,
 -- gives x and leaves those bits.
 abbrev pub ReadsBack : {A F : Type 0} → (List Bool → Result (A × List Bool) F) → A
     → (ℕ → List Bool) → Type 0
 ReadsBack {A} {F} read x encoding = (place : ℕ) (rest : List Bool)
     → place_of (encoding place ++ rest) ≡ place → read (encoding place ++ rest) ≡ Ok (x, rest)
 
--- What reading gives with more bits behind: the same value, with those bits left; and the same
--- fault, but where it is that the octets end.
+-- What reading gives with more bits after these: the same value, with those bits left; and the same
+-- fault, unless it is that the octets end.
 abbrev pub Keeps : {A F : Type 0} → F → Result (A × List Bool) F → Result (A × List Bool) F
     → List Bool → Type 0
 Keeps ended (Ok value) further more = further ≡ Ok (value.0, value.1 ++ more)
 Keeps ended (Err fault) further more = (fault ≡ ended → ⊥) → further ≡ Err fault
 
--- Octets behind those that are read do not change what is read of these.
+-- Octets after those that are read do not change what is read of these.
 abbrev pub IsLocal : {A F : Type 0} → F → (List Bool → Result (A × List Bool) F) → Type 0
 IsLocal {A} {F} ended read = (bits more : List Bool) → length more % 8 ≡ 0
     → Keeps ended (read bits) (read (bits ++ more)) more
 
--- What reading gives passes at most so many bits; and the octets end only where fewer are left.
+-- What reading gives passes at most this many bits; and the octets end only if fewer are left.
 abbrev pub Spends : {A F : Type 0} → F → ℕ → List Bool → Result (A × List Bool) F → Type 0
 Spends ended most bits (Ok value) = length bits ≤ length value.1 + most
 Spends ended most bits (Err fault) = fault ≡ ended → length bits < most
 
--- Wherever so many bits are left, these are enough for what is read.
+-- Whatever bits are left, this many are enough for what is read.
 abbrev pub IsWithin : {A F : Type 0} → F → ℕ → (List Bool → Result (A × List Bool) F) → Type 0
 IsWithin ended most read = (bits : List Bool) → Spends ended most bits (read bits)

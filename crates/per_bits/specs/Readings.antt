@@ -1,5 +1,5 @@
 -- What is read from the front of bits that end with an octet: a value and the bits after it, or a
--- fault. Encodes defines which bits have a value; these functions tell which fault others have.
+-- fault. Encodes defines which bits have a value; these functions tell which fault the others have.
 use Rattle.std.specs.Prelude.{ℕ, ◌≡◌, ◌+◌, ◌-◌, ◌*◌, ◌%◌, List, [], ◌∷◌, Bool, length, take, drop}
 use Rattle.std.specs.Prelude.{nat_lt, if◌then◌else◌, Result, Ok, Err}
 use Rattle.std.specs.Borrow.{Bor}
@@ -13,8 +13,8 @@ abbrev pub ◌>>=◌ : {A B F : Type 0} → Result A F → (A → Result B F) �
 (Ok x) >>= f = f x
 (Err e) >>= f = Err e
 
--- What reading returned is what this function gives, and the reader is behind it; after a fault it
--- is where it was.
+-- What reading returned is what this function gives, and the reader stands after it; after a fault
+-- the reader is where it was.
 abbrev pub Gives : {A F : Type 0} → (List Bool → Result (A × List Bool) F) → List Bool
     → Result A F → List Bool → Type 0
 Gives read old (Ok x) new = read old ≡ Ok (x, new)
@@ -30,7 +30,7 @@ abbrev pub bit_reading : List Bool → Result (Bool × List Bool) ReadFault
 bit_reading [] = Err Truncated
 bit_reading (bit ∷ bits) = Ok (bit, bits)
 
--- A number in so many bits (X.691 10.3).
+-- A number in this many bits (X.691 10.3).
 unfoldable pub number_reading : ℕ → List Bool → Result (ℕ × List Bool) ReadFault
 number_reading count bits =
     if nat_lt (length bits) count then Err Truncated
@@ -64,7 +64,7 @@ whole_reading lo hi bits = do
   offset ← offset_reading (hi - lo) bits
   if nat_lt (hi - lo) offset.0 then Err BadLength else Ok (lo + offset.0, offset.1)
 
--- Behind a first bit 1: a 0 and fourteen bits (X.691 10.9.3.7), or a fragment (10.9.3.8).
+-- After a first bit 1: a 0 and fourteen bits (X.691 10.9.3.7), or a fragment (10.9.3.8).
 unfoldable pub long_length_reading : List Bool → Result (ℕ × List Bool) ReadFault
 long_length_reading bits = do
   fragment ← bit_reading bits
@@ -82,17 +82,17 @@ small_reading bits = do
   long ← bit_reading bits
   if long.0 then Err TooMany else number_reading 6 long.1
 
--- So many octets at the front of bits that begin with an octet.
+-- This many octets at the front of bits that begin with an octet.
 unfoldable pub front_octets_reading : ℕ → List Bool → Result (List ℕ × List Bool) ReadFault
 front_octets_reading count bits =
     if nat_lt (length bits) (8 * count) then Err Truncated
     else Ok (octets_in count bits, drop (8 * count) bits)
 
--- So many octets, from the next octet on (X.691 16).
+-- This many octets, from the next octet on (X.691 16).
 abbrev pub octets_reading : ℕ → List Bool → Result (List ℕ × List Bool) ReadFault
 octets_reading count bits = front_octets_reading count (aligned bits)
 
--- What cutting octets gives, as their bits give it.
+-- What a cut of octets gives is what their bits give.
 abbrev pub Splits : Result (List ℕ × List Bool) ReadFault
     → Result (Bor (List ℕ) × Bor (List ℕ)) ReadFault → Type 0
 Splits read (Ok parts) = read ≡ Ok (parts.0.now, bits_of parts.1.now)

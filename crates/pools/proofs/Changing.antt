@@ -1,4 +1,4 @@
--- The members of a set, as one of them or all change.
+-- The members of a set, if one of them changes, or all do.
 use Rattle.std.proofs.Common.{◌≡◌, ℕ, ◌<◌, ◌≤◌, List, [], ◌∷◌, length, map, get_or, set, All, replicate}
 use Rattle.std.proofs.Common.{IsTrue, refl, sym, ap, ◌∙◌, arith, zero, suc}
 use Rattle.std.proofs.lemmas.List.{map-set, get_or-map, set-get_or, length-map, length-set}
@@ -16,7 +16,7 @@ use Rattle.pools.specs.inside.Counted.{AreCounted, counted, members_of}
 abbrev pub no_counts : Counts
 no_counts = record { requests = 0; turns = 0 }
 
--- there are as many members as pools, where there are counts for each
+-- there is one member for each pool, if there are counts for each
 pub length-members_of :
     (accounts : List Account) (counts : List Counts) → length accounts ≤ length counts →
     length (members_of accounts counts) ≡ length accounts
@@ -70,7 +70,7 @@ pub accounts_of-new : (accounts : List Account) → accounts_of (map new_member 
 accounts_of-new [] = refl
 accounts_of-new (a ∷ accounts) = ap (λ bs. a ∷ bs) (accounts_of-new accounts)
 
--- The pools xs, of which callers see what f sees, with their counts.
+-- The pools xs with their counts. Callers see of a pool what f sees.
 module _ {X : Type 0} (f : X → Account) (xs : List X) (cs : List Counts) where
   few_accounts : AreCounted xs cs → length (map f xs) ≤ length cs
   few_accounts are = omega (arith, are.few, are.each, length-map xs f)
@@ -130,7 +130,7 @@ within_limit_after_answer a asked Wait w answer = w
 idle_within : (a : Account) → IsTrue (is_idle a) → IsWithinLimit a
 idle_within a idle = grind (arith, idle)
 
--- a set of pools stays one where one pool changes and stays within its limit
+-- a set of pools stays one if one pool changes and stays within its limit
 pool_set_after :
     (members : List Member) (i : ℕ) (m : Member) → IsPoolSet members → IsWithinLimit m.account →
     IsPoolSet (set members i m)

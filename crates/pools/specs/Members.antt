@@ -24,8 +24,8 @@ accounts_of members = map (λ m. m.account) members
 abbrev pub member_at : List Member → ℕ → Member
 member_at members i = slice_index_or members i (new_member (opening_account 0))
 
--- One more. A count stays at 2^64 - 1 once it is there. (A zone makes 2^62 steps at most, and in
--- each it asks a pool once at most, and makes one turn at most: its counts are exact.)
+-- One more. A count stays at 2^64 - 1 once it is there. (A zone makes at most 2^62 steps. In each
+-- it asks a pool at most once, and makes at most one turn. So its counts are exact.)
 abbrev pub one_more : ℕ → ℕ
 one_more n = min (n + 1) (2 ^ 64 - 1)
 

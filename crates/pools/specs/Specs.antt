@@ -8,13 +8,14 @@ use Rattle.pools.specs.Account.{Account, opening_account}
 use Rattle.pools.specs.Account.{account_after_answer, account_after_return}
 use Rattle.pools.specs.Kinds.{fixed_answer, IsStepAnswer, paced_answer, paced_after_answer}
 
--- the account of a pool that was made so, and was asked nothing yet
+-- the account of a pool that was made by this description, and was asked nothing yet
 abbrev pub account_of : PoolSpec → Account
 account_of (Fixed limit) = opening_account limit
 account_of (Step limit step) = opening_account limit
 account_of (Paced limit burst) = opening_account limit
 
--- the pool that was made so, of its kind and with its step or burst, and was asked nothing yet
+-- the pool that was made by this description, of its kind and with its step or burst, and was asked
+-- nothing yet
 abbrev pub pool_of : PoolSpec → StandardPool
 pool_of (Fixed limit) = pool.Fixed (opening_account limit)
 pool_of (Step limit step) =
@@ -50,7 +51,7 @@ pool_after_return (pool.Step p) n =
 pool_after_return (pool.Paced p) n =
     pool.Paced (record p { account = account_after_return p.account n })
 
--- the pool after a turn: a whole burst may be lent anew
+-- the pool after a turn: a whole burst may be lent again
 abbrev pub pool_after_turn : StandardPool → StandardPool
 pool_after_turn (pool.Fixed account) = pool.Fixed account
 pool_after_turn (pool.Step p) = pool.Step p

@@ -4,7 +4,7 @@ ghost use Rattle.std.specs.Prelude.{◌≡◌, map, All};
 use crate::interface::Pool;
 
 /// The duty of a set of pools to take every loan back. It is not `Drop`, and its field is private
-/// to this file: whoever takes a set apart has to fulfil it.
+/// to this file: code that takes a set apart has to fulfil it.
 pub struct ReturnDuty {
     owed: (),
 }
@@ -14,7 +14,7 @@ impl ReturnDuty {
         ReturnDuty { owed: () }
     }
 
-    /// Ends the duty, which pools with nothing lent fulfil.
+    /// Ends the duty. The pools have to have nothing lent.
     pub fn fulfil<P: Pool>(self, pools: &[P])
         requires { All (λ a. a.figures.lent ≡ 0) (map P.account pools.now) }
     {

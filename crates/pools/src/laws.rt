@@ -3,8 +3,8 @@ ghost use Rattle.std.specs.Prelude.{◌≡◌, ◌≢◌, ◌+◌, ◌<◌, ℕ,
 ghost use Rattle.pools.specs.Account.{is_idle};
 ghost use Rattle.pools.specs.Members.{Member, member_at, total_loans};
 
-/// Where one member of a list changes, there are as many, the others stay, and what all pools have
-/// lent changes by as much as what that pool has lent.
+/// If one member of a list changes, the number of members stays, and the others stay. What all
+/// pools have lent changes by the same number of units as what that pool has lent.
 pub fn one_member_changes()
     ensures count { (members : List Member) (i : ℕ) (after : Member) →
         length (slice_set members i after) ≡ length members }

@@ -17,9 +17,9 @@ struct Counts {
     turns: u64,
 }
 
-/// The pools of a set, each with its counts. The fields are private to this file: a set can reach
-/// a pool that is to change only by `ask`, `take_back` and `turn`, each of which calls it once, and
-/// the first and the last count that call.
+/// The pools of a set, each with its counts. The fields are private to this file: a set can change
+/// a pool only by `ask`, `take_back` and `turn`. Each of these calls the pool once, and `ask` and
+/// `turn` count that call.
 pub struct Members<P: Pool> {
     pools: Vec<P>,
     counts: [Counts; MOST_POOLS],

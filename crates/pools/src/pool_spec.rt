@@ -4,8 +4,8 @@ ghost use Rattle.std.specs.Option.{SomeIff};
 
 use std::marker::Model;
 
-/// Units of 100 bit/s, as many as a BandWidth of H.225.0 has: 1 to 4294967295. Contracts see the
-/// number.
+/// A number of units of 100 bit/s: 1 to 4294967295, the most that a BandWidth of H.225.0 has.
+/// Contracts see the number.
 #[derive(Clone, Copy)]
 pub struct NonZeroUnits {
     units: u32,
@@ -24,7 +24,7 @@ impl Model for NonZeroUnits {
 }
 
 impl NonZeroUnits {
-    /// So many units: None exactly where they are 0.
+    /// This many units. None if and only if they are 0.
     pub fn new(units: u32) -> Option<Self>
         ensures { SomeIff result (0 < units) units }
     {

@@ -11,7 +11,7 @@ pub fn written_reads_back()
     ensures { (reply : Reply) → IsReply reply → ReadsBack reply }
 {}
 
-/// Two replies with the same octets are one.
+/// Two replies with the same octets are the same reply.
 pub fn one_reply()
     ensures { (a : Reply) (b : Reply) → IsReply a → IsReply b → encoding_of a ≡ encoding_of b → a
         ≡ b }

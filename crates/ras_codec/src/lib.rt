@@ -1,5 +1,5 @@
-//! The messages of RAS (ITU-T H.225.0) as octets in BASIC-PER, ALIGNED (ITU-T X.691): octets to a
-//! request, and a reply to octets, from which it is read again.
+//! The messages of RAS (ITU-T H.225.0) as octets in BASIC-PER, ALIGNED (ITU-T X.691). A request is
+//! read from octets. A reply is written as octets, from which it is read again.
 #![tactic(auto)]
 
 mod laws;

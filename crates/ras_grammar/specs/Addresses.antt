@@ -55,7 +55,7 @@ nsap = do
   address ← sized_octet_string 1 20
   nothing
 
--- an address that is read, and is none of IPv4
+-- an address that is read, and is no IPv4 address
 abbrev pub no_address : Grammar (Unit {0}) → Grammar (Option Address)
 no_address other = do
   address ← other
@@ -87,7 +87,7 @@ first_of [] = None
 first_of (Some address ∷ others) = Some address
 first_of (None ∷ others) = first_of others
 
--- so many addresses, of which the first ipAddress is kept
+-- this many addresses, of which the first ipAddress is kept
 abbrev pub first_each : ℕ → Grammar (Option Address)
 first_each count = do
   all ← each count transport_address
@@ -99,6 +99,6 @@ address_list = do
   count ← length
   first_each count
 
--- a TransportAddress that is OPTIONAL: its address where it is an ipAddress
+-- a TransportAddress that is OPTIONAL: its address if it is an ipAddress
 abbrev pub optional_address : Bool → Grammar (Option Address)
 optional_address present = either present transport_address (is None)

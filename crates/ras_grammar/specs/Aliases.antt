@@ -51,12 +51,12 @@ served_in [] = []
 served_in (Some alias ∷ others) = alias ∷ served_in others
 served_in (None ∷ others) = served_in others
 
--- aliases, and one more where it is served
+-- aliases, and one more if it is served
 abbrev pub keeping : List Alias → Option Alias → List Alias
 keeping front None = front
 keeping front (Some alias) = front ++ alias ∷ []
 
--- so many aliases, of which the served ones are kept
+-- this many aliases, of which the served ones are kept
 abbrev pub served_each : ℕ → Grammar (List Alias)
 served_each count = do
   all ← each count alias_address
@@ -68,6 +68,6 @@ alias_list = do
   count ← length
   served_each count
 
--- the same where it is OPTIONAL
+-- the same if it is OPTIONAL
 abbrev pub optional_aliases : Bool → Grammar (List Alias)
 optional_aliases present = either present alias_list (is [])

@@ -46,14 +46,14 @@ abbrev pub of_octets : Result (Bor (List ℕ)) ReadFault → Result (List ℕ) R
 of_octets (Ok octets) = Ok octets.now
 of_octets (Err fault) = Err fault
 
--- so many characters at the front of an array
+-- this many characters at the front of an array
 abbrev pub front_of : {A : Type 0} → ℕ → Result (List A) ReadFault → Result (List A) ReadFault
 front_of count (Ok characters) = Ok (take count characters)
 front_of count (Err fault) = Err fault
 
--- What reading returned is what the reading function gives, and the decoder is behind it; after
--- a fault it is where it was.
--- A fault may be that memory was wanting, of which the reading function knows nothing.
+-- What reading returned is what the reading function gives, and the decoder stands after it; after
+-- a fault the decoder is where it was. A fault may also be that memory was refused. The reading
+-- function knows nothing of that.
 abbrev pub GivesUnlessMemory : {A : Type 0} → (List Bool → Result (A × List Bool) ReadFault)
     → List Bool
     → Result A ReadFault → List Bool → Type 0
@@ -61,6 +61,6 @@ GivesUnlessMemory reading old (Ok x) new = reading old ≡ Ok (x, new)
 GivesUnlessMemory reading old (Err fault) new = ((fault ≡ Memory) ⊎ (reading old ≡ Err fault)) ×
     (new ≡ old)
 
--- The result is this one, unless memory was wanting.
+-- The result is this one, unless memory was refused.
 abbrev pub IsUnlessMemory : {A : Type 0} → Result A ReadFault → Result A ReadFault → Type 0
 IsUnlessMemory expected result = (result ≡ Err Memory) ⊎ (result ≡ expected)

@@ -16,7 +16,7 @@ EncodesBoth {A} first next y place bits = (x : A) × Then (first x) (next x y) p
 abbrev pub EncodesNothing : {A : Type 0} → A → A → ℕ → List Bool → Type 0
 EncodesNothing x y place bits = (y ≡ x) × (bits ≡ [])
 
--- the bits of an open type, at the front of whose octets a value stands
+-- the bits of an open type whose octets begin with a value
 abbrev pub EncodesInside : {A : Type 0} → (A → ℕ → List Bool → Type 0) → A → ℕ → List Bool → Type 0
 EncodesInside encodes x place bits =
     (octets : List ℕ) × EncodesOpenType octets place bits
@@ -37,7 +37,7 @@ inside_reading reading bits = do
   x ← reading (bits_of octets.0)
   Ok (x.0, octets.1)
 
--- the bits up to the next octet, whatever they are, and a value behind them
+-- the bits up to the next octet, whatever they are, and a value after them
 abbrev pub EncodesAligned : {A : Type 0} → (A → ℕ → List Bool → Type 0) → A → ℕ → List Bool → Type 0
 EncodesAligned encodes x = Then IsPad (encodes x)
 

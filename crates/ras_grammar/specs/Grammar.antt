@@ -15,9 +15,9 @@ use Rattle.ras_grammar.specs.Exact.{aligned_exact, bit_lifts, index_lifts, numbe
 use Rattle.ras_grammar.specs.Exact.{whole_lifts}
 use Rattle.ras_grammar.specs.Exact.{length_lifts, small_lifts, octets_lifts, open_type_lifts}
 
--- The values of one type: which bits encode a value at a place of their octet, and how a value
--- is read from the front of
--- bits that end with an octet. It is read exactly where bits at the front encode it.
+-- The values of one type: which bits encode a value at a place of their octet, and how a value is
+-- read from the front of bits that end with an octet. It is read if and only if bits at the front
+-- encode it.
 pub record Grammar (A : Type 0) : Type 1 where
   pub encodes : A → ℕ → List Bool → Type 0
   pub reading : List Bool → Result (A × List Bool) ReadFault
@@ -63,7 +63,7 @@ boolean = record {
   exact = bit_lifts;
 }
 
--- a number in so many bits
+-- a number in this many bits
 abbrev pub bits : ℕ → Grammar ℕ
 bits count = record {
   encodes = EncodesNumber count;
@@ -79,7 +79,7 @@ whole lo hi = record {
   exact = whole_lifts lo hi;
 }
 
--- the index of a root alternative, of which the last has this index
+-- the index of a root alternative; `last` is that of the last one
 abbrev pub choice_index : ℕ → Grammar ℕ
 choice_index last = record {
   encodes = EncodesWhole 0 last;
@@ -103,7 +103,7 @@ small = record {
   exact = small_lifts;
 }
 
--- so many octets, from the next octet on
+-- this many octets, from the next octet on
 abbrev pub octets : ℕ → Grammar (List ℕ)
 octets count = record {
   encodes = EncodesOctets count;
@@ -119,7 +119,7 @@ open_type = record {
   exact = open_type_lifts;
 }
 
--- an open type, at the front of whose octets a value stands
+-- an open type whose octets begin with a value
 abbrev pub inside : {A : Type 0} → Grammar A → Grammar A
 inside g = record {
   encodes = EncodesInside g.encodes;
@@ -151,7 +151,7 @@ infix 5 if◌equals◌take◌else◌
 abbrev pub if◌equals◌take◌else◌ : {A : Type 0} → ℕ → ℕ → Grammar A → Grammar A → Grammar A
 if index equals n take g else other = either (nat_eq index n) g other
 
--- so many values one after another
+-- this many values one after another
 abbrev pub each : {A : Type 0} → ℕ → Grammar A → Grammar (List A)
 each zero g = is []
 each (suc count) g = do
@@ -173,7 +173,7 @@ skipped true g = do
   nothing
 skipped false g = nothing
 
--- so many values one after another, that are dropped
+-- this many values one after another, which are dropped
 abbrev pub each_skipped : {A : Type 0} → ℕ → Grammar A → Grammar (Unit {0})
 each_skipped count g = do
   all ← each count g

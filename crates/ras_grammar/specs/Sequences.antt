@@ -12,8 +12,8 @@ list_skipped g = do
   count ← length
   each_skipped count g
 
--- Which additions of a SEQUENCE are there, by their indexes: none where its extension bit is not
--- set.
+-- Which additions of a SEQUENCE are there, by their indexes. There are none if its extension bit is
+-- not set.
 abbrev pub additions : Bool → Grammar (List Bool)
 additions true = do
   more ← small
@@ -109,7 +109,7 @@ call_reference = whole 0 65535
 abbrev pub conference_identifier : Grammar (List ℕ)
 conference_identifier = octets 16
 
--- CallIdentifier, of whose open type no more is read
+-- CallIdentifier; no more of its open type is read
 unfoldable pub call_identifier : Grammar (List ℕ)
 call_identifier = do
   extended ← boolean

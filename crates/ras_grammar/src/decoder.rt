@@ -33,9 +33,8 @@ impl<'a> Decoder<'a> {
         }
     }
 
-    /// A second decoder at the same place. What is made of several components is read on it, so
-    /// that a
-    /// fault leaves the first where it was.
+    /// A second decoder at the same place. A value of several components is read on it, so that a
+    /// fault leaves the first decoder where it was.
     pub fn ahead(&self) -> Self
         ensures { result ≡ self.now }
     {
@@ -51,7 +50,7 @@ impl<'a> Decoder<'a> {
         Ok(self.bits.bit()?)
     }
 
-    /// A number in so many bits.
+    /// A number in this many bits.
     pub fn bits(&mut self, count: u32) -> Result<u32, ReadFault>
         requires { count ≤ 32 }
         ensures gives { Gives (grammar.bits count).reading self.old result self.new }
@@ -104,7 +103,7 @@ impl<'a> Decoder<'a> {
         self.bits.align();
     }
 
-    /// So many octets, from the next octet on.
+    /// This many octets, from the next octet on.
     #[tactic(auto, using(crate::proofs::Octets::octets_read))]
     pub fn octets(&mut self, count: usize) -> Result<&'a [u8], ReadFault>
         ensures len { IfOk result (λ octets. length octets.now ≡ count) }

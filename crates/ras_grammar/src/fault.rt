@@ -6,7 +6,7 @@ ghost use Rattle.ras_grammar.specs.Faults.{read_fault_number};
 use std::alloc::AllocError;
 use thiserror::Error;
 
-/// What is wrong with the octets of a message, or that memory was wanting.
+/// What is wrong with the octets of a message, or that memory was refused.
 #[derive(Clone, Copy, Debug, PartialEq, Eq, Error)]
 pub enum ReadFault {
     #[error("the octets end")]

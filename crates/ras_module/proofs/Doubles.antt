@@ -97,7 +97,7 @@ next_is : (items : List Alias) (i : ℕ) (x : Alias) → i < length items → x 
 next_is items i x below is = at_drop_more (λ (ys : List Alias). ys) items i x below
     ∙ ap (λ y. y ∷ drop (i + 1) items) (sym is)
 
--- the list after its next alias, where that is kept already, and where it is new
+-- the list after its next alias, if that is kept already, and if it is new
 pub goes_on_with_double : (items : List Alias) (i : ℕ) (x : Alias) (kept all : List Alias)
     → i < length items → x ≡ get_or items i x
     → has_alias kept x ≡ true → kept_and_new kept (drop i items) ≡ all

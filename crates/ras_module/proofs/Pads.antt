@@ -1,4 +1,4 @@
--- Arrays that hold a text with zeros behind it.
+-- Arrays that hold a text with zeros after it.
 use Rattle.std.proofs.Common.{◌≡◌, ℕ, ◌-◌, ◌≤◌, List, length, take, replicate, ◌++◌, sym, ◌∙◌, ap}
 use Rattle.std.proofs.Common.{arith, length-append}
 use Rattle.std.proofs.lemmas.List.{length-replicate}

@@ -19,7 +19,7 @@ same_alias (H323Id a) (Digits b) = false
 abbrev pub has_alias : List Alias → Alias → Bool
 has_alias aliases alias = list_any (λ a. same_alias a alias) aliases
 
--- later doubles are dropped: the head, and then the rest without its likes
+-- later doubles are dropped: the first alias, and then the rest without those equal to it
 abbrev pub without_doubles : List Alias → List Alias
 without_doubles [] = []
 without_doubles (alias ∷ aliases) =

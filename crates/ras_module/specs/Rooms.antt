@@ -4,7 +4,7 @@ use Rattle.ras_module.specs.declared.reason.RegistrationRejectReason.TheVariants
 use Rattle.ras_module.specs.declared.reply.Reply.{Reply}
 use Rattle.ras_module.specs.declared.reply.Reply.TheVariants.{Gcf, Rcf, Rrj}
 
--- two identifiers of 128 characters at most, 514 octets at most for an alias, and some to spare
+-- two identifiers of at most 128 characters, at most 514 octets for an alias, and some to spare
 abbrev pub room_of : Reply → ℕ
 room_of (Gcf seq gatekeeper ras) = 320
 room_of (Rcf seq call_signal aliases gatekeeper endpoint granted) = 640 + 516 * length aliases

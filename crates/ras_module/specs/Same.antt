@@ -43,7 +43,7 @@ alias_decides (H323Id a) (H323Id b) =
 alias_decides (Digits a) (H323Id b) = (λ h. absurd (cc h), λ e. absurd (cc e))
 alias_decides (H323Id a) (Digits b) = (λ h. absurd (cc h), λ e. absurd (cc e))
 
--- two tests that are true together are one
+-- two tests that are true in the same cases are equal
 together : (a b : Bool) → (a ≡ true → b ≡ true) → (b ≡ true → a ≡ true) → a ≡ b
 together true b to back = sym (to refl)
 together false true to back = absurd (cc (back refl))

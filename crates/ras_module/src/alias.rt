@@ -10,7 +10,7 @@ use crate::dialled_digits::DialledDigits;
 use std::hash::{Hash, Hasher};
 
 /// A name by which an endpoint may be called: the two kinds of AliasAddress (H.225.0) that are
-/// served. Two aliases are equal where their kinds and their characters are.
+/// served. Two aliases are equal if their kinds and their characters are.
 #[derive(Clone, Copy)]
 pub enum Alias {
     Digits(DialledDigits),
@@ -35,7 +35,7 @@ impl Eq for Alias {
     ghost laws = { decided same_alias alias_decides };
 }
 
-// the characters tell apart nearly all aliases that a zone has, so the kind isn't fed
+// the characters tell apart nearly all aliases of a zone, so the hasher isn't fed the kind
 impl Hash for Alias {
     ghost hash_input = { fed_alias };
 

@@ -68,7 +68,7 @@ impl AliasList {
         &self.items
     }
 
-    /// Adds an alias at the end, or leaves the list alone for want of memory.
+    /// Adds an alias at the end. For want of memory it fails, and the list stays as it is.
     pub fn push(&mut self, alias: Alias) -> Result<(), AllocError>
         ensures ok { OnOk result (self.new ≡ self.old ++ alias ∷ []) }
         ensures err { OnErr result (self.new ≡ self.old) }
@@ -141,7 +141,7 @@ impl ReplyAliases {
     /// The most aliases of a reply.
     pub const MOST: usize = 32;
 
-    /// These aliases: the list comes back exactly where there are more than 32.
+    /// These aliases. The list comes back if and only if there are more than 32.
     pub fn new(list: AliasList) -> Result<Self, AliasList>
         ensures { MatchResult result (λ few. (few ≡ list) × (length list ≤ 32)) (λ many. (many ≡ list) × (32 < length list)) }
     {

@@ -18,7 +18,7 @@ use std::marker::Model;
 /// and takes no memory. Contracts see the list of its characters.
 #[derive(Clone, Copy)]
 pub struct BmpString<const MOST: usize> {
-    // zeros stand behind the last character, so that two equal texts have equal fields
+    // zeros stand after the last character, so that two equal texts have equal fields
     characters: [u16; MOST],
     count: usize,
 }
@@ -49,7 +49,7 @@ impl<const MOST: usize> Model for BmpString<MOST> {
 }
 
 impl<const MOST: usize> BmpString<MOST> {
-    /// The text of these characters: None exactly where there is none of them, or more than
+    /// The text of these characters. None if and only if there is none of them, or more than
     /// `MOST`.
     #[tactic(auto, using(crate::proofs::Pads::is_padded, crate::proofs::Pads::front_of_padded))]
     pub fn new(text: &[u16]) -> Option<Self>
@@ -122,7 +122,7 @@ impl<const MOST: usize> Hash for BmpString<MOST> {
     }
 }
 
-/// The characters in an array, with zeros behind them.
+/// The characters in an array, with zeros after them.
 fn padded<const MOST: usize>(text: &[u16]) -> [u16; MOST]
     requires { length text.now ≤ MOST }
     ensures { result ≡ text.now ++ replicate (MOST - length text.now) 0 }

@@ -42,7 +42,7 @@ fn are_dialled(text: &[u16]) -> bool
 }
 
 impl DialledDigits {
-    /// The digits of this text: None exactly where a character is none of `0123456789#*,`.
+    /// The digits of this text. None if and only if a character is none of `0123456789#*,`.
     pub fn new(characters: BmpString<128>) -> Option<Self>
         ensures { SomeIff result (AreDialled characters) characters }
     {

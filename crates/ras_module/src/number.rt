@@ -24,7 +24,7 @@ impl Model for RequestSeqNum {
 }
 
 impl RequestSeqNum {
-    /// This number: None exactly where it is 0.
+    /// This number. None if and only if it is 0.
     pub fn new(number: u16) -> Option<Self>
         ensures { SomeIff result (0 < number) number }
     {
@@ -63,7 +63,7 @@ impl Model for Delay {
 }
 
 impl Delay {
-    /// So many milliseconds: None exactly where they are 0.
+    /// This many milliseconds. None if and only if they are 0.
     pub fn new(milliseconds: u16) -> Option<Self>
         ensures { SomeIff result (0 < milliseconds) milliseconds }
     {
@@ -101,7 +101,7 @@ impl Model for TimeToLive {
 }
 
 impl TimeToLive {
-    /// So many seconds: None exactly where they are 0.
+    /// This many seconds. None if and only if they are 0.
     pub fn new(seconds: u32) -> Option<Self>
         ensures { SomeIff result (0 < seconds) seconds }
     {

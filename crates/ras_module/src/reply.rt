@@ -14,9 +14,9 @@ use crate::reason::{
 };
 use std::alloc::AllocError;
 
-/// A message of the gatekeeper, with what differs from one such message to the next. `seq` is that
-/// of the request, but for an IRQ, which has a number of the gatekeeper's own. Bandwidth is in
-/// units of 100 bit/s.
+/// A message of the gatekeeper, with what differs from one such message to the next. `seq` is the
+/// number of the request; an IRQ has a number of the gatekeeper's own. Bandwidth is in units of 100
+/// bit/s.
 #[derive(PartialEq, Eq, Drop)]
 pub enum Reply {
     /// GatekeeperConfirm.
@@ -88,7 +88,7 @@ pub enum Reply {
     Irq {
         seq: RequestSeqNum,
     },
-    /// RequestInProgress: ask no more for so long.
+    /// RequestInProgress: do not ask again for the time `delay`.
     Rip {
         seq: RequestSeqNum,
         delay: Delay,

@@ -12,8 +12,8 @@ use crate::number::{RequestSeqNum, TimeToLive};
 use std::alloc::AllocError;
 
 /// A request of an endpoint, with what the gatekeeper looks at. An address is the first ipAddress
-/// of its list, where there is one; aliases are the dialled digits and h323-IDs of their list in
-/// order, doubles included; bandwidth is in units of 100 bit/s, for both directions of a call.
+/// of its list, if there is one. Aliases are the dialled digits and h323-IDs of their list, in
+/// order, doubles included. Bandwidth is in units of 100 bit/s, for both directions of a call.
 #[derive(PartialEq, Eq, Drop)]
 pub enum Request {
     Grq(GatekeeperRequest),
@@ -53,7 +53,7 @@ pub struct UnregistrationRequest {
     pub endpoint: Option<EndpointId>,
 }
 
-/// An AdmissionRequest (H.225.0, ARQ): to open a call, or (`answer`) to answer one.
+/// An AdmissionRequest (H.225.0, ARQ): to open a call, or to answer one if `answer` is set.
 #[derive(PartialEq, Eq, Drop)]
 pub struct AdmissionRequest {
     pub seq: RequestSeqNum,

@@ -1,4 +1,4 @@
--- A loop that reads so many values, and folds them into one, reads as `each` does.
+-- A loop that reads a number of values, and folds them into one, reads as `each` does.
 use Rattle.std.proofs.Common.{◌≡◌, ℕ, zero, suc, ◌+◌, ◌-◌, ◌<◌, List, [], ◌∷◌, ◌++◌, Bool, length}
 use Rattle.std.proofs.Common.{take, set, arith, ◌∙◌, append_assoc, append-nil, Result, Ok, Err}
 use Rattle.std.proofs.Common.{refl, sym, ap}
@@ -93,7 +93,7 @@ done x = Ok x
 abbrev pub made : {A B : Type 0} → (A → B) → A × List Bool → Result (B × List Bool) ReadFault
 made s xs = Ok (s xs.0, xs.1)
 
--- ---- what a loop gives that has read i of the values so far
+-- ---- what is given by a loop that has read i of the values so far
 
 dropped_fault : {A B : Type 0} (r : Result A ReadFault) (k : A → B) (fault : ReadFault) →
     (r >>= λ x. Ok (k x)) ≡ Err fault → r ≡ Err fault

@@ -38,7 +38,8 @@ root_message = do
   index ← choice_index 24
   root_alternative index
 
--- RasMessage: a request that is served, or None for any other message, of which no more is read
+-- RasMessage: a request that is served, or None for any other message. No more is read of the
+-- others.
 unfoldable pub ras_message : Grammar (Option Request)
 ras_message = do
   extended ← boolean

@@ -32,7 +32,7 @@ call_type = null_choice 3
 unfoldable pub disengage_reason : Grammar (Unit {0})
 disengage_reason = null_choice 2
 
--- The key of a call: its callIdentifier where it is there and not all zero, else its conferenceID.
+-- The key of a call: its callIdentifier if it is there and not all zero, else its conferenceID.
 abbrev pub call_key : List ℕ → Option (List ℕ) → CallKey
 call_key conference None = record { octets = conference }
 call_key conference (Some guid) = record {

@@ -1,4 +1,4 @@
-//! The additions of a SEQUENCE behind its extension marker (X.691).
+//! The additions of a SEQUENCE after its extension marker (X.691).
 
 ghost use Rattle.std.specs.Prelude.{◌≡◌, ◌≤◌};
 ghost use Rattle.per_bits.specs.Readings.{Gives};
@@ -42,7 +42,7 @@ impl PresentAdditions {
     }
 }
 
-/// So many presence bits.
+/// This many presence bits.
 fn presence_bits(decoder: &mut Decoder<'_>, count: usize) -> Result<[bool; 64], ReadFault>
     requires { count ≤ 64 }
     ensures { Gives (each count boolean).reading decoder.old (front_of count result) decoder.new }
@@ -56,7 +56,7 @@ fn presence_bits(decoder: &mut Decoder<'_>, count: usize) -> Result<[bool; 64], 
     Ok(present)
 }
 
-/// The additions that are there, none where the extension bit is not set.
+/// The additions that are there. There are none if the extension bit is not set.
 pub fn additions(decoder: &mut Decoder<'_>, extended: bool) -> Result<PresentAdditions, ReadFault>
     ensures { Gives (additions extended).reading decoder.old result decoder.new }
 {

@@ -26,7 +26,7 @@ fn ip_address(decoder: &mut Decoder<'_>) -> Result<Address, ReadFault>
     Ok(Address { ip, port })
 }
 
-/// The addresses of a route, so many.
+/// Passes over this many addresses of a route.
 fn skip_route(decoder: &mut Decoder<'_>, count: u32) -> Result<(), ReadFault>
     ensures { Gives (each_skipped count (octets 4)).reading decoder.old result decoder.new }
 {
@@ -133,7 +133,7 @@ pub fn transport_address(decoder: &mut Decoder<'_>) -> Result<Option<Address>, R
     Ok(address)
 }
 
-/// The first ipAddress of so many addresses.
+/// The first ipAddress of this many addresses.
 fn first_address(decoder: &mut Decoder<'_>, count: u32) -> Result<Option<Address>, ReadFault>
     ensures { Gives (first_each count).reading decoder.old result decoder.new }
 {

@@ -43,7 +43,7 @@ fn digit(decoder: &mut Decoder<'_>) -> Result<u16, ReadFault>
     Ok(digit_of(code))
 }
 
-/// So many characters that may be dialled.
+/// This many characters that may be dialled.
 fn digits(decoder: &mut Decoder<'_>, count: usize) -> Result<[u16; 128], ReadFault>
     requires { count ≤ 128 }
     ensures gives { Gives (each count digit).reading decoder.old
@@ -110,7 +110,7 @@ fn skip_each_alias(decoder: &mut Decoder<'_>, count: u32) -> Result<(), ReadFaul
     Ok(())
 }
 
-/// Passes over a list of aliases, where it is there.
+/// Passes over a list of aliases, if it is there.
 #[tactic(auto, unfolding(ras_grammar::specs::Aliases::skipped_aliases))]
 pub fn skip_aliases(decoder: &mut Decoder<'_>, present: bool) -> Result<(), ReadFault>
     ensures { Gives (skipped present skipped_aliases).reading decoder.old result decoder.new }
@@ -135,7 +135,8 @@ fn keep(aliases: &mut AliasList, alias: Option<Alias>) -> Result<(), AllocError>
     }
 }
 
-/// The served aliases among so many. Memory is asked for alias by alias, once it has been read.
+/// The served aliases among this many. Memory for an alias is asked for after the alias has been
+/// read.
 fn served_aliases(
     alloc: Global,
     decoder: &mut Decoder<'_>,
@@ -153,7 +154,7 @@ fn served_aliases(
     Ok(aliases)
 }
 
-/// The served aliases of a list; none where the list isn't there.
+/// The served aliases of a list. There are none if the list isn't there.
 #[tactic(auto, unfolding(ras_grammar::specs::Aliases::alias_list))]
 pub fn optional_aliases(
     alloc: Global,

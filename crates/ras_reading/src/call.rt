@@ -69,7 +69,7 @@ pub fn call_type(decoder: &mut Decoder<'_>) -> Result<(), ReadFault>
     skip_null_choice(decoder, 3)
 }
 
-/// CallType, where it is there.
+/// CallType, if it is there.
 pub fn skip_call_type(decoder: &mut Decoder<'_>, present: bool) -> Result<(), ReadFault>
     ensures { Gives (skipped present call_type).reading decoder.old result decoder.new }
 {
@@ -79,7 +79,7 @@ pub fn skip_call_type(decoder: &mut Decoder<'_>, present: bool) -> Result<(), Re
     Ok(())
 }
 
-/// CallModel, where it is there.
+/// CallModel, if it is there.
 #[tactic(auto, unfolding(crate::specs::Requests::call_model))]
 pub fn skip_call_model(decoder: &mut Decoder<'_>, present: bool) -> Result<(), ReadFault>
     ensures { Gives (skipped present call_model).reading decoder.old result decoder.new }
@@ -124,7 +124,7 @@ fn qseries_options(decoder: &mut Decoder<'_>) -> Result<(), ReadFault>
     Ok(())
 }
 
-/// callServices, where they are there.
+/// callServices, if they are there.
 pub fn skip_call_services(decoder: &mut Decoder<'_>, present: bool) -> Result<(), ReadFault>
     ensures { Gives (skipped present qseries_options).reading decoder.old result decoder.new }
 {

@@ -51,7 +51,7 @@ fn skip_vendor(decoder: &mut Decoder<'_>, present: bool) -> Result<(), ReadFault
     Ok(())
 }
 
-/// GatekeeperInfo, McuInfo, TerminalInfo, and what says that a protocol is supported.
+/// GatekeeperInfo, McuInfo, TerminalInfo, and the types that say that a protocol is supported.
 #[tactic(auto, unfolding(crate::specs::EndpointTypes::node_info))]
 fn node_info(decoder: &mut Decoder<'_>) -> Result<(), ReadFault>
     ensures { Gives node_info.reading decoder.old result decoder.new }
@@ -91,7 +91,7 @@ fn supported_protocols(decoder: &mut Decoder<'_>) -> Result<(), ReadFault>
     Ok(())
 }
 
-/// So many supported protocols.
+/// This many supported protocols.
 fn skip_protocols(decoder: &mut Decoder<'_>, count: u32) -> Result<(), ReadFault>
     ensures { Gives (each_skipped count supported_protocols).reading decoder.old result
         decoder.new }

@@ -57,7 +57,7 @@ fn message(alloc: Global, octets: &[u8]) -> Result<Option<Request>, ReadFault>
     ras_message(alloc, &mut decoder)
 }
 
-/// The request that octets begin with, or None where they are a message that is not served. What
+/// The request that octets begin with, or None if they are a message that is not served. What
 /// follows is not read.
 pub fn read(alloc: Global, octets: &[u8]) -> Result<Option<Request>, ReadFault>
     ensures gives { IsUnlessMemory (message_reading octets.now) result }

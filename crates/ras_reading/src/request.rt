@@ -29,7 +29,7 @@ use ras_module::{
 };
 use std::alloc::Global;
 
-/// GatekeeperRequest. What stands behind gatekeeperIdentifier is not read.
+/// GatekeeperRequest. What stands after gatekeeperIdentifier is not read.
 #[tactic(auto, unfolding(crate::specs::Requests::gatekeeper_request))]
 pub fn gatekeeper_request(decoder: &mut Decoder<'_>) -> Result<GatekeeperRequest, ReadFault>
     ensures { Gives gatekeeper_request.reading decoder.old result decoder.new }
@@ -318,7 +318,7 @@ pub fn disengage_request(decoder: &mut Decoder<'_>) -> Result<DisengageRequest, 
     })
 }
 
-/// InfoRequestResponse. What stands behind endpointIdentifier is not read.
+/// InfoRequestResponse. What stands after endpointIdentifier is not read.
 #[tactic(auto, unfolding(crate::specs::Requests::info_request_response))]
 pub fn info_request_response(decoder: &mut Decoder<'_>) -> Result<InfoRequestResponse, ReadFault>
     ensures { Gives info_request_response.reading decoder.old result decoder.new }

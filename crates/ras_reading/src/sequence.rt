@@ -172,7 +172,7 @@ pub fn non_standard_parameter(decoder: &mut Decoder<'_>) -> Result<(), ReadFault
     Ok(())
 }
 
-/// nonStandardData, where it is there.
+/// nonStandardData, if it is there.
 pub fn skip_non_standard_data(decoder: &mut Decoder<'_>, present: bool) -> Result<(), ReadFault>
     ensures { Gives (skipped present non_standard_parameter).reading decoder.old result
         decoder.new }

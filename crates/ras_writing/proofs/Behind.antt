@@ -1,4 +1,4 @@
--- Components behind octets.
+-- Components after octets.
 use Rattle.std.proofs.Common.{◌≡◌, ℕ, suc, ◌+◌, ◌/◌, ◌%◌, ◌<◌, List, [], ◌∷◌, ◌++◌, Bool, false}
 use Rattle.std.proofs.Common.{length, get_or, arith, refl, sym, ap, ◌∙◌, append_assoc, append-nil}
 use Rattle.std.proofs.Common.{length-append}
@@ -17,7 +17,7 @@ pub behind_append : (xs ys : List Encoding) (bits : List Bool) → behind (xs ++
 behind_append [] ys bits = refl
 behind_append (x ∷ xs) ys bits = behind_append xs ys (bits ++ x (length bits % 8))
 
--- components behind bits are these bits and what the components have in order
+-- bits with components after them are these bits, and then the components in order
 pub behind-in_order : (components : List Encoding) (bits : List Bool) → behind components bits
     ≡ bits ++ in_order components (length bits % 8)
 behind-in_order [] bits = sym (append-nil bits)
@@ -63,7 +63,7 @@ octets_in-all xs bits count fit e n =
     ∙ ap (λ (t : List Bool). octets_in (length xs + 0) t) (sym e ∙ sym (append-nil (bits_of xs)))
     ∙ all
 
--- the octets that stand behind others, once components were written behind those
+-- the octets that stand after others, if components were written after those
 pub appended : (old new : List ℕ) (components : List Encoding) (bits : List Bool) → Fit old
     → Fit new
     → bits ≡ behind components (bits_of old) → bits_of new ≡ bits ++ pad (length bits % 8) → new
@@ -99,7 +99,7 @@ appended old new components bits fit_old fit_new written finished =
     (length more + 7) / 8) fit_new all count)
     ∙ octets_in-bits_of old ((length more + 7) / 8) (more ++ pad (length more % 8)) fit_old
 
--- aliases behind others
+-- aliases after others
 pub aliases_more : (aliases : List Alias) (alias : Alias) (i : ℕ) (bits more : List Bool) → alias
     ≡ get_or aliases i alias → i < length aliases
     → more ≡ behind (alias_address alias) bits → behind (alias_addresses (drop

@@ -118,7 +118,7 @@ skipped_written count es few len = record {
       );
 }
 
--- an addition at the front of whose octets a value stands
+-- an addition whose octets begin with a value
 pub front_written : {A : Type 0} (g : Grammar A) {x : A} (count : ℕ) (es : List Encoding)
     (front rest : List Bool)
     → count < 16384 → length (in_order es 0) ≡ 8 * count → in_order es 0 ≡ front ++ rest

@@ -219,8 +219,7 @@ disengage_few disengage.RequestToDropOther = omega arith
 
 -- ---- the messages
 
--- what begins a message: its extension bit and root index, so many bits of its preamble, and its
--- number
+-- what begins a message: its extension bit and root index, the bits of its preamble, and its number
 begun_one : (index seq : ℕ) (a b : Bool) {n : ℕ} {es : List Encoding} → index ≤ 24 → seq ≤ 65535
     → Fits n es
     → Fits (85 + n) (boolean false ∷ whole 0 24 index ∷ boolean a ∷ boolean b ∷

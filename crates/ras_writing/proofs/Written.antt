@@ -124,7 +124,7 @@ alone {A} {g} {x} {e} p = record {
       (e place))) (p.here place small);
 }
 
--- a part behind which nothing is written
+-- a part after which nothing is written
 pub last : {A B : Type 0} {first : Grammar A} (next : A
     → Grammar B) {x : A} {y : B} {xs : List Encoding}
     → AreEncodings first x xs → AreEncodings (next x) y [] → AreEncodings (first >>= next) y xs

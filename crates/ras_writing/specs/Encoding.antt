@@ -24,7 +24,7 @@ boolean bit place = bit ∷ []
 abbrev pub align : Encoding
 align place = canonical.pad place
 
--- a number in so many bits
+-- a number in this many bits
 abbrev pub bits : ℕ → ℕ → Encoding
 bits count n place = binary count n
 
@@ -42,12 +42,12 @@ octets list = canonical.octets_encoding list
 
 -- ---- the bits of a writer
 
--- bits with components behind them
+-- bits with components after them
 abbrev pub behind : List Encoding → List Bool → List Bool
 behind [] bits = bits
 behind (component ∷ others) bits = behind others (bits ++ component (length bits % 8))
 
--- The components stand behind what was there, for which at most so many bits of room were used.
+-- The components stand after what was there, and at most this many bits of room were used for them.
 abbrev pub Writes : ℕ → List Encoding → Written → Written → Type 0
 Writes most components old new = (new.bits ≡ behind components old.bits) ×
     (old.room ≤ new.room + most)

@@ -91,7 +91,7 @@ null_choice last index = boolean false ∷ whole 0 last index ∷ []
 abbrev pub zero_octet : List Encoding
 zero_octet = size 1 ∷ octets (0 ∷ []) ∷ []
 
--- an alternative behind the extension marker that is a NULL, by its index there
+-- an alternative after the extension marker that is a NULL, by its index there
 abbrev pub null_extension : ℕ → List Encoding
 null_extension index = boolean true ∷ small index ∷ zero_octet
 
@@ -138,7 +138,7 @@ abbrev pub has_aliases : List Alias → Bool
 has_aliases [] = false
 has_aliases (first ∷ others) = true
 
--- terminalAlias, where there are aliases
+-- terminalAlias, if there are aliases
 unfoldable pub terminal_alias : List Alias → List Encoding
 terminal_alias [] = []
 terminal_alias (first ∷ others) = alias_list (first ∷ others)
@@ -285,9 +285,8 @@ info_request seq =
     ∷ small 0 ∷ boolean true
     ∷ size 17 ∷ boolean false ∷ octets (replicate 16 0) ∷ []
 
--- RequestInProgress: requestSeqNum, nonStandardData?, tokens?, cryptoTokens?,
--- integrityCheckValue?, delay. It is the first
--- message behind the extension marker, and so an open type, of 5 octets.
+-- RequestInProgress: requestSeqNum, nonStandardData?, tokens?, cryptoTokens?, integrityCheckValue?,
+-- delay. It is the first message after the extension marker, and so an open type, of 5 octets.
 unfoldable pub request_in_progress : ℕ → ℕ → List Encoding
 request_in_progress seq delay =
     boolean true ∷ small 0 ∷ size 5

@@ -129,7 +129,7 @@ registration_reason index =
     else if index equals 4 take alias_reason
     else no_reply
 
--- the reasons behind it
+-- the reasons after it
 abbrev pub later_reason : ℕ → Grammar RegistrationRejectReason
 later_reason index =
     if index equals 1 take is registration.ResourceUnavailable
@@ -253,11 +253,11 @@ disengage_reject = do
   non_standard_data ← skipped has_non_standard_data non_standard_parameter
   is (Drj seq reason)
 
--- CallModel: direct alone
+-- CallModel: only direct
 abbrev pub call_model : ℕ → Grammar (Unit {0})
 call_model index = if index equals 0 take nothing else no_reply
 
--- UUIEsRequested: nine BOOLEANs, of whose open type no more is read
+-- UUIEsRequested: nine BOOLEANs; no more of its open type is read
 unfoldable pub uuies_requested : Grammar (Unit {0})
 uuies_requested = do
   extended ← boolean
@@ -315,9 +315,8 @@ info_request = do
   guid ← addition present 0 call_identifier
   is (Irq seq)
 
--- RequestInProgress: requestSeqNum, nonStandardData?, tokens?, cryptoTokens?,
--- integrityCheckValue?, delay; with tokens or a
--- check value it is none of this gatekeeper
+-- RequestInProgress: requestSeqNum, nonStandardData?, tokens?, cryptoTokens?, integrityCheckValue?,
+-- delay; with tokens or a check value it is no reply of this gatekeeper
 unfoldable pub request_in_progress : Grammar Reply
 request_in_progress = do
   extended ← boolean
@@ -348,7 +347,7 @@ root_reply index =
     else if index equals 21 take info_request
     else no_reply
 
--- the messages behind the extension marker, by their indexes there
+-- the messages after the extension marker, by their indexes there
 abbrev pub later_reply : Grammar Reply
 later_reply = do
   index ← small

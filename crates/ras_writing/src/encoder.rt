@@ -1,5 +1,5 @@
-//! Writing what many replies share (H.225.0). Each function says beside what it writes which
-//! bounds its value keeps, as it learns them from the value's type.
+//! Writing what many replies share (H.225.0). Each function says what it writes, and which bounds
+//! its value keeps. It learns these bounds from the value's type.
 
 ghost use Rattle.std.specs.Prelude.{false, ◌≡◌, ◌≤◌, ◌<◌, ◌+◌, ◌*◌, [], ◌∷◌, length, IsTrue};
 ghost use Rattle.ras_writing.specs.Encoding.{Writes, boolean, whole};
@@ -121,7 +121,7 @@ pub fn zero_octet(writer: &mut BitWriter)
     writer.octets(&[0]);
 }
 
-/// An alternative behind the extension marker that is a NULL, by its index there.
+/// An alternative after the extension marker that is a NULL, by its index there.
 pub fn null_extension(writer: &mut BitWriter, index: u32)
     requires index { index < 64 }
     requires room { 46 ≤ writer.old.room }
@@ -155,7 +155,7 @@ fn digits(writer: &mut BitWriter, text: &[u16])
     }
 }
 
-/// How many characters of at most 256 there are.
+/// How many characters there are, at most 256.
 fn count_of_256(writer: &mut BitWriter, count: u32)
     requires some { 1 ≤ count }
     requires few { count ≤ 256 }

@@ -145,7 +145,7 @@ pub fn gatekeeper_reject(writer: &mut BitWriter, seq: RequestSeqNum, reason: Gat
     null_choice(writer, 3, gatekeeper_reason(reason));
 }
 
-/// How many octets a number has that is written in the fewest.
+/// How many octets a number has if it is written in the fewest.
 fn octets_for(n: u32) -> u32
     ensures value { result ≡ octets_for n }
     ensures within { result ≤ 4 }
@@ -168,7 +168,7 @@ fn registration_confirm_additions(writer: &mut BitWriter, granted: TimeToLive)
     zero_octet(writer);
 }
 
-/// terminalAlias, where there are aliases.
+/// terminalAlias, if there are aliases.
 #[tactic(auto, unfolding(crate::specs::Replies::terminal_alias))]
 fn terminal_alias(writer: &mut BitWriter, aliases: &[Alias])
     requires few { length aliases.now ≤ 32 }
@@ -183,7 +183,7 @@ fn terminal_alias(writer: &mut BitWriter, aliases: &[Alias])
 }
 
 /// The front of a RegistrationConfirm, up to its callSignalAddress: with additions, no
-/// nonStandardData, terminalAlias where there are aliases, with its gatekeeperIdentifier.
+/// nonStandardData, terminalAlias if there are aliases, with its gatekeeperIdentifier.
 #[tactic(auto, using(crate::proofs::Behind::behind_append), unfolding(crate::specs::Replies::registration_confirm_front))]
 fn registration_confirm_front(
     writer: &mut BitWriter,
@@ -449,8 +449,8 @@ fn write_components(writer: &mut BitWriter, reply: &Reply)
     }
 }
 
-/// Writes a reply behind what is there, for which there is room: `reply.room()` more octets. From
-/// what is written the reply is read again.
+/// Writes a reply after what is there. There has to be room for `reply.room()` more octets. The
+/// reply is read again from what is written.
 #[tactic(auto, using(crate::proofs::Rooms::room_enough, crate::proofs::Rooms::few_octets, crate::proofs::RepliesRead::reads_back))]
 pub fn write_reserved(reply: &Reply, octets: &mut Vec<u8>)
     requires { vec_len octets.old + room_of reply.now ≤ vec_capacity octets.old }
@@ -465,8 +465,8 @@ pub fn write_reserved(reply: &Reply, octets: &mut Vec<u8>)
     *octets = writer.finish();
 }
 
-/// Writes a reply behind what is there, in no more than `reply.room()` octets, from which the reply
-/// is read again. It fails only for want of memory, and not where there is room for `reply.room()`
+/// Writes a reply after what is there, in no more than `reply.room()` octets. The reply is read
+/// again from these. It fails only for want of memory, and not if there is room for `reply.room()`
 /// more octets.
 pub fn write_into(reply: &Reply, octets: &mut Vec<u8>) -> Result<(), AllocError>
     ensures ok { OnOk result (octets.new.items ≡ octets.old.items ++ encoding_of reply.now) }

@@ -69,7 +69,7 @@ Agree-remove live held id agree =
           ));
     }
 
--- a registration comes, and its aliases, which nobody holds
+-- a registration comes, with aliases that nobody holds
 pub Agree-insert : (live : Live) (held : Held) (r : Registration) → Agree live held
     → fin.get live r.identifier ≡ None
     → ((alias : Alias) → Contains r.aliases alias → fin.get held alias ≡ None)
@@ -121,7 +121,7 @@ Agree-insert live held r agree absent free = record { holds = holds; held_by = h
         },
       ))
 
--- a registration is rewritten: its aliases go, and the new ones come, which no other endpoint holds
+-- a registration is rewritten: its aliases go, and new ones come that no other endpoint holds
 pub Agree-rewrite : (live : Live) (held : Held) (id : List ℕ) (old new : Registration)
     (f : Registration → Registration)
     → Agree live held → fin.get live id ≡ Some old
@@ -182,8 +182,8 @@ Agree-update live held id f agree same_signal same_aliases = record {
       )));
 }
 
--- ---- conflicts
--- the aliases that the table reports are those of registrations with another call signal address
+-- conflicts: the aliases that the table reports are those of registrations with another call signal
+-- address
 module _ (live : Live) (held : Held) (agree : Agree live held) (address : Address) where
   elsewhere_is : (alias : Alias)
       → is_elsewhere address (fin.get held alias) ≡ is_registered_elsewhere live address alias
@@ -252,8 +252,8 @@ module _ (held : Held) (address : Address) where
   here_or_nowhere alias (Some h) P e f g = g h refl
       ((address_decides h.address address).0 (not-false (same_address h.address address) e))
 
--- where none of the aliases of a request is held elsewhere, nobody holds one, if nobody has its
--- address
+-- if none of the aliases of a request is held elsewhere, and nobody has its address, then nobody
+-- holds one of them
 pub free_for_new : (live : Live) (held : Held) (address : Address) (aliases : List Alias)
     → Agree live held → at_address live address ≡ None → conflicts held address aliases ≡ []
     → (alias : Alias) → Contains aliases alias → fin.get held alias ≡ None
@@ -263,7 +263,7 @@ free_for_new live held address aliases agree nobody none alias has =
     (λ h there is. (let by = agree.held_by alias h there in
     absurd (none_at live address nobody h.holder by.0 by.1.live_is (sym by.1.address_is ∙ is))))
 
--- and else nobody but who has the address
+-- and if an endpoint has the address, nobody else holds one of them
 pub free_for_old : (live : Live) (held : Held) (address : Address)
     (aliases : List Alias) (old : Registration)
     → Agree live held → IsConsistent live

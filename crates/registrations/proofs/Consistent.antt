@@ -1,5 +1,5 @@
--- Who is found by a call signal address, and what a change of one registration
--- leaves of the others.
+-- Which endpoint is found by a call signal address, and what a change of one registration leaves of
+-- the others.
 use Rattle.std.proofs.Common.{◌≡◌, ◌≢◌, ℕ, cond, List, refl, sym, ◌∙◌, ap, inl, inr, ◌⊎◌, Some}
 use Rattle.std.proofs.Common.{None}
 use Rattle.std.specs.Prelude.{Option}
@@ -17,7 +17,7 @@ use Rattle.ras_module.specs.Same.{address_decides}
 use Rattle.registrations.specs.declared.registration.Registration.{Registration}
 use Rattle.registrations.specs.Registry.{Live, at_address, IsConsistent}
 
--- who is found by an address is live, and has it
+-- the endpoint that is found by an address is registered, and has that address
 pub record IsAt (live : Live) (address : Address) (r : Registration) : Type 0 where
   pub live_is : fin.get live r.identifier ≡ Some r
   pub address_is : r.call_signal ≡ address
@@ -39,7 +39,7 @@ none_at live address none id r there is =
     ∙ ap (λ b. cond b (Some r) None) (find_fails nat_list_cmp_total exact_bytes
     (λ s. same_address s.call_signal address) live none id r there))
 
--- whose it was before one registration was changed
+-- what a registration was before one of them was changed
 pub record WasThere (live : Live) (id : List ℕ) (f : Registration → Registration) (i : List ℕ)
     (s r : Registration) : Type 0 where
   pub there : fin.get live i ≡ Some r

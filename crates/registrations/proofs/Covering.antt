@@ -1,4 +1,4 @@
--- Of more numbers than there are texts, one is not among them.
+-- If there are more numbers than texts, one of the numbers is not among the texts.
 use Rattle.std.proofs.Common.{◌≡◌, ◌≢◌, ℕ, zero, suc, ◌+◌, ◌<◌, ◌≤◌, ◌==◌, Bool, true, false, not}
 use Rattle.std.proofs.Common.{◌||◌, List, [], ◌∷◌, ◌++◌, length, map, nat_eq, refl, ◌∙◌, ap, subst}
 use Rattle.std.proofs.Common.{arith, sym}
@@ -38,7 +38,7 @@ has-without : (n k : ℕ) (ns : List ℕ) → k ≢ n → has_number ns k ≡ tr
 has-without n k [] differ has = has
 has-without n k (m ∷ ns) differ has = grind (arith, nat_tests, has-without n k ns)
 
--- a list that has n numbers, each another, has n members
+-- a list that has n different numbers has at least n members
 covers : (f : ℕ → ℕ) (n : ℕ) (ns : List ℕ)
     → ((i j : ℕ) → i < n → j < n → f i ≡ f j → i ≡ j)
     → ((k : ℕ) → k < n → has_number ns (f k) ≡ true) → n ≤ length ns
@@ -71,7 +71,7 @@ has_its_number (i ∷ ids) id has =
     (ap number_of ((texts_decide i id).0 same)))
     (has_its_number ids id) has
 
--- all identifiers that are not to be handed out
+-- all identifiers that may not be handed out
 abbrev pub used : List Registration → List (List ℕ) → List (List ℕ)
 used rows taken = map identifier_of rows ++ taken
 
@@ -93,7 +93,7 @@ number_used rows taken id n is has =
     subst (λ (m : ℕ). has_number (map number_of (used rows taken)) m ≡ true) is
     (has_its_number (used rows taken) id (used_any rows taken id ∙ has))
 
--- the k-th number that is tried, where the search begins here: 1 follows on the last of 64 bits
+-- the k-th number that is tried, if the search begins here: after the last of 64 bits comes 1
 abbrev pub number_at : ℕ → ℕ → ℕ
 number_at start k =
     if nat_lt (start + k) 18446744073709551616 then start + k
@@ -107,7 +107,7 @@ tried_apart : (start i j : ℕ) → i < 18446744073709551615 → j < 18446744073
     → number_at start i ≡ number_at start j → i ≡ j
 tried_apart start i j p q e = grind (arith, nat_tests)
 
--- of one number more than there are texts, not all can be used
+-- if there is one number more than there are texts, not all of them are used
 pub not_all : (rows : List Registration) (taken : List (List ℕ)) (start : ℕ)
     → length rows + length taken + 1 < 18446744073709551615
     → ((k : ℕ) → k < length rows + length taken + 1

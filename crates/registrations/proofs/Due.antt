@@ -39,7 +39,7 @@ module _ (rows next : List Registration) (moments later : Moments) (due : AreDue
       (subst (λ (m : Moments). Changed (fin.get moments) (fin.get m) i (Some r.deadline)) (sym is)
       (Changed-insert nat_cmp_total nat_cmp-IsAntisymmetric moments i r.deadline))
 
-  -- a row is changed but for its deadline
+  -- a row is changed, and keeps its deadline
   pub AreDue-kept : (i : ℕ) (old r : Registration) → slice_get rows i ≡ Some old
       → r.deadline ≡ old.deadline → Changed (row_in rows) (row_in next) i (Some r)
       → later ≡ moments → AreDue next later
@@ -50,7 +50,7 @@ module _ (rows next : List Registration) (moments later : Moments) (due : AreDue
         others = λ j differ. refl;
       }))
 
-  -- a row more
+  -- one more row
   pub AreDue-put : (r : Registration) (i : ℕ) → i ≡ length rows → next ≡ rows ++ r ∷ []
       → later ≡ fin.insert moments i r.deadline → AreDue next later
   AreDue-put r i end more is = AreDue-set i r
@@ -58,7 +58,7 @@ module _ (rows next : List Registration) (moments later : Moments) (due : AreDue
       (subst (λ (k : ℕ). Changed (row_in rows) (row_in (rows ++ r ∷ [])) k (Some r)) (sym end)
       (Changed-push rows r))) is
 
-  -- a row less
+  -- one row less
   pub AreDue-remove : (i last : ℕ) → IsSwapped rows next i last
       → later ≡ renamed (fin.remove moments i) last i → AreDue next later
   AreDue-remove i last s is = subst (λ (m : Moments). AreDue next m) (sym is) at where

@@ -51,7 +51,7 @@ module _ {A X : Type 0} (part : X → A) (at : ℕ → Option X) (index : A → 
   pub indexed_row : (a : A) (i : ℕ) → index a ≡ Some i → (r : X) × (at i ≡ Some r) × (part r ≡ a)
   indexed_row a i e = found_row (at i) a (ix.leads a i e)
 
-  -- a part that the index doesn't have is no row's
+  -- no row has a part that the index doesn't have
   pub no_row : (a : A) → index a ≡ None → (i : ℕ) (r : X) → at i ≡ Some r → part r ≢ a
   no_row a none i r there is = some_none (sym (ix.listed i r there) ∙ (ap index is ∙ none))
 
@@ -140,7 +140,7 @@ module _ {K X : Type 0} {R : K → K → Ordering} (key : X → K) (at : ℕ →
         (let row = indexed_row key at index ix k i is in
         some_none (sym row.1 ∙ (sym (get_indexed k i is) ∙ e)))
 
--- a search of the map by another part that the rows don't share is a look-up in its index
+-- a search of the map by another part, which no two rows share, is a look-up in its index
 module _ {K A X : Type 0} {R : K → K → Ordering} (o : IsTotalOrder R) (same : IsAntisymmetric R)
     (key : X → K) (part : X → A) {eq : A → A → Bool}
     (decides : (a b : A) → Decides (eq a b) (a ≡ b)) (at : ℕ → Option X) (index : A → Option ℕ)

@@ -30,7 +30,7 @@ module _ (rows : Slab Registration) where
       ap (λ w. length (cons_option w (order_of rows entries))) (h zero e refl).1
       ∙ ap suc (length_order entries (rest_leads e entries h))
 
-  -- a place of the list has the row to which the entry leads
+  -- the list has at each place the row to which the entry there leads
   pub order_at : (entries : List Entry) → EachLeads rows entries → (j : ℕ) (e : Entry)
       → slice_get entries j ≡ Some e → slice_get (order_of rows entries) j ≡ get rows (place_of e)
   order_at [] h j e there = some_none (sym there)
@@ -66,7 +66,7 @@ module _ (rows : Slab Registration) where
       (sym (ap (λ w. slice_get (cons_option w (order_of rows entries)) (suc j)) (h zero d refl).1)
       ∙ there)
 
-  -- a row at an empty place, with an entry behind all others
+  -- a row at an empty place, with an entry after all others
   pub order_put : (next : Slab Registration) (entries : List Entry) (id : List ℕ) (i : ℕ)
       (r : Registration) → EachLeads rows entries → get rows i ≡ None
       → Updates rows next i (Some r)
@@ -107,7 +107,7 @@ module _ (rows next : Slab Registration) (entries : List Entry) (h : EachLeads r
         ∙ (c.others (place_of d) (λ p. differ (one_entry j i d e is there p))
         ∙ sym (order_at rows entries h j d is))
 
--- a row is taken out: where the entries are those of before, so are the rows
+-- a row is taken out: where the entries stay the same, the rows do
 module _ (rows next : Slab Registration) (entries left : List Entry) (h : EachLeads rows entries)
     (k : EachLeads next left) (place : ℕ) (u : Updates rows next place None) where
   same_row : (i j : ℕ) → slice_get left i ≡ slice_get entries j

@@ -1,5 +1,5 @@
--- Registrations in a list, of which no two share an identifier or a call signal address, and the
--- finite map that they make.
+-- Registrations in a list, and the finite map that they make. No two of them share an identifier or
+-- a call signal address.
 use Rattle.std.proofs.Common.{◌≡◌, ◌<◌, ◌≤◌, ◌+◌, ℕ, Bool, true, false, List, [], ◌∷◌, ◌++◌}
 use Rattle.std.proofs.Common.{length, nat_eq, refl, sym, ◌∙◌, ap, cond, zero, suc, ◌||◌, Some, None}
 use Rattle.std.proofs.Common.{arith, take}
@@ -28,7 +28,7 @@ pub record AreRows (rows : List Registration) : Type 0 where
   pub ids : AreApart identifier_of (row_in rows)
   pub addresses : AreApart call_signal_of (row_in rows)
 
--- the first row of an identifier is what the map has
+-- the first row with an identifier is what the map has under it
 pub get_row : (rows : List Registration) (id : List ℕ)
     → find_first (λ r. pointwise nat_eq r.identifier id) rows ≡ fin.get (live_of rows) id
 get_row rows id =
@@ -77,7 +77,7 @@ module _ (rows : List Registration) (are : AreRows rows) where
         sym a.2 ∙ (ap identifier_of same ∙ b.2));
   }
 
--- the rows in front of one
+-- the rows before one
 taken : {X : Type 0} (rows : List X) (n j : ℕ) (r : X) → slice_get (take n rows) j ≡ Some r
     → (j < n) × (slice_get rows j ≡ Some r)
 taken [] zero j r e = some_none (sym e)
@@ -105,7 +105,7 @@ module _ (rows : List Registration) (are : AreRows rows) (n : ℕ) where
   len_taken = omega (arith, len_live (take n rows) AreRows-taken, length-take n rows)
 
   module _ (r : Registration) (there : slice_get rows n ≡ Some r) where
-    -- have neither its identifier nor its call signal address
+    -- no row before this one has its identifier or its call signal address
     pub none_before : fin.get (live_of (take n rows)) r.identifier ≡ None
     none_before = cases (fin.get (live_of (take n rows)) r.identifier) refl where
       cases : (w : Option Registration)
@@ -127,7 +127,7 @@ module _ (rows : List Registration) (are : AreRows rows) (n : ℕ) where
         (λ e. (let place : row.0 ≡ n = are.addresses.apart row.0 n s r at.1 there e in
         omega (arith, place, at.0)))))
 
--- the rows in front of the next one, and that one
+-- the rows before the next one, and that one
 pub next_taken : {X : Type 0} (rows : List X) (n : ℕ) (r : X) → slice_get rows n ≡ Some r
     → take n rows ++ r ∷ [] ≡ take (n + 1) rows
 next_taken rows n r there =
@@ -141,7 +141,7 @@ pub next_copied : {X : Type 0} (rows before after : List X) (n : ℕ) (r : X)
 next_copied rows before after n r there are more =
     more ∙ (ap (λ front. front ++ r ∷ []) are ∙ next_taken rows n r there)
 
--- a table has as many registrations as are numbered
+-- the number of registrations is the number of those that are numbered
 pub len_numbered : (t : Registry) → IsNumbered t → fin.len t.live ≡ length t.order
 len_numbered t numbered = ap fin.len (sym numbered.all)
     ∙ len_rows nat_list_cmp_total exact_bytes identifier_of (λ r. r) t.order numbered.once

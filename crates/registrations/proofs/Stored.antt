@@ -84,7 +84,7 @@ module _ {S : Type 0} (rows : Slab Registration) (by_identifier : HashMap (List 
         → (r : Registration) × (get rows i ≡ Some r) × (r.identifier ≡ id)
     row_at id i is = indexes.indexed_row identifier_of (get rows) named s.identifiers id i is
 
-    -- the entry of an identifier, where a look-up found it
+    -- the entry of an identifier, if a look-up found it
     pub entry_at : (id : List ℕ) (place j : ℕ) → named id ≡ Some place
         → IsSomeAnd (slice_get by_identifier.entries j) (λ e. e.1 ≡ place)
         → slice_get by_identifier.entries j ≡ Some (id, place)
@@ -321,7 +321,7 @@ module _ {S : Type 0} (rows : Slab Registration) (by_identifier : HashMap (List 
           (apart_ids rows by_identifier by_address most s) there
           (indexes.Changed-slab rows next i None u))
 
--- a row that is rewritten is one of as many
+-- if a row is rewritten, the number of rows stays
 count_set : {X : Type 0} (slots : List (Option X)) (i : ℕ) (v : X)
     → IsSome (slice_index_or slots i None)
     → count_by is_some (set slots i (Some v)) ≡ count_by is_some slots
@@ -442,7 +442,7 @@ module _ {S : Type 0} (rows : Slab Registration) (by_identifier : HashMap (List 
   not_found_by address is = sym (address_none rows by_identifier by_address most s address is)
       ∙ ap (λ u. at_address u.live address) view
 
-  -- who is live has an entry in the index
+  -- each endpoint that is registered has an entry in the index
   pub is_named : (id : List ℕ) → IsSome (fin.get t.live id)
       → IsSome (hash.get (pointwise nat_eq) by_identifier id)
   is_named id is = cases (hash.get (pointwise nat_eq) by_identifier id) refl where
@@ -482,7 +482,7 @@ module _ {S : Type 0} (rows : Slab Registration) (by_identifier : HashMap (List 
             next;
       }
 
-  -- nobody goes
+  -- if nobody has the identifier, nobody goes
   pub Becomes-same : (id : List ℕ) → hash.get (pointwise nat_eq) by_identifier id ≡ None
       → Becomes t t (fin.remove t.live id)
   Becomes-same id is = record {
@@ -516,7 +516,7 @@ module _ {S : Type 0} (rows : Slab Registration) (by_identifier : HashMap (List 
       (ap (λ u. fin.get u.live id) view ∙ there) in
       (row.0, due row.0 ∙ ap (option_map deadline_of) row.1)
 
--- what is so of a value that there is
+-- a value of which something holds is there
 pub is_there : (w : Option Registration) (Q : Registration → Type 0) → IsSomeAnd w Q → IsSome w
 is_there None Q h = absurd h
 is_there (Some r) Q h = refl

@@ -1,4 +1,4 @@
--- One of a list is taken out, and the last takes its place.
+-- One member of a list is taken out, and the last takes its place.
 use Rattle.std.proofs.Common.{◌≡◌, ◌≢◌, ◌⊎◌, ◌<◌, ◌≤◌, ◌-◌, ℕ, zero, suc, List, [], ◌∷◌, length}
 use Rattle.std.proofs.Common.{take}
 use Rattle.std.proofs.Common.{refl, sym, ◌∙◌, Some, None, inl, inr, arith, get_or, swap_remove}
@@ -8,7 +8,7 @@ use Rattle.std.proofs.lemmas.List.{length-take}
 use Rattle.std.proofs.lemmas.Option.{slice_get-get_or, slice_get_past, slice_get_cases}
 use Rattle.keyed.proofs.Rows.{Changed-set}
 
--- what stood last stands in the gap, nothing stands where the last was, and all else is as it was
+-- the last member stands in the gap, nothing stands where it was, and all else is as before
 pub record IsSwapped {X : Type 0} (old new : List X) (gap last : ℕ) : Type 0 where
   pub here : gap ≢ last → slice_get new gap ≡ slice_get old last
   pub end : slice_get new last ≡ None

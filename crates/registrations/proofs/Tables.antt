@@ -1,4 +1,4 @@
--- What is so of a table that is empty, and of one once a registration is changed or taken out.
+-- What holds of a table that is empty, and of one after a registration was changed or taken out.
 use Rattle.std.proofs.Common.{◌≡◌, ℕ, ◌<◌, ◌≤◌, ◌+◌, ◌-◌, List, [], length, nat_eq, refl, sym, ap}
 use Rattle.std.proofs.Common.{◌∙◌}
 use Rattle.std.proofs.Common.{subst, Some, arith, swap_remove}
@@ -134,7 +134,7 @@ module _ {S : Type 0} (rows : Slab Registration) (by_identifier : HashMap (List 
           reach = omega (arith, t.reach, fewer, room);
         }
 
--- what follows where a call succeeded
+-- what follows if a call succeeded
 pub on_ok : {A E : Type 0} (result : Result A E) (P Q : Type 0) → OnOk result P → (P → Q)
     → OnOk result Q
 on_ok (Ok a) P Q h f = f h

@@ -13,7 +13,7 @@ use Rattle.registrations.specs.declared.registration.Registration.{Registration}
 use Rattle.registrations.specs.Registry.{Live, IsUnused}
 use Rattle.registrations.proofs.Covering.{has_id}
 
--- no registration has the identifier: it may be handed out if and only if it isn't taken
+-- if no registration has the identifier, it may be handed out if and only if it isn't taken
 pub unused_if : (live : Live) (taken : List (List ℕ)) (id : List ℕ) (b : Bool)
     → fin.get live id ≡ None → b ≡ has_id taken id → IsText 128 id
     → IsTrue (not b) ↔ IsUnused live taken id

@@ -16,8 +16,8 @@ pub record IsHolder (live : Live) (alias : Alias) (h : Holding) (r : Registratio
   pub has : Contains r.aliases alias
   pub address_is : h.address ≡ r.call_signal
 
--- each alias of a registration is held by it, at its call signal address, and each alias that is
--- held is one of its holder's
+-- each alias of a registration is held by its endpoint, at its call signal address; and each alias
+-- that is held is one of its holder's
 pub record Agree (live : Live) (held : Held) : Type 0 where
   pub holds : (id : List ℕ) (r : Registration) (alias : Alias)
       → get live id ≡ Some r → Contains r.aliases alias
@@ -31,6 +31,7 @@ is_registered_elsewhere live address alias =
     list_any (λ r. has_alias r.aliases alias && not (same_address r.call_signal address))
     (values live)
 
--- those of the aliases, as they stand in the list
+-- those of these aliases that a registration with another call signal address has, in the order of
+-- the list
 abbrev pub registered_elsewhere : Live → Address → List Alias → List Alias
 registered_elsewhere live address aliases = filter (is_registered_elsewhere live address) aliases

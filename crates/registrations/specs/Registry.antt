@@ -15,8 +15,8 @@ use Rattle.registrations.specs.declared.registration.Registration.{Registration}
 abbrev pub Live : Type 0
 Live = FinMap (slice_cmp nat_cmp) Registration
 
--- with the most that there may be, how many more can be added so that no memory is taken for them,
--- and the order in which they are numbered
+-- the registrations, the most that there may be, how many more can be added so that no memory is
+-- taken for them, and the order in which the registrations are numbered
 pub record Registry : Type 0 where
   pub live : Live
   pub most : ℕ
@@ -55,7 +55,7 @@ pub record IsUnused (live : Live) (taken : List (List ℕ)) (id : List ℕ) : Ty
   pub not_taken : Contains taken id → ⊥
   pub text : IsText 128 id
 
--- the table has what it had, in the order that it was in, and no less room
+-- the table has the same registrations, in the same order, and no less room
 pub record Stays (old new : Registry) : Type 0 where
   pub rows : new.live ≡ old.live
   pub most : new.most ≡ old.most
@@ -66,7 +66,7 @@ pub record Stays (old new : Registry) : Type 0 where
 abbrev pub with_identifier : List ℕ → Registration → Registration
 with_identifier id r = record r { identifier = id }
 
--- its time to live is granted anew
+-- it has a new time to live
 abbrev pub with_deadline : ℕ → Registration → Registration
 with_deadline deadline r = record r { deadline = deadline }
 
@@ -83,7 +83,7 @@ after_hear now r = record r { heard = now; tries = 0 }
 abbrev pub after_ask : ℕ → Registration → Registration
 after_ask now r = record r { asked = now; tries = r.tries + 1 }
 
--- its tries are counted anew
+-- its tries are counted from 0 again
 abbrev pub after_calm : Registration → Registration
 after_calm r = record r { tries = 0 }
 
@@ -98,21 +98,21 @@ pub record IsSound (t : Registry) : Type 0 where
   pub consistent : IsConsistent t.live
   pub few : len t.live ≤ t.most
 
--- what a change of one registration makes of the table, for which no memory is asked
+-- after a change of one registration, for which no memory is asked, the table has these
 pub record Updates (old new : Registry) (live : Live) : Type 0 where
   pub rows : new.live ≡ live
   pub most : new.most ≡ old.most
   pub room : new.room ≡ old.room
   pub sound : IsSound new
 
--- what a change that takes no memory and no room makes of the table
+-- after a change that takes no memory and no room, the table has these
 pub record Becomes (old new : Registry) (live : Live) : Type 0 where
   pub rows : new.live ≡ live
   pub most : new.most ≡ old.most
   pub room : old.room ≤ new.room
   pub sound : IsSound new
 
--- what one more registration makes of the table
+-- after one more registration was added, the table has these
 pub record Adds (old new : Registry) (live : Live) : Type 0 where
   pub rows : new.live ≡ live
   pub most : new.most ≡ old.most

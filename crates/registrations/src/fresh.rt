@@ -11,8 +11,8 @@ use crate::number::{after, numbered};
 use crate::table::Registrations;
 use ras_module::EndpointId;
 
-/// An identifier that no registration has, and that is not taken: the first of the numbers from
-/// this one on that is so.
+/// An identifier that no registration has, and that is not taken: the first such number, counted
+/// from this one.
 pub(crate) fn unused_from(table: &Registrations, taken: &[EndpointId], start: u64) -> EndpointId
     requires few { map.len table.now.live ≤ 20000 }
     ensures { IsUnused table.now.live taken.now result }

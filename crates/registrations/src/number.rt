@@ -18,7 +18,7 @@ pub(crate) fn numbered(number: u64) -> EndpointId
     EndpointId::new(characters)
 }
 
-/// Twenty digits, as many as a `u64` has at most.
+/// Twenty digits: a `u64` has no more.
 fn digits_of(number: u64) -> [u16; 20]
     ensures { number_of result ≡ number }
 {
@@ -31,7 +31,7 @@ fn digits_of(number: u64) -> [u16; 20]
     digits
 }
 
-/// Where the text of at least four digits begins.
+/// Where the text begins in these digits. It has at least four of them.
 fn first_of(digits: &[u16; 20]) -> usize
     ensures start { result ≤ 16 }
     ensures same { number_of (drop result digits.now) ≡ number_of digits.now }
@@ -43,8 +43,8 @@ fn first_of(digits: &[u16; 20]) -> usize
     start
 }
 
-/// The number that a text of decimal digits says: None of another text, and of a number that is
-/// too great.
+/// The number that a text of decimal digits stands for. None for any other text, and for a number
+/// that is too large.
 fn number_in(identifier: &EndpointId) -> Option<u64> {
     let mut number = 0u64;
     for character in identifier.as_slice() {
@@ -57,7 +57,7 @@ fn number_in(identifier: &EndpointId) -> Option<u64> {
     Some(number)
 }
 
-/// The number behind this one: 1 behind the last.
+/// The next number. After the last one it is 1.
 pub(crate) fn after(number: u64) -> u64
     ensures { result ≡ next_number number }
 {

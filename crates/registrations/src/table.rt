@@ -27,23 +27,23 @@ use slab::Slab;
 use std::alloc::{AllocError, Global};
 use std::marker::Model;
 
-/// The registrations of a zone, of which no two share an identifier or a call signal address.
+/// The registrations of a zone. No two of them share an identifier or a call signal address.
 /// Contracts see a finite map.
 pub struct Registrations {
     rows: Slab<Registration>,
-    // where the row under each identifier stands, and where the one with each call signal address
+    // where the row with each identifier stands, and the row with each call signal address
     by_identifier: IndexMap<EndpointId, usize>,
     by_address: IndexMap<Address, usize>,
     // the deadline of each row, by where its identifier stands in the index
     deadlines: Deadlines,
     most: usize,
-    // where the search for an unused identifier begins, so that it need not pass those in use:
-    // behind each number that was, and at 1 again behind the last one of all
+    // where the search for an unused identifier begins, so that it needn't pass those in use: after
+    // each number that was in use, and at 1 again after the last number of all
     next_number: u64,
 }
 
-// By hand, so that it is one call where such a table is dropped: a derived one is written out at each
-// exit of each function that owns a table, field by field down to the buffers.
+// By hand, so that it is one call where such a table is dropped: a derived one is written out at
+// each exit of each function that owns a table, field by field down to the buffers.
 impl Drop for Registrations {
     fn drop(self) {
         let Registrations {
@@ -73,7 +73,7 @@ impl Model for Registrations {
 }
 
 impl Registrations {
-    /// No registration, where so many may be. This takes no memory.
+    /// A table with no registration, for at most this many. This takes no memory.
     pub fn new(alloc: Global, most: usize) -> Self
         requires { most ≤ 20000 }
         ensures live { result.live ≡ map.empty }
@@ -105,7 +105,7 @@ impl Registrations {
         Ok(copy)
     }
 
-    /// No registration, with room for some.
+    /// A table with no registration, and with room for some.
     fn with_room(alloc: Global, most: usize, room: usize) -> Result<Self, AllocError>
         requires { most ≤ 20000 }
         ensures most { IfOk result (λ t. t.most ≡ most) }
@@ -182,8 +182,8 @@ impl Registrations {
         self.rows.get(*place)
     }
 
-    /// A registration whose time to live is over: its deadline is not after `now`. None where there
-    /// is none.
+    /// A registration whose time to live is over: its deadline is not after `now`. None if there is
+    /// none.
     pub fn over(&self, now: u64) -> Option<&Registration>
         ensures over { IfSome result (λ r. r.now.deadline ≤ now) }
         ensures live { IfSome result (λ r. map.get self.now.live r.now.identifier ≡ Some r.now) }
@@ -197,8 +197,8 @@ impl Registrations {
         self.nth(i)
     }
 
-    /// One registration for each `i` below `len`, and each of them once while the table stands as
-    /// it is.
+    /// The registration with this number. The numbers below `len` have one each, and each
+    /// registration has one number, as long as the table isn't changed.
     pub fn nth(&self, i: usize) -> Option<&Registration>
         ensures nth { option_copied result ≡ slice_get self.now.order i }
         ensures some { IsSome result ↔ (i < map.len self.now.live) }
@@ -229,7 +229,7 @@ impl Registrations {
         Ok(copies)
     }
 
-    /// Whether the identifier may be handed out, where these are taken.
+    /// Whether the identifier may be handed out, if these are taken.
     pub fn is_unused(&self, id: &EndpointId, taken: &[EndpointId]) -> bool
         ensures { IsTrue result ↔ IsUnused self.now.live taken.now id.now }
     {
@@ -243,7 +243,7 @@ impl Registrations {
         unused_from(self, taken, self.next_number)
     }
 
-    /// Makes room for so many more.
+    /// Makes room for this many more.
     pub fn reserve(&mut self, more: usize) -> Result<(), AllocError>
         ensures stays { Stays self.old self.new }
         ensures ok { OnOk result (more ≤ self.new.room) }
@@ -252,15 +252,15 @@ impl Registrations {
         self.rows.reserve(more)?;
         self.by_identifier.reserve(more)?;
         self.by_address.reserve(more)?;
-        // the capacity is what says that the sum fits
+        // that there is a capacity shows that the sum fits
         let _capacity = self.by_identifier.capacity();
         let places = self.by_identifier.len() + more;
         self.deadlines.reserve(places)
     }
 
     /// Registers an endpoint under an unused identifier, which is written into the registration.
-    /// Nothing is added where the table is full, and for want of memory, which is never where there
-    /// is room.
+    /// Nothing is added if the table is full, or for want of memory. It never fails for want of
+    /// memory if there is room.
     pub fn add(
         &mut self,
         registration: Registration,
@@ -304,7 +304,7 @@ impl Registrations {
         Ok(())
     }
 
-    /// Enters a registration behind all others, where there is room. This takes no memory.
+    /// Enters a registration after all others. There has to be room. This takes no memory.
     fn put(&mut self, registration: Registration)
         requires few { map.len self.old.live < self.old.most }
         requires room { 0 < self.old.room }
@@ -333,14 +333,14 @@ impl Registrations {
         let registration = self.rows.remove(place);
         self.by_address.swap_remove(&registration.call_signal);
         self.by_identifier.swap_remove_index(i);
-        // the last one took its place there
+        // the last one took the place of the one that is gone
         let last = self.by_identifier.len();
         self.deadlines.clear(i);
         self.deadlines.rename(last, i);
         Some(registration)
     }
 
-    /// Grants a time to live anew.
+    /// Grants a new time to live.
     pub fn renew(&mut self, id: &EndpointId, deadline: u64)
         requires { IsSome (map.get self.old.live id.now) }
         ensures { Updates self.old self.new (update self.old.live id.now (with_deadline deadline)) }
@@ -350,7 +350,7 @@ impl Registrations {
         self.deadlines.set(i, deadline);
     }
 
-    /// Replaces what an endpoint registered, but for its call signal address.
+    /// Replaces what an endpoint registered, except its call signal address.
     pub fn rewrite(&mut self, id: &EndpointId, ras: Address, aliases: ReplyAliases, deadline: u64)
         requires { IsSome (map.get self.old.live id.now) }
         ensures { Updates self.old self.new
@@ -375,7 +375,7 @@ impl Registrations {
         row.tries = 0;
     }
 
-    /// Notes that an endpoint was asked for a sign of life, as it may be 16 times on end.
+    /// Notes that an endpoint was asked for a sign of life. It may be asked 16 times in a row.
     pub fn asked(&mut self, id: &EndpointId, now: u64)
         requires { IsSomeAnd (map.get self.old.live id.now) (λ r. r.tries < 16) }
         ensures { Updates self.old self.new (update self.old.live id.now (after_ask now)) }
@@ -386,7 +386,7 @@ impl Registrations {
         row.tries += 1;
     }
 
-    /// Counts the tries of an endpoint anew.
+    /// Counts the tries of an endpoint from 0 again.
     pub fn calm(&mut self, id: &EndpointId)
         requires { IsSome (map.get self.old.live id.now) }
         ensures { Updates self.old self.new (update self.old.live id.now after_calm) }
@@ -407,7 +407,7 @@ fn entry_of(by_identifier: &IndexMap<EndpointId, usize>, id: &EndpointId) -> Opt
     Some((i, *place))
 }
 
-/// The same where there is one.
+/// The same for an identifier that has an entry.
 fn live_entry(by_identifier: &IndexMap<EndpointId, usize>, id: &EndpointId) -> (usize, usize)
     requires { IsSome (index.get (pointwise nat_eq) by_identifier.now id.now) }
     ensures place { index.get (pointwise nat_eq) by_identifier.now id.now ≡ Some result.1 }
@@ -417,7 +417,7 @@ fn live_entry(by_identifier: &IndexMap<EndpointId, usize>, id: &EndpointId) -> (
     entry_of(by_identifier, id).unwrap()
 }
 
-/// Where the registration under this identifier stands, where there is one.
+/// Where the registration under this identifier stands. There has to be one.
 fn live_place(by_identifier: &IndexMap<EndpointId, usize>, id: &EndpointId) -> usize
     requires { IsSome (index.get (pointwise nat_eq) by_identifier.now id.now) }
     ensures { index.get (pointwise nat_eq) by_identifier.now id.now ≡ Some result }

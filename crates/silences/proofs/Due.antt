@@ -57,7 +57,7 @@ module _ (entries next : List Entry) (m n : Moments) (due : AreDue entries m) wh
       (λ differ. d.others i differ not_last
       ∙ (due i ∙ ap (option_and_then end_of) (sym (c.others i differ not_last)))))
 
--- an entry that isn't watched is put behind the others
+-- an entry that isn't watched is put after the others
 pub AreDue-pushed : (entries : List Entry) (m : Moments) (id : List ℕ) → AreDue entries m
     → AreDue (entries ++ (id, None) ∷ []) m
 AreDue-pushed entries m id due =
@@ -70,7 +70,7 @@ AreDue-pushed entries m id due =
       others = λ j differ. refl;
     })
 
--- the place at which a search by key stops
+-- the place that a search by key finds
 module _ {K V : Type 0} (test : K → Bool) where
   found_from : (es : List (K × V)) (k i : ℕ) → position_from test k (keys_of es) ≡ Some i
       → (j : ℕ) × (i ≡ k + j) × (e : K × V) × (slice_get es j ≡ Some e) × (test e.0 ≡ true)

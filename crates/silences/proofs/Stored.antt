@@ -34,18 +34,18 @@ use Rattle.silences.proofs.Moved.{Moved, Moved-rows, Moved-moments}
 abbrev Rows : Type 0 → Type 0
 Rows S = IndexMap (List ℕ) (Option ℕ) S
 
--- where a search by key found none, there is none
+-- if a search by key found none, there is none
 pub there_is_none : {A : Type 0} (w : Option A) → false ≡ is_some w → w ≡ None
 there_is_none None h = refl
 there_is_none (Some a) h = absurd (cc h)
 
--- the map answers as the table does
+-- a look-up in the map returns what one in the table returns
 pub get_end : {S : Type 0} (rows : Rows S) (id : List ℕ)
     → hash.get (pointwise nat_eq) rows id ≡ fin.get (ends_of rows.entries) id
 get_end rows id =
     sym (entries.get_entries texts_decide nat_list_cmp_total exact_bytes rows.entries id)
 
--- and changes with it
+-- and the map changes with the table
 module _ {S : Type 0} (old new : Rows S) (id : List ℕ) where
   pub ends_insert : (end : Option ℕ) → hash.Updates (pointwise nat_eq) old new id (Some end)
       → ends_of new.entries ≡ fin.insert (ends_of old.entries) id end
@@ -177,7 +177,7 @@ module _ {S : Type 0} (rows : Rows S) (order : DeadlineTable) (t : IsTable rows 
             (id, entry_at.0) (id, end) t.apart entry_at.1 refl
             (Changed-written end rows.entries place (id, entry_at.0) entry_at.1)
 
-    -- an endpoint is taken out, and the last comes in its place
+    -- an endpoint is taken out, and the last one takes its place
     pub IsTable-removed : (new : Rows S) (last : ℕ) (next : DeadlineTable)
         → new.entries ≡ swap_remove_entry (pointwise nat_eq id) rows.entries
         → hash.IsUnique (pointwise nat_eq) new → length new.entries + 1 ≡ length rows.entries

@@ -8,7 +8,7 @@ use Rattle.std.specs.FinMap.{FinMap, get}
 abbrev pub Ends : Type 0
 Ends = FinMap (slice_cmp nat_cmp) (Option ℕ)
 
--- with how many more endpoints there is room, so that no memory is taken for them
+-- the ends, and for how many more endpoints there is room, so that no memory is taken for them
 pub record SilenceTable : Type 0 where
   pub ends : Ends
   pub room : ℕ

@@ -11,18 +11,18 @@ use ras_module::EndpointId;
 use std::alloc::{AllocError, Global};
 use std::marker::Model;
 
-/// When the silence of each registered endpoint ends, if it is watched: an endpoint in a call that
-/// is silent until then is asked for a sign of life (H.225.0, InfoRequest). Moments are in
-/// milliseconds. Contracts see a finite map, and with how many more endpoints there is room. A
-/// change takes about as many steps as the number of moments has binary digits.
+/// For each registered endpoint the moment at which its silence ends, if it is watched: an endpoint
+/// in a call that is silent until then is asked for a sign of life (H.225.0, InfoRequest). Moments
+/// are in milliseconds. Contracts see a finite map, and for how many more endpoints there is room.
+/// For n moments, a change takes about log2(n) steps.
 pub struct Silences {
     rows: IndexMap<EndpointId, Option<u64>>,
     // the moment of each row that has one, by where the row stands
     order: Deadlines,
 }
 
-// By hand, so that it is one call where such a table is dropped: a derived one is written out at each
-// exit of each function that owns a table, field by field down to the buffers.
+// By hand, so that it is one call where such a table is dropped: a derived one is written out at
+// each exit of each function that owns a table, field by field down to the buffers.
 impl Drop for Silences {
     fn drop(self) {
         let Silences { rows: _, order: _ } = self;
@@ -64,16 +64,16 @@ impl Silences {
         Ok(Silences { rows, order })
     }
 
-    /// The moment, in milliseconds, at which the silence of this endpoint ends: None where it isn't
-    /// in the table, and Some(None) where its silence isn't watched.
+    /// The moment, in milliseconds, at which the silence of this endpoint ends. None if the
+    /// endpoint isn't in the table, and Some(None) if its silence isn't watched.
     pub fn get(&self, id: &EndpointId) -> Option<Option<u64>>
         ensures { result ≡ map.get self.now.ends id.now }
     {
         self.rows.get(id).copied()
     }
 
-    /// The least moment, in milliseconds, at which a silence ends, with an endpoint whose silence
-    /// ends then: any of them. None where no silence is watched.
+    /// The least moment, in milliseconds, at which a silence ends, with any one of the endpoints
+    /// whose silence ends then. None if no silence is watched.
     pub fn earliest(&self) -> Option<(u64, &EndpointId)>
         ensures there { IfSome result (λ d. map.get self.now.ends d.1.now ≡ Some (Some d.0)) }
         ensures least { IfSome result (λ d. IsLeastEnd self.now.ends d.0) }
@@ -84,7 +84,7 @@ impl Silences {
         Some((moment, id))
     }
 
-    /// Makes room for so many more endpoints. It fails only for want of memory.
+    /// Makes room for this many more endpoints. It fails only for want of memory.
     pub fn reserve(&mut self, more: usize) -> Result<(), AllocError>
         ensures ends { self.new.ends ≡ self.old.ends }
         ensures ok { OnOk result (more ≤ self.new.room) }
@@ -92,7 +92,7 @@ impl Silences {
         ensures succeeds { more ≤ self.old.room → IsOk result }
     {
         self.rows.reserve(more)?;
-        // the capacity is what says that the sum fits
+        // that there is a capacity shows that the sum fits
         let _capacity = self.rows.capacity();
         let places = self.rows.len() + more;
         self.order.reserve(places)
@@ -109,9 +109,8 @@ impl Silences {
         self.rows.insert(id, None).unwrap();
     }
 
-    /// The silence of this endpoint ends at this moment, in milliseconds, or isn't watched where
-    /// there is none. Nothing is changed where the endpoint isn't in the table. This takes no
-    /// memory.
+    /// Makes the silence of this endpoint end at this moment, in milliseconds. With None it isn't
+    /// watched. Nothing is changed if the endpoint isn't in the table. This takes no memory.
     pub fn set(&mut self, id: &EndpointId, end: Option<u64>)
         ensures ends { self.new.ends ≡ update self.old.ends id.now (λ was. end) }
         ensures room { self.old.room ≤ self.new.room }
@@ -128,7 +127,7 @@ impl Silences {
         ensures room { self.old.room ≤ self.new.room }
     {
         if let Some((place, _id, _end)) = self.rows.swap_remove_full(id) {
-            // the last one took its place there
+            // the last row took the place of the one that is gone
             let last = self.rows.len();
             self.order.clear(place);
             self.order.rename(last, place);
@@ -136,7 +135,7 @@ impl Silences {
     }
 }
 
-/// This place has the moment, or none.
+/// Gives this place the moment, or none.
 fn write_moment(order: &mut Deadlines, place: usize, end: Option<u64>)
     requires { place < order.old.room }
     ensures moments { Changed (map.get order.old.moments) (map.get order.new.moments) place end }

@@ -1,4 +1,4 @@
--- Settings stay within their ranges where a number in its range is set.
+-- Settings stay within their ranges if a number in its range is set.
 use Rattle.std.proofs.Common.{◌≡◌, ℕ, suc, zero, Bool, true, false, not, List, [], ◌∷◌, map, set, refl}
 use Rattle.std.proofs.Common.{sym, subst, Some, None, Result, Ok, Err, Bor}
 use Rattle.std.specs.List.{list_any}
@@ -68,7 +68,7 @@ stays_inside parts Asks number inside e = one_set parts 10 Asks number inside e
 stays_inside parts AskWait number inside e = one_set parts 11 AskWait number inside e
 stays_inside parts PoolTurn number inside e = one_set parts 12 PoolTurn number inside e
 
--- settings leave the networks
+-- a number that is set leaves the networks as they are
 networks_stay : (parts : ConfigParts) (key : Key) (number : ℕ)
     → (with_number parts key number).networks ≡ parts.networks
 networks_stay parts Limit number = refl
@@ -85,7 +85,7 @@ networks_stay parts Asks number = refl
 networks_stay parts AskWait number = refl
 networks_stay parts PoolTurn number = refl
 
--- a test of the keys that is passed is followed by that of the networks
+-- if no key is outside its range, and the networks stay, there is no fault
 same_fault : (old new : Option Key) (before after : List (Option Network)) → after ≡ before
     → fault_with old before ≡ None → new ≡ None → fault_with new after ≡ None
 same_fault (Some key) new before after same e none = absurd (cc e)
@@ -114,7 +114,7 @@ pub defaults_in_range : (name : List ℕ) (address : Address) (networks : List (
 unfolding range_fault
 defaults_in_range name address networks bits = rw bits refl
 
--- settings in their ranges are refused for want of a default pool alone
+-- settings in their ranges are refused only because there is no default pool
 pub no_range_fault : (parts : ConfigParts)
     (answer : Result ConfigParts ConfigFault) (key : Bor (List ℕ))
     → IsConfigAnswer parts answer

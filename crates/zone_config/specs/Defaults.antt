@@ -1,4 +1,4 @@
--- The settings of a zone of which nothing but its name, its address and its pools' networks is set.
+-- The settings of a zone of which only the name, the address and the networks of the pools are set.
 use Rattle.std.specs.Prelude.{ℕ, List, Option}
 use Rattle.ras_module.specs.declared.address.Address.{Address}
 use Rattle.zone_config.specs.declared.config.ConfigParts.{ConfigParts}

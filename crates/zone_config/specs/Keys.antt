@@ -9,7 +9,7 @@ use Rattle.zone_config.specs.declared.key.Key.TheVariants.{Calls, Kept, Window, 
 use Rattle.zone_config.specs.declared.key.Key.TheVariants.{Retries, Asks, AskWait, PoolTurn}
 
 -- the row of a key in the table: its name, the least and the greatest number that it takes, and its
--- number where nothing is set
+-- number if nothing is set
 pub record Row : Type 0 where
   pub name : List ℕ
   pub least : ℕ

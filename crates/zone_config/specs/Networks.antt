@@ -14,7 +14,7 @@ abbrev pub same_network : Network → Network → Bool
 same_network =
     eq_of_both (on (λ n. n.ip) (pointwise nat_eq)) (on (λ n. n.bits) ◌==◌)
 
--- so many bits of an address, from its front
+-- this many bits of an address, from its front
 abbrev pub front_bits : ℕ → List ℕ → ℕ
 front_bits bits ip = from_be_bytes w32 ip / 2 ^ (32 - bits)
 
@@ -36,11 +36,11 @@ abbrev pub is_default : Option (Option Network) → Bool
 is_default None = false
 is_default (Some network) = is_none network
 
--- the last pool is such a one
+-- there is a pool, and the last one has no network
 abbrev pub has_default : List (Option Network) → Bool
 has_default networks = is_default (slice_get networks (length networks - 1))
 
--- an IPv4 address has no more than 32 bits
+-- a network has more bits than an IPv4 address, which has 32
 abbrev pub is_too_long : Option Network → Bool
 is_too_long None = false
 is_too_long (Some network) = nat_lt 32 network.bits

@@ -1,4 +1,4 @@
--- The ranges of a zone's settings, and what is answered where one is left.
+-- The ranges of a zone's settings, and the fault if a range is left.
 use Rattle.std.specs.List.{find, list_any}
 use Rattle.std.specs.Prelude.{ℕ, ◌≡◌, Bool, true, false, not, List, Option, Some, None}
 use Rattle.std.specs.Prelude.{Result, Ok, Err, codes, if◌then◌else◌}
@@ -22,7 +22,7 @@ fault_with (Some key) networks = Some (path_of key)
 fault_with None networks =
     if list_any is_too_long networks then Some (codes "pool.network") else None
 
--- the path of the first key whose number is outside its range; behind them come the networks
+-- the path of the first key whose number is outside its range; after the keys come the networks
 unfoldable pub range_fault : ConfigParts → Option (List ℕ)
 range_fault parts = fault_with (key_outside parts) parts.networks
 
@@ -31,8 +31,9 @@ pub record IsConfig (parts : ConfigParts) : Type 0 where
   pub ranges : range_fault parts ≡ None
   pub default_pool : has_default parts.networks ≡ true
 
--- The settings are those of the configuration; or the fault names the first key out of range; or,
--- where there is none, the last pool has a network, or there is no pool.
+-- The settings are those of the configuration. Or the fault names the first key out of range, or,
+-- after the keys, a network with too many bits. Or, if there is none of these, the fault is that
+-- the last pool has a network, or that there is no pool.
 abbrev pub IsConfigAnswer : ConfigParts → Result ConfigParts ConfigFault → Type 0
 IsConfigAnswer parts (Ok config) = (config ≡ parts) × IsConfig parts
 IsConfigAnswer parts (Err (OutOfRange key)) = range_fault parts ≡ Some key.now

@@ -1,5 +1,5 @@
--- Until when the reply to a request of a moment is kept, and when and how often one that waits is
--- served again.
+-- Until when the reply to a request of a moment is kept, and when and how often a request that
+-- waits is served again.
 use Rattle.std.specs.Prelude.{ℕ, ◌+◌}
 use Rattle.zone_config.specs.declared.config.ConfigParts.{ConfigParts}
 use Rattle.zone_config.specs.declared.term.Term.{Term}

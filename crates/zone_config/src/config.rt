@@ -18,9 +18,9 @@ use std::alloc::AllocError;
 use std::marker::Model;
 use thiserror::Error;
 
-/// The settings of a zone, before their ranges are tested. Bandwidth is in units of 100 bit/s, for both
-/// directions of a call; times are milliseconds, but for `time_to_live`. `Key` has the range and the
-/// default of each number.
+/// The settings of a zone, before their ranges are tested. Bandwidth is in units of 100 bit/s, for
+/// both directions of a call. Times are in milliseconds, except `time_to_live`. `Key` has the range
+/// and the default of each number.
 #[derive(PartialEq, Eq, Drop)]
 pub struct ConfigParts {
     /// The GatekeeperIdentifier of the zone.
@@ -37,7 +37,7 @@ pub struct ConfigParts {
     pub endpoints: u64,
     /// How many calls there may be.
     pub calls: u64,
-    /// How many replies are kept.
+    /// How many replies may be kept.
     pub kept: u64,
     /// For how long a reply is kept.
     pub window: u64,
@@ -49,18 +49,19 @@ pub struct ConfigParts {
     pub retries: u64,
     /// How often a silent endpoint is asked.
     pub asks: u64,
-    /// How long an answer is waited for.
+    /// How long the gatekeeper waits for the answer of an endpoint that it asked.
     pub ask_wait: u64,
     /// How long it is from one turn of the pools to the next.
     pub pool_turn: u64,
-    /// The networks of the pools, in their order. A call has its units from the first pool that has no
-    /// network, or whose network holds the call signal address of who opens it. The last pool has none.
+    /// The networks of the pools, in their order. A call has its units from the first pool that has
+    /// no network, or whose network holds the call signal address of the endpoint that opens the
+    /// call. The last pool has none.
     pub networks: Networks,
 }
 
 impl ConfigParts {
-    /// The settings of a zone of which nothing but its name, its address and the networks of its
-    /// pools is set.
+    /// The settings of a zone of which only the name, the address and the networks of the pools are
+    /// set.
     pub fn new(identifier: Name, address: Address, networks: Networks) -> Self
         ensures { result ≡ default_parts identifier address networks }
     {
@@ -113,7 +114,8 @@ impl ConfigParts {
 /// Why settings make no zone.
 #[derive(Clone, Copy, Debug, PartialEq, Eq, Error)]
 pub enum ConfigFault {
-    /// The number under this key is outside its range.
+    /// The number under this key is outside its range. The key is `pool.network` if a network has
+    /// more than 32 bits.
     #[error("{0} is outside its range")]
     OutOfRange(&'static str),
     /// There is no pool, or the last one has a network, so that some calls have no pool.
@@ -170,9 +172,10 @@ fn range_fault(parts: &ConfigParts) -> Option<&'static str>
 }
 
 impl Config {
-    /// These settings, where each number is in its range and the last pool has no network. Else
-    /// the first key, in the order of the fields, whose number is out of range; else that there is no
-    /// default pool.
+    /// These settings, if each number is in its range and the last pool has no network. Otherwise
+    /// the fault names the first key, in the order of the fields, whose number is out of range, and
+    /// after the keys a network with too many bits. If there is none of these, the fault is that
+    /// there is no default pool.
     pub fn new(parts: ConfigParts) -> Result<Self, ConfigFault>
         ensures { IsConfigAnswer parts result }
     {
@@ -243,7 +246,7 @@ impl Config {
         self.parts.calls as usize
     }
 
-    /// How many replies are kept.
+    /// How many replies may be kept.
     pub fn kept(&self) -> usize
         ensures same { result ≡ self.now.kept }
         ensures some { 1 ≤ result }
@@ -259,8 +262,8 @@ impl Config {
         Delay::new(self.parts.delay as u16).unwrap()
     }
 
-    /// Until when the reply to a request of this moment is kept, and when and how often one that
-    /// waits is served again.
+    /// Until when the reply to a request of this moment is kept, and when and how often a request
+    /// that waits is served again.
     pub fn term(&self, now: Moment) -> Term
         ensures same { result ≡ term_of self.now now }
         ensures some { 1 ≤ result.times }

@@ -22,7 +22,7 @@ pub enum Key {
     Endpoints,
     /// How many calls there may be.
     Calls,
-    /// How many replies are kept.
+    /// How many replies may be kept.
     Kept,
     /// For how long a reply is kept.
     Window,
@@ -34,7 +34,7 @@ pub enum Key {
     Retries,
     /// How often a silent endpoint is asked.
     Asks,
-    /// How long an answer is waited for.
+    /// How long the gatekeeper waits for the answer of an endpoint that it asked.
     AskWait,
     /// How long it is from one turn of the pools to the next.
     PoolTurn,
@@ -140,7 +140,7 @@ impl Key {
         self.row().most
     }
 
-    /// Its number where nothing is set.
+    /// Its number if nothing is set.
     pub fn default(self) -> u64
         ensures { result ≡ default_of self }
     {

@@ -26,7 +26,7 @@ impl Moment {
     /// The moment at which a zone's clock begins.
     pub const START: Moment = Moment { milliseconds: 0 };
 
-    /// The moment after so many milliseconds: None exactly where they are 2^53 or more.
+    /// The moment after this many milliseconds. None if and only if they are 2^53 or more.
     pub fn new(milliseconds: u64) -> Option<Self>
         ensures { SomeIff result (milliseconds < 2 ^ 53) milliseconds }
     {

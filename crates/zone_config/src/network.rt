@@ -35,7 +35,7 @@ impl Eq for Networks {
     ghost laws = { Prim.search (comparing, rules) depth 9 };
 }
 
-/// So many bits of an address, from its front.
+/// This many bits of an address, from its front.
 fn front_bits(bits: u8, ip: [u8; 4]) -> u64
     ensures { result ≡ front_bits bits ip }
 {

@@ -13,7 +13,7 @@ abbrev pub moment_in : Event → ℕ
 moment_in (event.Datagram source bytes moment) = moment
 moment_in (event.Turn moment) = moment
 
--- what is sent and what happened in a step in which nothing was chosen but, in a turn, the item
+-- what is sent and what happened, in a step that chose nothing, except the item in a turn
 abbrev pub noted_outcome : Note → Option Datagram → Outcome
 noted_outcome what output = record {
   answer = None;

@@ -9,7 +9,7 @@ pub enum DueItem {
     RegistrationOver(EndpointId),
     /// This endpoint in a call is to be asked for a sign of life.
     Interrogate(EndpointId),
-    /// This endpoint in a call was asked as often as it is, and gave no sign of life.
+    /// This endpoint in a call was interrogated `asks` times and gave no sign of life.
     Silent(EndpointId),
     /// The request of the kept entry with this birth is to be served again.
     Retry(u64),

@@ -1,5 +1,6 @@
-//! What comes to a gatekeeper and what it does in return, as values: events, outcomes, and what can be due.
-//! Whoever only carries them, such as a script or a queue of replies, needs to know no machine.
+//! What comes to a gatekeeper and what it does in return, as values: events, outcomes, and what can
+//! be due. Code that only carries them, such as a script or a queue of replies, need not know the
+//! machine.
 #![tactic(auto)]
 
 mod due_item;

@@ -1,4 +1,4 @@
-//! What a step answers.
+//! What comes of a step.
 
 ghost use Rattle.std.specs.Prelude.{◌≡◌, ◌≤◌, [], IfSome, None, length, vec_capacity};
 ghost use Rattle.zone_events.specs.Events.{cause_number, noted_outcome};
@@ -40,7 +40,7 @@ pub enum IgnoredCause {
     Unreadable,
     /// It is a message that the gatekeeper doesn't serve.
     NotServed,
-    /// As many replies are kept as may be, and none of them is over.
+    /// The limit of kept replies is reached, and none of them is over.
     Busy,
     /// It is a sign of life of an endpoint that isn't registered.
     UnknownEndpoint,
@@ -76,8 +76,8 @@ pub enum Note {
     Idle,
 }
 
-/// What a step did: what the pool answered that was asked, what is sent, what happened, the birth of
-/// the kept entry that was dropped for a reply, and the identifier that was handed out to a new
+/// What a step did: the answer of the pool that was asked; what is sent; what happened; the birth
+/// of the kept entry that was dropped for a reply; and the identifier that was handed out to a new
 /// endpoint.
 #[derive(PartialEq, Eq, Drop)]
 pub struct Outcome {
@@ -102,8 +102,7 @@ impl Outcome {
         }
     }
 
-    /// An equal outcome, of which the octets that are sent stand in this empty buffer. This takes no
-    /// memory.
+    /// An equal outcome. The octets that are sent stand in this empty buffer. This takes no memory.
     pub fn copy_into(&self, buffer: Vec<u8>) -> Self
         requires empty { buffer.items ≡ [] }
         requires room { IfSome self.now.output

@@ -2,7 +2,7 @@
 use Rattle.std.proofs.Common.{◌≡◌, sym, subst, refl, Some}
 use Rattle.std.specs.Prelude.{Option, Result, Ok, Err, IsSome, IfOk, OnOk}
 
--- what holds where a call succeeded
+-- what holds if a call succeeded
 pub on_ok : {A B P : Type 0} (r : Result A B) (x : A) → r ≡ Ok x → OnOk r P → P
 on_ok {A} {B} {P} r x is h = subst (λ (w : Result A B). OnOk w P) is h
 

@@ -267,7 +267,7 @@ IsBacked-is u calls pools most b same_calls same_pools same_most =
       call_limit = u.call_limit;
     }) b
 
--- what a table of calls and the figures of pools come to
+-- the usage that a table of calls and the figures of pools make
 abbrev pub usage_in : CallTable → List Figures → ℕ → ℕ → Usage
 usage_in table pools limit call_limit = record {
   calls = table.calls;
@@ -304,7 +304,7 @@ call_left was value is key endpoint has =
     call_with_leg was.usage.calls key endpoint
     (subst (λ (l : Lending). IsSome (leg_at l.usage.calls key endpoint)) (sym is) has)
 
--- what the table said that the call had from its pool
+-- what the call had from its pool, as the table returned it
 pub freed_as : (r : Result Left CallFault) (left : Left) → r ≡ Ok left
     → (freed was : Option (ℕ × ℕ)) → IfOk r (λ left. left.ended ≡ freed) → left.ended ≡ was
     → freed ≡ was

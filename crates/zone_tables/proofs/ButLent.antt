@@ -1,4 +1,4 @@
--- Pools to which units may come back, and of which nothing else changes.
+-- Pools to which units may come back. Nothing else of them changes.
 use Rattle.std.proofs.Common.{◌<◌, ◌+◌, ℕ, List, length, refl, sym, ◌∙◌, subst, Some, None, arith}
 use Rattle.std.specs.Prelude.{Option}
 use Rattle.std.proofs.lemmas.List.{get_or_default, length-set}
@@ -66,7 +66,7 @@ same_after_change now (Calls (Lowering key units pool back)) z =
 same_after_change now (Calls (Leaving key endpoint)) z =
     same_after_end z.pools (freed_by_leave z.calls key endpoint)
 
--- so they counted no more
+-- so they counted nothing more
 pub counts_same : (old new : List Figures) → AreSameButLent old new → CountsOneMore old new
 counts_same old new same most h k d below =
     let here : k < length old = omega (arith, below, same.each) in

@@ -1,4 +1,4 @@
--- An endpoint that leaves all its calls, one after another in any order, leaves the same.
+-- If an endpoint leaves all its calls one after another, the same is left in any order.
 use Rattle.std.proofs.Common.{◌≡◌, ◌<◌, ◌≤◌, ℕ, Bool, true, false, cond, List, [], ◌∷◌, length}
 use Rattle.std.proofs.Common.{get_or, refl, sym, ◌∙◌, ap, subst, Some, None, arith}
 use Rattle.std.specs.Prelude.{Option, All, is_some, option_and_then, not, nat_eq, filter, ◌||◌}
@@ -63,7 +63,7 @@ module _ (endpoint : List ℕ) where
   rest_once None = refl
   rest_once (Some call) = rest_once_of call (without_leg call.legs endpoint) refl
 
-  -- who has no leg leaves nothing
+  -- if an endpoint has no leg, all legs stay
   all_stay : (legs : List Leg) → leg_of legs endpoint ≡ None → without_leg legs endpoint ≡ legs
   all_stay [] none = refl
   all_stay (leg ∷ legs) none =
@@ -99,7 +99,7 @@ module _ (endpoint : List ℕ) where
     cases (Some call) =
         Changed-insert call_key_cmp_total call_key_cmp-IsAntisymmetric calls key call
 
-  -- leaving one doesn't change what it is to leave them all
+  -- if one call was left, to leave all calls comes to the same
   pub rest_after : (calls : OpenCalls) (key q : CallKey)
       → rest (fin.get (after_leave calls key endpoint) q) ≡ rest (fin.get calls q)
   rest_after calls key q =
@@ -111,7 +111,7 @@ module _ (endpoint : List ℕ) where
       ∙ (rest_once (fin.get calls key) ∙ ap (λ k. rest (fin.get calls k)) (sym same))))
       (λ differ. ap rest (c.others q differ))
 
-  -- what is left stays so
+  -- a call that was left stays so
   still_left : (calls : OpenCalls) (key q : CallKey) → rest (fin.get calls q) ≡ fin.get calls q
       → rest (fin.get (after_leave calls key endpoint) q)
       ≡ fin.get (after_leave calls key endpoint) q
@@ -132,7 +132,7 @@ module _ (endpoint : List ℕ) where
       let c = after_one calls key in
       ap rest c.here ∙ (rest_once (fin.get calls key) ∙ sym c.here)
 
-  -- where no leg is left, all calls were left
+  -- if no leg is left, all calls were left
   pub all_left : (old new : OpenCalls)
       → ((q : CallKey) → rest (fin.get new q) ≡ rest (fin.get old q))
       → EachCall IsCall new → IsInNoCall new endpoint → AreLeft endpoint old new
@@ -235,7 +235,7 @@ module _ (endpoint : List ℕ) where
   over_else z [] = refl
   over_else z (key ∷ keys) = over_else (leave z key) keys
 
-  -- so who left all calls in another order left the same
+  -- so the same is left if all calls were left in another order
   pub all_gone : (z : Tables) (new : Usage) → IsBacked (usage_of z) → IsBacked new
       → HaveLeft endpoint (usage_of z) new
       → without_legs_of z endpoint ≡ record z { calls = new.calls; pools = new.pools }
@@ -324,14 +324,14 @@ legs_left endpoint P Q f old new left each key call there = cases (fin.get old k
       (other (get_or (without_leg was.legs endpoint) k d) (filter_passes test was.legs k d below))
       (All-filter test P was.legs (each key was is) k d below))
 
--- who leaves changes no setting
+-- an endpoint that leaves changes no setting
 pub settings_stay : (z : Tables) (id : List ℕ) → (without_legs_of z id).config ≡ z.config
 settings_stay z id = ap (λ (z : Tables). z.config) (over_else id z (fin.keys z.calls))
 
 pub endpoints_stay : (z : Tables) (id : List ℕ) → (without_legs_of z id).live ≡ z.live
 endpoints_stay z id = ap (λ (z : Tables). z.live) (over_else id z (fin.keys z.calls))
 
--- who leaves all calls, and then the registrations become these
+-- an endpoint leaves all calls, and then the registrations become these
 pub left_then : (f : Live → Live) (z left : Tables) (id : List ℕ) → left ≡ without_legs_of z id
     → (live : Live) → live ≡ f left.live
     → with_live left live ≡ with_live (without_legs_of z id) (f z.live)

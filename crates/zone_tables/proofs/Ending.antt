@@ -28,7 +28,7 @@ use Rattle.zone_events.specs.declared.due_item.DueItem.TheVariants.{Registration
 use Rattle.zone_events.specs.declared.due_item.DueItem.TheVariants.{Silent, Retry, KeptOver, PoolTurn}
 use Rattle.zone_tables.specs.inside.Watched.{AreWatched, end_in_call, end_of}
 
--- what no key of a list passes, the one at this place doesn't pass
+-- if no key of a list passes, the one at this place doesn't
 none_passes : (p : Key → Bool) (keys : List Key) (i : ℕ) → find p keys ≡ None → i < length keys
     → p (get_or keys i Limit) ≡ false
 none_passes p [] i none below = absurd (omega (arith, below))
@@ -113,7 +113,7 @@ module _ (times : Times) (some : 1 ≤ times.asks) (now : ℕ) (fits : now < 2 ^
         last.1,
       )
 
-  -- where no silence has ended, nothing is due
+  -- if no silence has ended, nothing is due
   pub nothing_ended : ((id : List ℕ) (m : ℕ) → fin.get ends id ≡ Some (Some m) → m ≤ now → ⊥)
       → IsNoEndpointDue now times live calls
   nothing_ended none = due where
@@ -129,7 +129,7 @@ module _ (times : Times) (some : 1 ≤ times.asks) (now : ℕ) (fits : now < 2 ^
     due (KeptOver born) h = h
     due PoolTurn h = h
 
-  -- whose silence has ended takes part in a call
+  -- an endpoint whose silence has ended takes part in a call
   ended_in_call : (id : List ℕ) (r : Registration) (m : ℕ) → fin.get live id ≡ Some r
       → fin.get ends id ≡ Some (Some m) → IsInCall calls id
   ended_in_call id r m there end =

@@ -39,7 +39,7 @@ use Rattle.zone_tables.specs.Changes.{calls_after, leg_added, pools_after}
 use Rattle.zone_tables.specs.UnitRequests.{calls_after_answer, granted_calls, leg_of_purpose}
 use Rattle.zone_tables.proofs.Backing.{call_with_leg, length-after_end}
 
--- who was registered is so still
+-- each endpoint that was registered still is
 abbrev Stays : Live → Live → Type 0
 Stays old new = (id : List ℕ) → IsSome (fin.get old id) → IsSome (fin.get new id)
 
@@ -79,7 +79,7 @@ legs_without live calls id have zero key call there k d below =
     (EachLeg-other calls id (IsInNoCall-zero calls id zero) key call there k d below)))
     (have key call there k d below)
 
--- where no leg is of who goes, all legs stay
+-- if no leg is that of the endpoint that goes, all legs stay
 pub legs-remove : (live : Live) (calls : OpenCalls) (id : List ℕ) → HaveEndpoints live calls
     → EachLeg (IsOther id) calls → HaveEndpoints (fin.remove live id) calls
 legs-remove live calls id have gone key call there k d below =
@@ -150,7 +150,7 @@ legs-answer live calls q (Lent units) have is = by_purpose q.purpose is where
 legs-answer live calls q Refused have is = have
 legs-answer live calls q Wait have is = have
 
--- there are as many pools as before
+-- the number of pools stays
 pub length-pools_after : (change : CallChange) (calls : OpenCalls) (pools : List Figures)
     → length (pools_after change calls pools) ≡ length pools
 length-pools_after (Opening key pool leg) calls pools = refl
@@ -160,7 +160,7 @@ length-pools_after (Lowering key units pool back) calls pools =
 length-pools_after (Leaving key endpoint) calls pools =
     length-after_end pools (freed_by_leave calls key endpoint)
 
--- the parts of a zone fit together where its endpoints change, and each leg's is registered
+-- the parts of a zone fit together if its endpoints change and each leg's endpoint is registered
 pub AreParts-live : (config : ConfigParts) (old new : Roll) (u : Usage) → AreParts config old u
     → new.most ≡ old.most → (live : Live) → new.live ≡ live → HaveEndpoints live u.calls
     → AreParts config new u

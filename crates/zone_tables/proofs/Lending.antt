@@ -24,7 +24,7 @@ use Rattle.zone_tables.specs.Pools.{pools_after_end, figures_after_return}
 use Rattle.zone_tables.specs.Soundness.{IsLentTo}
 use Rattle.zone_tables.proofs.OnePool.{figures_here, figures_elsewhere}
 
--- what a pool's units are added to
+-- units count for their own pool
 same_pool : (p units : ℕ) → (if nat_eq p p then units else 0) ≡ units
 same_pool p units =
     let same : nat_eq p p ≡ true = grind (arith, nat_tests) in
@@ -51,7 +51,7 @@ IsLentTo-set pools calls new i f lent below here others p p_below =
     (λ differ. ap (λ g. g.lent) (figures_elsewhere pools i f p differ)
     ∙ (lent p (omega (arith, p_below, length-set pools i f)) ∙ sym (others p differ)))
 
--- only the calls change, and not what they have of any pool
+-- only the calls change, and not what they have from any pool
 pub IsLentTo-calls : (pools : List Figures) (calls new : OpenCalls) → IsLentTo pools calls
     → ((p : ℕ) → in_use_of new p ≡ in_use_of calls p) → IsLentTo pools new
 IsLentTo-calls pools calls new lent same p below = lent p below ∙ sym (same p)
@@ -88,7 +88,7 @@ module _ (pools : List Figures) (calls : OpenCalls) (key : CallKey)
       IsLentTo-calls pools calls (update calls key (with_leg leg)) lent
       (λ p. in_use_of-join calls key p call leg there)
 
-  -- another answer than a loan
+  -- an answer that is no loan
   pub lent-refused : (i : ℕ) → i < length pools
       → IsLentTo (pools_after_answer pools i Refused) calls
   lent-refused i below =

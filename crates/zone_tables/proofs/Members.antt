@@ -25,7 +25,7 @@ figures_there members i =
     seq.get_or-map figures (accounts_of members) i (opening_account 0)
     ∙ ap figures (seq.get_or-map account members i nobody)
 
--- there are as many figures as pools
+-- the number of figures is the number of pools
 pub length-figures : (members : List Member)
     → length (figures_of (accounts_of members)) ≡ length members
 length-figures members = length-map (accounts_of members) figures ∙ length-map members account

@@ -29,7 +29,7 @@ module _ (live : Live) (held : Held) (id : List ℕ) (agree : Agree live held) w
       subst (λ (x : Registration). Contains x.aliases alias)
       (same_some by.0 r (sym by.1 ∙ there)) by.2))
 
-  -- and who isn't registered holds none
+  -- and an endpoint that isn't registered holds none
   pub none_go : fin.get live id ≡ None → held ≡ without_holder held id
   none_go none = without_all held [] id
       (λ alias own. (let by = own_alias alias (fin.get held alias) refl own in

@@ -38,7 +38,7 @@ pub small_call_limit : (config : ConfigParts) (roll : Roll) (u : Usage) (ends : 
 small_call_limit config roll u ends sound =
     subst (λ (most : ℕ). most < 2 ^ 32) sound.parts.call_limit sound.calls.backed.small
 
--- what holds after a change that was made holds, too, where nothing changed
+-- what holds before a change and after it holds whether the change was made or not
 pub either_way : {A F S : Type 0} (P : S → Type 0) (result : Result A F) (old new : S)
     → OnOk result (P new) → OnErr result (new ≡ old) → P old → P new
 either_way P (Ok done) old new ok err was = ok

@@ -40,7 +40,7 @@ use Rattle.zone_tables.specs.Parts.{Usage}
 use Rattle.zone_tables.specs.inside.Watched.{AreOthersWatched, AreWatched, IsWatched}
 use Rattle.zone_tables.specs.inside.Watched.{end_of, endpoint_of_change, mover_of_change}
 
--- a leg is counted for its own endpoint alone
+-- a leg counts only for its own endpoint
 one_if_other : (a b : List ℕ) → a ≢ b → one_if_same a b ≡ 0
 one_if_other a b differ =
     ap (λ b. if b then 1 else 0) (test_false (pointwise nat_eq a b) (texts_decide a b) differ)
@@ -55,7 +55,7 @@ has_its_leg calls key endpoint has = cases (fin.get calls key) refl has where
   cases None is has = absurd (cc has)
   cases (Some call) is has = (call, is, has)
 
--- who doesn't leave has as many legs as before
+-- an endpoint that doesn't leave has the same number of legs as before
 pub legs_after_leave : (calls : OpenCalls) (key : CallKey) (endpoint : List ℕ)
     → IsSome (leg_at calls key endpoint) → (q : List ℕ) → endpoint ≢ q
     → legs_of (after_leave calls key endpoint) q ≡ legs_of calls q
@@ -67,7 +67,7 @@ legs_after_leave calls key endpoint has q differ =
       one_if_other endpoint q differ,
     )
 
--- a change of the calls changes the number of legs of one endpoint at most
+-- a change of the calls changes the number of legs of at most one endpoint
 pub legs_of_others : (u : Usage) (change : CallChange) → IsCallChange u change → (q : List ℕ)
     → mover_of_change change ≢ Some q
     → legs_of (calls_after change u.calls) q ≡ legs_of u.calls q
@@ -88,7 +88,7 @@ legs_of_others u (Lowering key units pool back) can q differ =
 legs_of_others u (Leaving key endpoint) can q differ =
     legs_after_leave u.calls key endpoint can q (λ is. differ (ap (λ (x : List ℕ). Some x) is))
 
--- a pool's answer changes the legs of who opens a call alone
+-- a pool's answer changes only the legs of the endpoint that opens a call
 pub legs_after_answer : (u : Usage) (q : UnitRequest) (answer : Lend) → IsPurpose u q q.purpose
     → (x : List ℕ) → ((leg : Leg) → q.purpose ≡ purpose.Opening leg → leg.endpoint ≢ x)
     → legs_of (calls_after_answer q answer u.calls) x ≡ legs_of u.calls x
@@ -132,7 +132,7 @@ pub live_without : (live : Live) (id q : List ℕ) → q ≢ id
 live_without live id q differ =
     (Changed-remove nat_list_cmp_total exact_bytes live id).others q differ
 
--- who was taken out isn't registered
+-- an endpoint that was taken out isn't registered
 pub not_there : {P : Type 0} (live : Live) (id : List ℕ) → IsSome (fin.get (fin.remove live id) id)
     → P
 not_there live id some =
@@ -141,7 +141,7 @@ not_there live id some =
 
 module _ (times : Times) (live : Live) (calls : OpenCalls) (ends : Ends)
     (watched : AreWatched times live calls ends) where
-  -- whose registration and number of legs are what they were is watched as before
+  -- an endpoint is watched as before if its registration and its number of legs are as before
   pub watched_still : (new : Live) (after : OpenCalls) (q : List ℕ)
       → fin.get new q ≡ fin.get live q → legs_of after q ≡ legs_of calls q
       → IsWatched times new after ends q

@@ -78,7 +78,7 @@ IsEndpointChange roll (Rewriting id e deadline) = IsRewritable roll id e
 IsEndpointChange roll (Addition r) = IsAddable roll r
 IsEndpointChange roll (Removal id) = Unit {0}
 
--- a call may be opened: there is none under its key, a place for it, and a pool
+-- a call may be opened: there is none under its key, and there are a place and a pool for it
 pub record IsOpenable (u : Usage) (key : CallKey) (pool : ℕ) : Type 0 where
   pub absent : get u.calls key ≡ None
   pub place : len u.calls ≢ u.most
@@ -91,7 +91,7 @@ pub record IsJoinable (calls : OpenCalls) (key : CallKey) (leg : Leg) : Type 0 w
   pub one : length call.legs ≡ 1
   pub other : leg_of call.legs leg.endpoint ≡ None
 
--- a call may keep these units: it has the others, too, of this pool
+-- a call may keep these units: it has the rest from this pool, too
 pub record IsLowerable (calls : OpenCalls) (key : CallKey) (units pool back : ℕ) : Type 0 where
   pub call : Call
   pub there : get calls key ≡ Some call

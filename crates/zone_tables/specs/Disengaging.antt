@@ -9,7 +9,8 @@ use Rattle.admission.specs.Calls.{after_leave, freed_by_leave}
 use Rattle.zone_tables.specs.Tables.{Tables, with_live}
 use Rattle.zone_tables.specs.Pools.{pools_after_end}
 
--- an endpoint leaves a call, which ends with its last leg: its units go back to its pool
+-- an endpoint leaves a call; if its leg was the last, the call ends, and its units go back to its
+-- pool
 abbrev pub without_leg_of : Tables → CallKey → List ℕ → Tables
 without_leg_of z call endpoint = record z {
   calls = after_leave z.calls call endpoint;

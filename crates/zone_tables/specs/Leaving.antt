@@ -40,7 +40,7 @@ pub record HaveLeft (endpoint : List ℕ) (old new : Usage) : Type 0 where
 abbrev pub IsOther : List ℕ → Leg → Type 0
 IsOther endpoint leg = leg.endpoint ≡ endpoint → ⊥
 
--- all others have as many legs as before
+-- each other endpoint has the same number of legs as before
 abbrev pub HaveOthersLegs : List ℕ → OpenCalls → OpenCalls → Type 0
 HaveOthersLegs endpoint old new =
     (q : List ℕ) → q ≢ endpoint → legs_of new q ≡ legs_of old q

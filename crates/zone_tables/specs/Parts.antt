@@ -41,7 +41,8 @@ pub record HaveSame (a b : Usage) : Type 0 where
   pub calls : a.calls ≡ b.calls
   pub pools : a.pools ≡ b.pools
 
--- with how many more calls can be opened so that no memory is taken for them
+-- the calls and the pools, and how many more calls can be opened so that no memory is taken for
+-- them
 pub record Lending : Type 0 where
   pub usage : Usage
   pub room : ℕ
@@ -50,8 +51,8 @@ pub record Lending : Type 0 where
 abbrev pub with_usage : Usage → OpenCalls → List Figures → Usage
 with_usage u calls pools = record u { calls = calls; pools = pools }
 
--- what each pool has lent is what its calls use, and no limit is passed; that of a call is a
--- BandWidth (H.225.0)
+-- each pool has lent what its calls use, and no limit is passed; the limit of a call is a BandWidth
+-- (H.225.0)
 pub record IsBacked (u : Usage) : Type 0 where
   pub small : u.call_limit < 2 ^ 32
   pub lent : IsLentTo u.pools u.calls

@@ -36,7 +36,7 @@ abbrev pub pools_after_return : List Figures → ℕ → ℕ → List Figures
 pools_after_return pools pool n =
     slice_set pools pool (figures_after_return (figures_at pools pool) n)
 
--- what a call that ended had from its pool came back
+-- the units that an ended call had from its pool came back
 abbrev pub pools_after_end : List Figures → Option (ℕ × ℕ) → List Figures
 pools_after_end pools None = pools
 pools_after_end pools (Some freed) = pools_after_return pools freed.0 freed.1
@@ -46,7 +46,7 @@ pub record RequestedUnits : Type 0 where
   pub pool : ℕ
   pub units : ℕ
 
--- Units may be requested of a pool: one at least, and at most what a BandWidth of H.225.0 names, while
+-- Units may be requested of a pool: from one to the most that a BandWidth of H.225.0 names, while
 -- there is room to count one more refusal and one more wait.
 pub record MayBeAsked (pools : List Figures) (pool units : ℕ) : Type 0 where
   pub exists : pool < length pools

@@ -20,7 +20,7 @@ HaveAliasesApart live =
 abbrev pub HaveEndpoints : Live → OpenCalls → Type 0
 HaveEndpoints live calls = EachLeg (λ leg. IsSome (get live leg.endpoint)) calls
 
--- what each pool has lent is what its calls use
+-- each pool has lent what its calls use
 abbrev pub IsLentTo : List Figures → OpenCalls → Type 0
 IsLentTo pools calls =
     (pool : ℕ) → pool < length pools → (figures_at pools pool).lent ≡ in_use_of calls pool

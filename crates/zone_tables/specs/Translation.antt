@@ -1,4 +1,4 @@
--- Address translation (H.323, 8.2.1): whose call signal address an alias stands for.
+-- Address translation (H.323, 8.2.1): the call signal address that an alias stands for.
 use Rattle.std.specs.Prelude.{List, [], ◌∷◌, Option, None, Some}
 use Rattle.std.specs.List.{find}
 use Rattle.std.specs.FinMap.{values}

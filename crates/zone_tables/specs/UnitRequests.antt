@@ -19,7 +19,7 @@ use Rattle.zone_tables.specs.Pools.{RequestedUnits}
 use Rattle.zone_tables.specs.Parts.{Usage}
 use Rattle.zone_tables.specs.Changes.{IsOpenable}
 
--- what a request asks of which pool
+-- the units that a request is for, and their pool
 abbrev pub units_requested : UnitRequest → RequestedUnits
 units_requested q = record { pool = q.pool; units = q.units }
 
@@ -32,7 +32,7 @@ abbrev pub granted_calls : UnitRequest → Purpose → ℕ → OpenCalls → Ope
 granted_calls q (purpose.Opening leg) units calls = insert calls q.call (new_call q.pool units leg)
 granted_calls q (purpose.Raising had) units calls = update calls q.call (with_units (had + units))
 
--- the reply if none were
+-- the reply if no units were lent
 abbrev pub refused_reply : UnitRequest → Purpose → Reply
 refused_reply q (purpose.Opening leg) = Arj q.seq RequestDenied
 refused_reply q (purpose.Raising had) = Brj q.seq InsufficientResources had
@@ -83,13 +83,13 @@ abbrev pub leg_of_purpose : Purpose → Option Leg
 leg_of_purpose (purpose.Opening leg) = Some leg
 leg_of_purpose (purpose.Raising had) = None
 
--- the reply after a pool's answer: to wait no longer is to be refused
+-- the reply after a pool's answer, if the request no longer waits: a wait then counts as a refusal
 abbrev pub reply_after : UnitRequest → Lend → Reply
 reply_after q (Lent units) = granted_reply q q.purpose units
 reply_after q Refused = refused_reply q q.purpose
 reply_after q Wait = refused_reply q q.purpose
 
--- or a RequestInProgress
+-- the same, or a RequestInProgress
 abbrev pub reply_of : UnitRequest → Lend → Bool → ℕ → Reply
 reply_of q answer true delay = Rip q.seq delay
 reply_of q answer false delay = reply_after q answer

@@ -31,8 +31,8 @@ use std::alloc::{AllocError, Global};
 use std::marker::Model;
 use zone_config::Config;
 
-/// The calls, with the figures of the pools from which they have their units. Contracts see that what
-/// each pool has lent is what its calls use.
+/// The calls, with the figures of the pools from which they have their units. Contracts see that
+/// each pool has lent what its calls use.
 #[derive(Drop)]
 pub struct Bandwidth {
     calls: Calls,
@@ -104,7 +104,7 @@ impl Bandwidth {
         })
     }
 
-    /// Whether there are the same calls and figures in the other.
+    /// Whether the other has the same calls and figures.
     pub fn have_same(&self, other: &Self) -> bool
         ensures { IsTrue result ↔ HaveSame self.now.usage other.now.usage }
     {
@@ -166,7 +166,7 @@ impl Bandwidth {
         self.calls.list()
     }
 
-    /// Makes room for so many more calls.
+    /// Makes room for this many more calls.
     pub fn reserve(&mut self, more: usize) -> Result<(), AllocError>
         ensures usage { self.new.usage ≡ self.old.usage }
         ensures room { OnOk result (more ≤ self.new.room) }
@@ -174,7 +174,7 @@ impl Bandwidth {
         self.calls.reserve(more)
     }
 
-    /// Makes a change for which no pool is asked. All that may want memory comes first.
+    /// Makes a change for which no pool is asked. All that may take memory comes first.
     pub fn apply(&mut self, change: CallChange) -> Result<(), AllocError>
         requires { IsCallChange self.old.usage change }
         ensures ok { OnOk result (self.new.usage ≡ with_usage self.old.usage
@@ -236,7 +236,7 @@ impl Bandwidth {
         }
     }
 
-    /// An endpoint leaves all its calls.
+    /// Takes an endpoint out of all its calls.
     pub fn leave_all(&mut self, endpoint: &EndpointId)
         ensures left { HaveLeft endpoint.now self.old.usage self.new.usage }
         ensures others { HaveOthersLegs endpoint.now self.old.usage.calls self.new.usage.calls }
@@ -247,8 +247,8 @@ impl Bandwidth {
         }
     }
 
-    /// Requests units of a pool, once, for a call, which opens with them, or gets them, if they are
-    /// lent. This takes no memory.
+    /// Requests units of a pool, once, for a call. If units are lent, the call opens with them, or
+    /// gets them if it is open. This takes no memory.
     pub fn request_units<L: Lender>(&mut self, request: &UnitRequest, lender: &mut L) -> Lend
         requires figures { L.lends_for lender.old self.old.usage.pools }
         requires room { 0 < self.old.room }
@@ -271,7 +271,8 @@ impl Bandwidth {
     }
 }
 
-/// Enters a pool's answer into the calls: one opens with the units that were lent, or gets them.
+/// Enters a pool's answer into the calls. If units were lent, a call opens with them, or gets them
+/// if it is open.
 fn enter(calls: &mut Calls, request: &UnitRequest, answer: Lend)
     requires { IsEnterable calls.old request.now answer }
     ensures calls { calls.new.calls ≡ calls_after_answer request.now answer calls.old.calls }

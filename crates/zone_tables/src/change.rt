@@ -47,7 +47,7 @@ pub enum CallChange {
 }
 
 impl CallChange {
-    /// The endpoint that has a leg more after it, or a leg less.
+    /// The endpoint that has one leg more after it, or one leg fewer.
     pub(crate) fn mover(&self) -> Option<EndpointId>
         ensures { result ≡ mover_of_change self.now }
     {

@@ -45,7 +45,7 @@ impl Model for Endpoints {
 }
 
 impl Endpoints {
-    /// No endpoint, and the most that there may be.
+    /// A table with no endpoint, for at most this many.
     pub fn new(alloc: Global, most: usize) -> Self
         requires { most ≤ 20000 }
         ensures empty { result ≡ record { live = map.empty; most = most } }
@@ -67,7 +67,7 @@ impl Endpoints {
         })
     }
 
-    /// Whether the same endpoints are registered in the other.
+    /// Whether the other has the same endpoints.
     pub fn have_same(&self, other: &Self) -> bool
         ensures { IsTrue result ↔ (self.now.live ≡ other.now.live) }
     {
@@ -95,7 +95,7 @@ impl Endpoints {
         self.registrations.by_address(address)
     }
 
-    /// Those of the aliases that endpoints with another call signal address hold.
+    /// Those of these aliases that endpoints with another call signal address hold.
     pub fn conflicts(&self, aliases: &[Alias], address: Address) -> Result<AliasList, AllocError>
         ensures { IfOk result (λ held.
             held ≡ registered_elsewhere self.now.live address aliases.now) }
@@ -104,8 +104,8 @@ impl Endpoints {
         self.aliases.conflicts(aliases, address)
     }
 
-    /// The call signal address of whom the first of the aliases names that is registered, else the
-    /// other address.
+    /// The call signal address of the endpoint with the first of these aliases that is registered.
+    /// The other address if none is.
     pub fn translate(&self, aliases: &[Alias], other: Option<Address>) -> Option<Address>
         ensures { result ≡ translation self.now.live aliases.now other }
     {
@@ -166,7 +166,7 @@ impl Endpoints {
         self.registrations.asked(id, now.milliseconds());
     }
 
-    /// Counts an endpoint's tries anew, if it is registered.
+    /// Counts an endpoint's tries from 0 again, if it is registered.
     pub fn calm(&mut self, id: &EndpointId)
         ensures live { self.new.live ≡ update self.old.live id.now after_calm }
         ensures most { self.new.most ≡ self.old.most }
@@ -177,7 +177,7 @@ impl Endpoints {
         }
     }
 
-    /// Makes a change. All that may want memory comes first.
+    /// Makes a change. All that may take memory comes first.
     pub fn apply(&mut self, now: Moment, change: EndpointChange) -> Result<(), AllocError>
         requires { IsEndpointChange self.old change }
         ensures live { OnOk result (self.new.live
@@ -259,8 +259,8 @@ impl Endpoints {
     }
 }
 
-/// Takes out all aliases of an endpoint, if it is registered, in time that grows with the number of
-/// its aliases alone.
+/// Takes out all aliases of an endpoint, if it is registered. The time grows only with the number
+/// of its aliases.
 fn drop_aliases(registrations: &Registrations, aliases: &mut AliasTable, id: &EndpointId)
     requires { Agree registrations.now.live aliases.old.held }
     ensures { Becomes aliases.old aliases.new (without_holder aliases.old.held id.now) }

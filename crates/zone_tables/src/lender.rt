@@ -7,9 +7,9 @@ ghost use Rattle.zone_tables.specs.Pools.{MayBeAsked, figures_at};
 use crate::pool_figures::PoolFigures;
 use pools::{Lend, Pool, PoolSet};
 
-/// Who answers a zone's requests for units: the pools themselves, or whoever repeats the answers that
-/// they gave before. The tables keep the figures of the pools; who lends may have pools of its own,
-/// which have these figures.
+/// Who answers a zone's requests for units: the pools themselves, or whoever repeats the answers
+/// that they gave before. The tables keep the figures of the pools. A lender may have pools of its
+/// own, which have these figures.
 pub trait Lender {
     ghost use Rattle.std.specs.Prelude.{List};
     ghost use Rattle.pools.specs.declared.interface.Figures.{Figures};
@@ -19,10 +19,11 @@ pub trait Lender {
     /// It lends for pools with these figures.
     ghost lends_for: { Self → List Figures → Type 0 };
 
-    /// For pools with these figures it gives this answer to a request, and becomes the other.
+    /// For pools with these figures it gives this answer to a request, and becomes the other
+    /// lender.
     ghost lends: { Self → List Figures → RequestedUnits → Lend → Self → Type 0 };
 
-    /// Asks for units of a pool, whose index is below `pools.len()`.
+    /// Asks a pool for units. Its index has to be below `pools.len()`.
     fn ask(&mut self, pools: &PoolFigures, pool: usize, units: u64) -> Lend
         requires figures { lends_for self.old pools.now }
         requires may { MayBeAsked pools.now pool units }

@@ -1,6 +1,6 @@
-//! The tables of a gatekeeper's zone (ITU-T H.323): its endpoints with their aliases, its calls with
-//! the pools that lend them their bandwidth, and its settings. Each change of them is made as a whole
-//! or not at all.
+//! The tables of a gatekeeper's zone (ITU-T H.323): its endpoints with their aliases, its calls
+//! with the pools that lend them their bandwidth, and its settings. Each change of them is made as
+//! a whole or not at all.
 #![tactic(auto)]
 
 mod bandwidth;

@@ -11,8 +11,8 @@ use arrayvec::ArrayVec;
 use pools::{Figures, Lend, Pool, PoolSet};
 use std::marker::Model;
 
-/// The figures of the pools of a zone, in their order: at most sixteen, none of which has lent more
-/// than its limit. Contracts see the list.
+/// The figures of the pools of a zone, in their order. There are at most sixteen pools, and none
+/// has lent more than its limit. Contracts see the list.
 #[derive(Drop)]
 pub struct PoolFigures {
     items: ArrayVec<Figures, 16>,
@@ -57,7 +57,7 @@ impl PoolFigures {
         self.items.len()
     }
 
-    /// The figures of pool i, where `i` is below `len`.
+    /// The figures of pool i. `i` has to be below `len`.
     pub fn get(&self, i: usize) -> Figures
         requires { i < length self.now }
         ensures same { result ≡ figures_at self.now i }
@@ -66,8 +66,8 @@ impl PoolFigures {
         self.items.as_slice()[i]
     }
 
-    /// Pool i, where `i` is below `len`, gave this answer to a request for units. No other figures
-    /// change.
+    /// Notes that pool i gave this answer to a request for units. `i` has to be below `len`. No
+    /// other figures change.
     pub fn note_answer(&mut self, i: usize, units: u64, answer: Lend)
         requires asked { MayBeAsked self.old i units }
         requires answer { IsAnswer (figures_at self.old i) units answer }
@@ -78,8 +78,8 @@ impl PoolFigures {
         put(&mut self.items, i, figures);
     }
 
-    /// Units come back to pool i, where `i` is below `len`: at most those that it has lent. No other
-    /// figures change.
+    /// Notes that units came back to pool i: at most those that it has lent. `i` has to be below
+    /// `len`. No other figures change.
     pub fn take_back(&mut self, i: usize, n: u64)
         requires pool { i < length self.old }
         requires lent { n ≤ (figures_at self.old i).lent }

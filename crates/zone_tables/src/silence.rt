@@ -28,8 +28,8 @@ pub(crate) fn make_place(
     silences.reserve(1)
 }
 
-/// Enters anew when the silence of an endpoint ends, and nothing if it isn't registered. Whatever
-/// changes a registration or the number of its legs calls it.
+/// Enters again when the silence of an endpoint ends, or nothing if it isn't registered. This is
+/// called after each change of a registration or of the number of its endpoint's legs.
 pub(crate) fn watch(
     silences: &mut Silences,
     times: &Times,
@@ -51,7 +51,8 @@ pub(crate) fn watch(
     }
 }
 
-/// Enters when the silence of an endpoint ends, in place of what was entered for it. This takes no memory.
+/// Enters when the silence of an endpoint ends, in place of what was entered for it. This takes no
+/// memory.
 fn put(silences: &mut Silences, id: &EndpointId, end: Option<u64>)
     requires { HasPlace silences.old id.now }
     ensures { silences.new.ends ≡ insert silences.old.ends id.now end }
@@ -65,7 +66,7 @@ fn put(silences: &mut Silences, id: &EndpointId, end: Option<u64>)
     }
 }
 
-/// When the silence of an endpoint with so many legs ends, in milliseconds.
+/// When the silence of an endpoint with this many legs ends, in milliseconds.
 fn end_of(registration: &Registration, legs: usize, times: &Times) -> Option<u64>
     ensures { result ≡ end_of times.now legs registration.now }
 {
@@ -75,8 +76,8 @@ fn end_of(registration: &Registration, legs: usize, times: &Times) -> Option<u64
     end_in_call(registration, times)
 }
 
-/// When the silence of an endpoint in a call ends. It has no end that a clock doesn't reach, nor if the
-/// endpoint was asked more often than it is.
+/// When the silence of an endpoint in a call ends. None if no clock reaches that moment, or if the
+/// endpoint was interrogated more than `asks` times.
 fn end_in_call(registration: &Registration, times: &Times) -> Option<u64>
     ensures { result ≡ end_in_call times.now registration.now }
 {

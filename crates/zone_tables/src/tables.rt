@@ -41,8 +41,8 @@ use std::marker::Model;
 use zone_config::{Config, Moment};
 use zone_events::DueItem;
 
-/// The settings of a zone, its endpoints, and its calls with the figures of its pools. Each change of them says
-/// that they are sound after it.
+/// The settings of a zone, its endpoints, and its calls with the figures of its pools. The contract
+/// of each change says that the tables are sound after it.
 pub struct ZoneTables {
     config: Config,
     endpoints: Endpoints,
@@ -200,7 +200,7 @@ impl ZoneTables {
         self.endpoints.by_address(address)
     }
 
-    /// Those of the aliases that endpoints with another call signal address hold.
+    /// Those of these aliases that endpoints with another call signal address hold.
     pub fn conflicts(
         &self,
         aliases: &ReplyAliases,
@@ -213,8 +213,8 @@ impl ZoneTables {
         Ok(ReplyAliases::new(held).unwrap())
     }
 
-    /// The call signal address of whom the first of the aliases names that is registered, else the
-    /// other address.
+    /// The call signal address of the endpoint with the first of these aliases that is registered.
+    /// The other address if none is.
     pub fn translate(&self, aliases: &[Alias], other: Option<Address>) -> Option<Address>
         ensures { result ≡ translation self.now.live aliases.now other }
     {
@@ -270,7 +270,7 @@ impl ZoneTables {
         self.bandwidth.in_use()
     }
 
-    /// Makes a change. All that may want memory comes first.
+    /// Makes a change. All that may take memory comes first.
     pub fn apply(&mut self, now: Moment, change: Change) -> Result<(), AllocError>
         requires { IsPossible self.old change }
         ensures ok { OnOk result (self.new ≡ after_change now change self.old) }
@@ -327,7 +327,7 @@ impl ZoneTables {
         Ok(())
     }
 
-    /// Notes that the endpoint was heard that a request names, if it is registered.
+    /// Notes that the endpoint that a request names was heard, if it is registered.
     pub fn hear(&mut self, now: Moment, endpoint: Option<EndpointId>)
         ensures heard { self.new ≡ heard self.old now endpoint }
         ensures sound { SoundTables self.new }
@@ -346,8 +346,8 @@ impl ZoneTables {
         }
     }
 
-    /// Requests units of a pool, once, for a call, which opens with them, or gets them, if they are
-    /// lent. The memory is there before the pool is asked.
+    /// Requests units of a pool, once, for a call. If units are lent, the call opens with them, or
+    /// gets them if it is open. The memory is there before the pool is asked.
     pub fn request_units<L: Lender>(
         &mut self,
         request: &UnitRequest,
@@ -384,7 +384,7 @@ impl ZoneTables {
         Ok(answer)
     }
 
-    /// An endpoint leaves all its calls.
+    /// Takes an endpoint out of all its calls.
     fn leave_all(&mut self, id: &EndpointId)
         ensures tables { self.new ≡ without_legs_of self.old id.now }
         ensures pools { AreSameButLent self.old.pools self.new.pools }
@@ -455,8 +455,8 @@ impl ZoneTables {
         );
     }
 
-    /// What is due of an endpoint in a call, of any that something is due of: it is asked for a sign
-    /// of life, or counts as silent.
+    /// An item that is due of an endpoint in a call, any such item: the endpoint is asked for a
+    /// sign of life, or counts as silent. None if there is none.
     pub fn endpoint_due(&self, now: Moment) -> Option<DueItem>
         ensures { MatchOption result
             (IsNoEndpointDue now (times_of self.now.config) self.now.live self.now.calls)

@@ -10,7 +10,7 @@ use ras_module::{
     AdmissionRejectReason, BandRejectReason, CallKey, Delay, EndpointId, Reply, RequestSeqNum,
 };
 
-/// What the units are for that a pool is asked for.
+/// What the units of a request to a pool are for.
 #[derive(Clone, Copy)]
 pub enum Purpose {
     /// A call opens, with this leg.
@@ -49,7 +49,7 @@ impl UnitRequest {
         }
     }
 
-    /// The reply if none were.
+    /// The reply if no units were lent.
     pub fn refused(&self) -> Reply
         ensures { result ≡ refused_reply self.now self.now.purpose }
     {
@@ -68,7 +68,7 @@ impl UnitRequest {
 }
 
 impl UnitRequest {
-    /// The reply after a pool's answer, or that the request is in progress.
+    /// The reply after a pool's answer, or the reply that the request is in progress.
     pub fn reply(&self, answer: Lend, waits: bool, delay: Delay) -> Reply
         requires { IsAnswered self.now answer }
         ensures { result ≡ reply_of self.now answer waits delay }

@@ -26,11 +26,11 @@ pub record AreStored {S : Type 0} (calls : IndexMap CallKey Call S) (most : ℕ)
   pub few : length calls.entries ≤ most
   pub most_few : most ≤ 20000
 
--- only the legs of others are left of a call
+-- the call with only the legs of other endpoints
 abbrev pub with_legs_but : List ℕ → Call → Call
 with_legs_but endpoint call = record call { legs = without_leg call.legs endpoint }
 
--- the call under this key is changed, where it is there, with no memory taken
+-- the call under this key is changed, if there is one, and no memory is taken
 pub record Rewrites {S : Type 0} (change : Call → Call) (old new : IndexMap CallKey Call S)
     (key : CallKey) : Type 0 where
   pub updates : (call : Call) → get same_call_key old key ≡ Some call

@@ -3,16 +3,16 @@ use Rattle.std.specs.Prelude.{◌≡◌, ◌<◌, ◌+◌, ℕ, length, nat_eq, 
 use Rattle.admission.specs.declared.in_use.InUse.{InUse}
 use Rattle.admission.specs.Calls.{OpenCalls, in_use, in_use_of}
 
--- what is kept of the calls of a pool
+-- the sum that is kept of a pool
 abbrev pub sum_of : InUse → ℕ → ℕ
 sum_of sums pool = get_or sums.by_pool pool 0
 
--- what is kept of no calls
+-- the sums of no calls
 pub record AreZero (sums : InUse) : Type 0 where
   pub total : sums.total ≡ 0
   pub pools : (pool : ℕ) → sum_of sums pool ≡ 0
 
--- the calls of this pool use so many units more
+-- the calls of this pool use this many units more
 pub record Grows (old new : InUse) (pool units : ℕ) : Type 0 where
   pub total : new.total ≡ old.total + units
   pub pools : (p : ℕ) → p < length old.by_pool

@@ -13,7 +13,7 @@ key_of e = e.0
 abbrev pub held_of : List (Alias × Holding) → Held
 held_of entries = map.from_entries entries
 
--- the aliases that others than this endpoint hold are left, with no memory taken
+-- the aliases of all other endpoints are left, and no memory is taken
 pub record OthersLeft {S : Type 0} (old new : IndexMap Alias Holding S) (id : List ℕ)
     : Type 0 where
   pub entries : new.entries ≡ filter (λ e. not (pointwise nat_eq e.1.holder id)) old.entries

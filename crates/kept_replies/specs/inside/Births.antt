@@ -4,7 +4,7 @@ use Rattle.kept_replies.specs.Kept.{birth_of}
 use Rattle.kept_replies.specs.declared.key.KeptKey.{KeptKey}
 use Rattle.kept_replies.specs.declared.entry.KeptEntry.{KeptEntry}
 
--- births in the order of places, and whether each place has its own
+-- births in the order of places, and whether every place has its own
 pub record BirthTable : Type 0 where
   pub births : List ℕ
   pub is_whole : Bool
@@ -12,6 +12,6 @@ pub record BirthTable : Type 0 where
 abbrev pub births_in : List (KeptKey × KeptEntry) → List ℕ
 births_in rows = map birth_of rows
 
--- where each place has its birth, these are the births of the rows
+-- if every place has its birth, these are the births of the rows
 abbrev pub AreBorn : List (KeptKey × KeptEntry) → BirthTable → Type 0
 AreBorn rows t = IsTrue t.is_whole → t.births ≡ births_in rows

@@ -25,7 +25,7 @@ end_of row = end_in row.1.state
 abbrev pub retry_of : KeptKey × KeptEntry → Option ℕ
 retry_of row = retry_in row.1.state
 
--- the moments of the rows at places, and the number below which places can have them with no
+-- the moments of the rows at places, and the number below which places can have moments with no
 -- further memory
 pub record DueTable : Type 0 where
   pub ends : Moments
@@ -40,17 +40,17 @@ NoneCame now moments = (place moment : ℕ) → get moments place ≡ Some momen
 abbrev pub Came : ℕ → Moments → ℕ → Type 0
 Came now moments place = IsSomeAnd (get moments place) (λ moment. moment ≤ now)
 
--- what stands last goes to this place, in place of what stood there
+-- what stands last takes this place
 abbrev pub moved : Moments → ℕ → ℕ → Moments
 moved moments place last = renamed (remove moments place) last place
 
--- these are the moments at a place, and those at others are what they were
+-- these are the moments at this place, and those at other places are as before
 pub record Writes (old new : DueTable) (place : ℕ) (end retry : Option ℕ) : Type 0 where
   pub ends : Changed (get old.ends) (get new.ends) place end
   pub retries : Changed (get old.retries) (get new.retries) place retry
   pub room : new.room ≡ old.room
 
--- what stands last goes to this place
+-- what stands last takes this place
 pub record TakesOut (old new : DueTable) (place last : ℕ) : Type 0 where
   pub ends : new.ends ≡ moved old.ends place last
   pub retries : new.retries ≡ moved old.retries place last

@@ -7,7 +7,7 @@ use Rattle.kept_replies.specs.declared.key.KeptKey.{KeptKey}
 use Rattle.kept_replies.specs.declared.entry.KeptEntry.{KeptEntry}
 
 module _ {S : Type 0} where
-  -- what contracts see: there is room for as many more as each part has room for
+  -- what contracts see: the room is the least that any part has
   abbrev pub rows_seen : IndexMap KeptKey KeptEntry S → DueTable
       → IndexMap KeptKey KeptEntry (Unit {0})
   rows_seen rows due =

@@ -34,7 +34,8 @@ identifiers_of rows = filter_map (λ row. named_by row.1) rows
 abbrev pub is_named_by : List ℕ → KeptEntry → Bool
 is_named_by id entry = is_identifier id (named_by entry)
 
--- no two rows share a key or a birth, there are no more than there may be, and each has an entry
+-- no two rows share a key or a birth, there are no more rows than there may be, and each has an
+-- entry
 pub record AreStored {S : Type 0} (rows : IndexMap KeptKey KeptEntry S) (most : ℕ) : Type 0 where
   pub each : AreEntries (kept_of rows.entries)
   pub births : AreBornApart (kept_of rows.entries)
@@ -52,7 +53,7 @@ pub record Puts {S : Type 0} (old new : IndexMap KeptKey KeptEntry S) (key : Kep
   pub room : spare old ≤ spare new + 1
   pub replaces : get same_key old key ≢ None → spare old ≤ spare new
 
--- the entry under this key is changed, where it is there, with no memory taken
+-- the entry under this key is changed, if there is one, and no memory is taken
 pub record Rewrites {S : Type 0} (change : KeptEntry → KeptEntry)
     (old new : IndexMap KeptKey KeptEntry S) (key : KeptKey) : Type 0 where
   pub updates : (entry : KeptEntry) → get same_key old key ≡ Some entry
@@ -63,7 +64,7 @@ pub record Rewrites {S : Type 0} (change : KeptEntry → KeptEntry)
   pub same_length : length new.entries ≡ length old.entries
   pub same_room : spare new ≡ spare old
 
--- the row is put behind the others
+-- the row is put after the others
 abbrev pub Appends : List (KeptKey × KeptEntry) → List (KeptKey × KeptEntry) → KeptKey × KeptEntry
     → Type 0
 Appends old new row = new ≡ old ++ row ∷ []
@@ -82,7 +83,7 @@ pub record RowPasses (test : KeptEntry → Bool) (rows : List (KeptKey × KeptEn
   pub passes : test row.1 ≡ true
   pub is_born : row.1.born ≡ born
 
--- the row is removed, where it is one, with no memory taken
+-- the row is removed, if there is one, and no memory is taken
 pub record Removes {S : Type 0} (old new : IndexMap KeptKey KeptEntry S)
     (row : Option (KeptKey × KeptEntry)) : Type 0 where
   pub updates : IfSome row (λ row. Updates same_key old new row.0 None)

@@ -7,7 +7,7 @@ use Rattle.kept_replies.specs.inside.Stored.{is_identifier, is_named_by}
 use Rattle.kept_replies.specs.declared.key.KeptKey.{KeptKey}
 use Rattle.kept_replies.specs.declared.entry.KeptEntry.{KeptEntry}
 
--- identifiers with how often each is told, and whether that is so of all of them
+-- identifiers with how often each is told, and whether this holds of all identifiers
 pub record ToldTable : Type 0 where
   pub counts : List (List ℕ × ℕ)
   pub is_whole : Bool
@@ -19,7 +19,7 @@ abbrev pub count_of : Option ℕ → ℕ
 count_of None = 0
 count_of (Some n) = n
 
--- how often the table says that an identifier is told
+-- how often an identifier is told, as the table has it
 abbrev pub times : ToldTable → List ℕ → ℕ
 times t id = count_of (lookup (same_id id) t.counts)
 
@@ -31,6 +31,6 @@ once named id = cond (is_identifier id named) 1 0
 abbrev pub times_in : List (KeptKey × KeptEntry) → List ℕ → ℕ
 times_in rows id = count_by (is_named_by id) (values_of rows)
 
--- where the table is whole, it is right
+-- if the table is whole, it is right
 abbrev pub AreTold : List (KeptKey × KeptEntry) → ToldTable → Type 0
 AreTold rows t = IsTrue t.is_whole → (id : List ℕ) → times t id ≡ times_in rows id

@@ -1,5 +1,5 @@
 -- How the registrations are stored: rows in a slab, an index to them by identifier and one by call
--- signal address, and their deadlines in the order of the first.
+-- signal address, and their deadlines in the order of the first index.
 use Rattle.std.specs.Prelude.{◌≡◌, ◌≤◌, ◌-◌, min, ℕ, List, Some, length, nat_eq, slice_get}
 use Rattle.std.specs.List.{filter_map}
 use Rattle.std.specs.Option.{option_map}
@@ -50,7 +50,7 @@ module _ {S : Type 0} (rows : Slab Registration) (by_identifier : IndexMap (List
     pub fits : slab_len rows ≤ rows.capacity
 
   module _ (deadlines : DeadlineTable) where
-    -- how many more fit everywhere
+    -- how many more registrations fit in each of these parts
     abbrev pub room_of : ℕ
     room_of =
         min (min (rows.capacity - slab_len rows) (deadlines.room - length by_identifier.entries))
@@ -65,7 +65,7 @@ module _ {S : Type 0} (rows : Slab Registration) (by_identifier : IndexMap (List
       order = order_of rows by_identifier.entries;
     }
 
-    -- the rows are stored so, and due so
+    -- all rows are stored so, and each is due at its deadline
     pub record IsTable (most : ℕ) : Type 0 where
       pub stored : IsStored most
       pub due : AreDue (order_of rows by_identifier.entries) deadlines.moments

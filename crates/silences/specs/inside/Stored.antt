@@ -1,5 +1,5 @@
--- How the ends of silences are stored: each with its identifier, and those that are watched once
--- more by the places of their rows.
+-- How the ends of silences are stored: each with its identifier. Those that are watched are stored
+-- once more, by the places of their rows.
 use Rattle.std.specs.Prelude.{◌≡◌, ◌≤◌, ◌-◌, min, ℕ, List, Option, length, slice_get}
 use Rattle.std.specs.Option.{option_and_then}
 use Rattle.std.specs.FinMap as map
@@ -27,7 +27,7 @@ AreDue entries moments =
     (place : ℕ) → map.get moments place ≡ option_and_then end_of (slice_get entries place)
 
 module _ {S : Type 0} (rows : IndexMap (List ℕ) (Option ℕ) S) (order : DeadlineTable) where
-  -- how many more fit in both
+  -- how many more endpoints fit in both tables
   abbrev pub room_of : ℕ
   room_of = min (spare rows) (order.room - length rows.entries)
 

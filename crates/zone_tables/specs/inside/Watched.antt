@@ -15,18 +15,19 @@ use Rattle.zone_tables.specs.declared.change.CallChange.{CallChange}
 use Rattle.zone_tables.specs.declared.change.CallChange.TheVariants.{Opening, Joining, Lowering}
 use Rattle.zone_tables.specs.declared.change.CallChange.TheVariants.{Leaving}
 
--- so long after a moment, if that is a number of 64 bits: no moment is later
+-- the moment that is `wait` after `since`, if that is a number of 64 bits: no moment is later
 abbrev pub end_after : ℕ → ℕ → Option ℕ
 end_after since wait = if nat_lt (since + wait) (2 ^ 64) then Some (since + wait) else None
 
--- of an endpoint in a call: if it wasn't asked since it was heard, that long after it was heard; else
--- that long after it was asked, unless it was asked more often than it is
+-- when the silence of an endpoint in a call ends: if it wasn't asked since it was heard, the time
+-- `silence` after it was heard; else the time `ask_wait` after it was asked, unless it was asked
+-- more than `asks` times
 abbrev pub end_in_call : Times → Registration → Option ℕ
 end_in_call times r =
     if nat_eq r.tries 0 then end_after r.heard times.silence
     else if nat_le r.tries times.asks then end_after r.asked times.ask_wait else None
 
--- of an endpoint that takes part in so many calls
+-- the same for an endpoint that takes part in this many calls
 abbrev pub end_of : Times → ℕ → Registration → Option ℕ
 end_of times legs r = if nat_eq legs 0 then None else end_in_call times r
 
@@ -38,7 +39,7 @@ IsWatched times live calls ends id =
 abbrev pub AreWatched : Times → Live → OpenCalls → Ends → Type 0
 AreWatched times live calls ends = (id : List ℕ) → IsWatched times live calls ends id
 
--- so it is with each endpoint but this one
+-- the same for each endpoint but this one
 abbrev pub AreOthersWatched : Times → Live → OpenCalls → Ends → List ℕ → Type 0
 AreOthersWatched times live calls ends id =
     (q : List ℕ) → q ≢ id → IsWatched times live calls ends q
@@ -54,7 +55,7 @@ endpoint_of_change (Rewriting id e deadline) = id
 endpoint_of_change (Addition r) = r.identifier
 endpoint_of_change (Removal id) = id
 
--- the endpoint whose legs it changes in number
+-- the endpoint whose number of legs it changes
 abbrev pub mover_of_change : CallChange → Option (List ℕ)
 mover_of_change (Opening key pool leg) = Some leg.endpoint
 mover_of_change (Joining key leg) = Some leg.endpoint

@@ -5,7 +5,7 @@ use Rattle.admission.specs.Calls.{legs_of}
 use Rattle.zone_tables.specs.Leaving.{AreSameButLent, HaveOthersLegs, rest_of}
 use Rattle.zone_tables.proofs.bandwidth.Bandwidth.leave_all.Given as goal
 
--- some calls were left so far, and what is left of all is the same
+-- some calls were left so far, and what will be left of all is the same
 abbrev pub invariant-loop-call : goal.invariant-loop-call
 invariant-loop-call l = record {
   calls : (key : CallKey) → rest_of l.endpoint (fin.get l.self.usage.calls key)
