@@ -1,0 +1,97 @@
+%% Judges the gatekeeper by requests that the outside codec writes: each reply, read by that codec, has
+%% to be what the values of its request call for. Ends with `N passed, M failed`.
+-module(judge_requests).
+-export([main/0]).
+
+-define(ROUNDS, 8).
+-define(REQUESTS_OF_A_ROUND, 25).
+-define(LONGEST_DATAGRAM, 4096).
+
+main() ->
+    Gatekeeper = os:getenv("GATEKEEPER"),
+    Stories = list_to_integer(os:getenv("STORIES", "60")),
+    Results = lists:append([story(Gatekeeper, Seed) || Seed <- lists:seq(1, Stories)]),
+    Passed = length([ok || {_, ok} <- Results]),
+    Failed = length(Results) - Passed,
+    [io:format("~ts~n", [Text]) || {_, Text} <- lists:sublist([Result || Result = {_, Text} <- Results, Text =/= ok], 20)],
+    [io:format("  ~5b ~s~n", [Count, What]) || {What, Count} <- counts([What || {What, _} <- Results])],
+    io:format("~b requests written, ~b replies compared, ~b differences~n",
+              [length(Results), length([ok || {What, _} <- Results, is_reply(What)]), Failed]),
+    io:format("~b passed, ~b failed~n", [Passed, Failed]),
+    halt(case Failed =:= 0 andalso Passed > 0 of true -> 0; false -> 1 end).
+
+counts(Kinds) ->
+    maps:to_list(lists:foldl(fun(Kind, Sum) -> maps:update_with(Kind, fun(N) -> N + 1 end, 1, Sum) end, #{}, Kinds)).
+
+is_reply(What) -> string:find(What, "ignored") =:= nomatch andalso string:find(What, "silent") =:= nomatch.
+
+%% The comparisons of a story. Each round draws its requests from the zone as it is after the rounds
+%% before, whose identifiers are known by then; the gatekeeper is run over all rounds so far.
+story(Gatekeeper, Seed) ->
+    rand:seed(exsss, Seed),
+    Later = Seed rem 2 =:= 0,
+    Module = case Later of true -> 'H225Later'; false -> 'H225' end,
+    Settings = story:settings(),
+    Sets = story:sets(),
+    Numbers = chunks(seq_nums(?ROUNDS * ?REQUESTS_OF_A_ROUND)),
+    {_, Results} = lists:foldl(
+        fun(Round, {Written, _}) ->
+            Zone = element(1, compared(Written, Gatekeeper, Settings)),
+            Requests = story:requests(Round, Zone, Sets, Later),
+            Sum = Written ++ [{Request, encoded(Module, Request)} || Request <- Requests],
+            {Sum, element(2, compared(Sum, Gatekeeper, Settings))}
+        end, {[], []}, Numbers),
+    [{What, located(Seed, Place, Result)} || {Place, {What, Result}} <- lists:zip(lists:seq(1, length(Results)), Results)].
+
+located(_, _, ok) -> ok;
+located(Seed, Place, Text) -> io_lib:format("story ~b, event ~b: ~ts", [Seed, Place, Text]).
+
+%% Different numbers from 1 to 65535, with both ends among them.
+seq_nums(Count) ->
+    Drawn = lists:usort([1, 255, 256, 257, 65535 | [values:number(1, 65535) || _ <- lists:seq(1, 3 * Count)]]),
+    Mixed = [Number || {_, Number} <- lists:sort([{rand:uniform(), Number} || Number <- Drawn])],
+    lists:sublist([1, 65535 | lists:subtract(Mixed, [1, 65535])], Count).
+
+chunks([]) -> [];
+chunks(Numbers) ->
+    {Chunk, Rest} = lists:split(?REQUESTS_OF_A_ROUND, Numbers),
+    [Chunk | chunks(Rest)].
+
+encoded(Module, Request) ->
+    {ok, Octets} = Module:encode('RasMessage', Request),
+    iolist_to_binary(Octets).
+
+%% The zone after these requests, and a comparison for each: {What, ok} or {What, Text}.
+compared([], _, Settings) -> {zone:new(Settings), []};
+compared(Written, Gatekeeper, Settings) ->
+    Outcomes = replay:run(Gatekeeper, Settings, [Octets || {_, Octets} <- Written]),
+    lists:foldl(
+        fun({{Request, Octets}, Outcome}, {Zone, Results}) ->
+            Read = read(Outcome),
+            {Expected, After} = expected(Request, Octets, identifier_in(Read), Zone),
+            {After, Results ++ [{what(Request, Expected), difference(Request, Octets, Expected, Read)}]}
+        end, {zone:new(Settings), []}, lists:zip(Written, Outcomes)).
+
+expected(_, Octets, _, Zone) when byte_size(Octets) > ?LONGEST_DATAGRAM -> {{ignored, "too-long"}, Zone};
+expected(Request, _, Handed, Zone) -> zone:answer(Request, Handed, Zone).
+
+%% What came of a datagram, with its reply read by the outside codec.
+read({served, Octets}) ->
+    case 'H225':decode('RasMessage', Octets) of
+        {ok, Message} -> {reply, Message};
+        {error, Fault} -> {unreadable_reply, Octets, Fault}
+    end;
+read(Outcome) -> Outcome.
+
+identifier_in({reply, {registrationConfirm, #{endpointIdentifier := Identifier}}}) -> Identifier;
+identifier_in(_) -> none.
+
+what({Kind, _}, {reply, {Reply, #{rejectReason := {Reason, _}}}}) -> io_lib:format("~s: ~s ~s", [Kind, Reply, Reason]);
+what({Kind, _}, {reply, {Reply, _}}) -> io_lib:format("~s: ~s", [Kind, Reply]);
+what({Kind, _}, {ignored, Why}) -> io_lib:format("~s: ignored ~s", [Kind, Why]);
+what({Kind, _}, silent) -> io_lib:format("~s: silent", [Kind]).
+
+difference(_, _, Expected, Expected) -> ok;
+difference(Request, Octets, Expected, Read) ->
+    io_lib:format("~n  octets   ~s~n  request  ~tp~n  expected ~tp~n  answered ~tp",
+                  [binary:encode_hex(Octets), Request, Expected, Read]).
