@@ -24,24 +24,25 @@ requests(Numbers, Zone, Sets, Later) ->
         Number <- Numbers, {Kind, Handed} <- [drawn(one_of(kinds()), Zone, Sets, Later)]].
 
 kinds() ->
-    [gatekeeperRequest, registrationRequest, registrationRequest, registrationRequest, unregistrationRequest,
+    [gatekeeperRequest, registrationRequest, registrationRequest, registrationRequest, registrationRequest,
+     registrationRequest, unregistrationRequest,
      admissionRequest, admissionRequest, admissionRequest, admissionRequest, bandwidthRequest, bandwidthRequest,
-     disengageRequest, infoRequestResponse, other].
+     disengageRequest, disengageRequest, infoRequestResponse, other].
 
 %% A kind of message, with the components that its answer depends on.
 drawn(gatekeeperRequest, Zone, _, _) -> {gatekeeperRequest, with_name(Zone, #{})};
 drawn(registrationRequest, Zone, Sets, Later) ->
     Base = #{callSignalAddress => addresses(addresses, Sets, Later), rasAddress => addresses(ras_addresses, Sets, Later)},
-    Named = with_name(Zone, maybe(terminalAlias, fun() -> aliases(Sets, Later) end, Base)),
-    Lived = maybe(timeToLive, fun() -> number(1, 4294967295) end, Named),
+    Named = with_name(Zone, drawn_or_not(terminalAlias, fun() -> aliases(Sets, Later) end, Base)),
+    Lived = drawn_or_not(timeToLive, fun() -> number(1, 4294967295) end, Named),
     {registrationRequest, kept_alive(Zone, Lived)};
 drawn(unregistrationRequest, Zone, Sets, Later) ->
     Base = #{callSignalAddress => addresses(addresses, Sets, Later)},
-    {unregistrationRequest, maybe(endpointIdentifier, fun() -> identifier(Zone) end, Base)};
+    {unregistrationRequest, drawn_or_not(endpointIdentifier, fun() -> identifier(Zone) end, Base)};
 drawn(admissionRequest, Zone, Sets, Later) ->
     Base = (of_call(Zone, Sets, Later))#{bandWidth => units(), answerCall => chance(5)},
-    Called = maybe(destinationInfo, fun() -> aliases(Sets, Later) end, Base),
-    {admissionRequest, maybe(destCallSignalAddress, fun() -> address(Later) end, Called)};
+    Called = drawn_or_not(destinationInfo, fun() -> aliases(Sets, Later) end, Base),
+    {admissionRequest, drawn_or_not(destCallSignalAddress, fun() -> address(Later) end, Called)};
 drawn(bandwidthRequest, Zone, Sets, Later) ->
     {bandwidthRequest, (of_call(Zone, Sets, Later))#{bandWidth => units()}};
 drawn(disengageRequest, Zone, Sets, Later) -> {disengageRequest, of_call(Zone, Sets, Later)};
@@ -49,21 +50,20 @@ drawn(infoRequestResponse, Zone, _, _) -> {infoRequestResponse, #{endpointIdenti
 drawn(other, _, _, _) ->
     {one_of([locationRequest, unknownMessageResponse, disengageConfirm, requestInProgress]), #{}}.
 
-maybe(Key, Draw, Components) -> values:optional(Key, Draw, Components).
+drawn_or_not(Key, Draw, Components) -> values:optional(Key, Draw, Components).
 
 %% With the zone's name, another one like it, or none.
 with_name(#{settings := #{name := Name}}, Components) ->
-    case number(1, 8) of
+    case rand:uniform(20) of
         1 -> Components#{gatekeeperIdentifier => text(1, 128)};
         2 -> Components#{gatekeeperIdentifier => values:altered(Name)};
-        3 -> Components#{gatekeeperIdentifier => Name};
-        4 -> Components#{gatekeeperIdentifier => Name};
+        Drawn when Drawn < 10 -> Components#{gatekeeperIdentifier => Name};
         _ -> Components
     end.
 
 kept_alive(Zone, Components) ->
-    case number(1, 4) of
-        1 -> maybe(endpointIdentifier, fun() -> identifier(Zone) end, Components#{keepAlive => true});
+    case rand:uniform(5) of
+        1 -> drawn_or_not(endpointIdentifier, fun() -> identifier(Zone) end, Components#{keepAlive => true});
         2 -> Components#{keepAlive => false, endpointIdentifier => identifier(Zone)};
         _ -> Components
     end.
@@ -73,7 +73,7 @@ identifier(#{registered := Registered}) ->
     case maps:keys(Registered) of
         [] -> text(1, 128);
         Known ->
-            case number(1, 10) of
+            case rand:uniform(20) of
                 1 -> text(1, 128);
                 2 -> values:altered(one_of(Known));
                 _ -> one_of(Known)
@@ -97,14 +97,30 @@ other_address(Later) ->
 %% Some aliases: of the set, of any kind, and seldom many.
 aliases(Sets, Later) ->
     One = fun() -> one_of([one_of(maps:get(aliases, Sets)), one_of(maps:get(aliases, Sets)), values:alias_address(Later)]) end,
-    case chance(12) of
-        true -> [{dialledDigits, integer_to_list(N)} || N <- lists:seq(1, number(30, 35))];
-        false -> list_of(0, 4, One)
+    case rand:uniform(30) of
+        1 -> [{dialledDigits, integer_to_list(N)} || N <- lists:seq(1, number(30, 35))];
+        2 -> list_of(1, 12, fun() -> {'h323-ID', text(250, 256)} end);
+        _ -> list_of(0, 4, One)
     end.
 
 %% An endpoint and a call: by its conferenceID, or by a callIdentifier, which may be all zero.
-of_call(Zone, #{calls := Calls}, Later) ->
-    Base = #{endpointIdentifier => identifier(Zone), conferenceID => one_of(Calls)},
-    maybe(callIdentifier, fun() -> values:later(Later, #{guid => one_of(Calls)}) end, Base).
+of_call(Zone, #{calls := Keys}, Later) ->
+    {Identifier, Key} = one_of([{identifier(Zone), one_of(Keys)}, leg(Zone, Keys)]),
+    case one_of([conference, identifier, none]) of
+        conference -> #{endpointIdentifier => Identifier, conferenceID => Key};
+        identifier -> named_call(Identifier, one_of(Keys), Key, Later);
+        none -> named_call(Identifier, Key, <<0:128>>, Later)
+    end.
+
+named_call(Identifier, Conference, Guid, Later) ->
+    #{endpointIdentifier => Identifier, conferenceID => Conference,
+      callIdentifier => values:later(Later, #{guid => Guid})}.
+
+%% An endpoint and a call in which it takes part, if there is a call.
+leg(Zone = #{calls := Calls}, Keys) ->
+    case [{Identifier, Key} || {Key, #{legs := Legs}} <- maps:to_list(Calls), Identifier <- maps:keys(Legs)] of
+        [] -> {identifier(Zone), one_of(Keys)};
+        Known -> one_of(Known)
+    end.
 
 units() -> one_of([0, number(1, 3000), number(1, 30000), number(0, 4294967295)]).
