@@ -12,7 +12,7 @@ main() ->
     Names = lists:usort(maps:keys(Octets) ++ maps:keys(Values)),
     Faults = [{Name, Fault} || Name <- Names,
                                Fault <- faults(maps:get(Name, Octets, none), maps:get(Name, Values, none))],
-    [io:format("~s: ~tp~n", [Name, Fault]) || {Name, Fault} <- Faults],
+    [io:format("~s: ~p~n", [Name, Fault]) || {Name, Fault} <- Faults],
     Failed = length(lists:usort([Name || {Name, _} <- Faults])),
     io:format("~b worked messages read and written~n", [length(Names)]),
     io:format("~b passed, ~b failed~n", [length(Names) - Failed, Failed]),

@@ -40,11 +40,11 @@ drawn(unregistrationRequest, Zone, Sets, Later) ->
     Base = #{callSignalAddress => addresses(addresses, Sets, Later)},
     {unregistrationRequest, drawn_or_not(endpointIdentifier, fun() -> identifier(Zone) end, Base)};
 drawn(admissionRequest, Zone, Sets, Later) ->
-    Base = (of_call(Zone, Sets, Later))#{bandWidth => units(), answerCall => chance(5)},
+    Base = (of_call(Zone, Sets, Later))#{bandWidth => units(Zone), answerCall => chance(5)},
     Called = drawn_or_not(destinationInfo, fun() -> aliases(Sets, Later) end, Base),
     {admissionRequest, drawn_or_not(destCallSignalAddress, fun() -> address(Later) end, Called)};
 drawn(bandwidthRequest, Zone, Sets, Later) ->
-    {bandwidthRequest, (of_call(Zone, Sets, Later))#{bandWidth => units()}};
+    {bandwidthRequest, (of_call(Zone, Sets, Later))#{bandWidth => units(Zone)}};
 drawn(disengageRequest, Zone, Sets, Later) -> {disengageRequest, of_call(Zone, Sets, Later)};
 drawn(infoRequestResponse, Zone, _, _) -> {infoRequestResponse, #{endpointIdentifier => identifier(Zone)}};
 drawn(other, _, _, _) ->
@@ -123,4 +123,8 @@ leg(Zone = #{calls := Calls}, Keys) ->
         Known -> one_of(Known)
     end.
 
-units() -> one_of([0, number(1, 3000), number(1, 30000), number(0, 4294967295)]).
+%% Bandwidth: sometimes all that the zone or its pool has left, or one unit more.
+units(Zone) ->
+    Left = min(zone:units_left(Zone), zone:pool_left(Zone)),
+    one_of([0, number(1, 3000), number(1, 30000), number(0, 4294967295),
+            min(Left, 4294967295), min(Left + 1, 4294967295)]).

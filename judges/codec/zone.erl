@@ -1,7 +1,7 @@
 %% What the tables of docs/PROFILE.md call for: the answer to a request, from the values that were
 %% written into it, and the zone after it. The zone has one fixed pool, and no time passes.
 -module(zone).
--export([new/1, answer/3]).
+-export([new/1, answer/3, units_left/1, pool_left/1]).
 
 -define(PROTOCOL, {0, 0, 8, 2250, 0, 2}).
 -define(MOST_ALIASES, 32).
