@@ -3,7 +3,7 @@
 here=$(cd "$(dirname "${BASH_SOURCE[0]}")" && pwd)
 export GATEKEEPER=${GATEKEEPER:-$here/../gatekeeper}
 export STORIES=${STORIES:-40}
-export VECTORS=$here/../crates/vectors/src WORKED_TERMS=$here/codec/worked.terms
+export EXAMPLES=$here/../examples VECTORS=$here/../crates/vectors/src WORKED_TERMS=$here/codec/worked.terms
 
 # Says that a Debian package is missing if a command doesn't succeed.
 needs() {
@@ -36,7 +36,8 @@ compile() {
 }
 
 # The judges. Each prints what it finds, ends with `N passed, M failed`, and returns 1 if any failed.
-judge_replies() { python3 -B "$here/dissector/judge.py" "$here/../examples" "$GATEKEEPER"; }
+judge_replies() { python3 -B "$here/dissector/judge.py" "$EXAMPLES" "$GATEKEEPER"; }
+judge_octets() { erlang judge_octets; }
 judge_vectors() { erlang judge_vectors; }
 judge_requests() { erlang judge_requests; }
 

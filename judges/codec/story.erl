@@ -7,7 +7,7 @@
 settings() ->
     #{name => list_of(1, one_of([2, 12, 128]), fun() -> one_of("abcdefghijklmnopqrstuvwxyzABCXYZ0123456789-_") end),
       address => ip_address(), limit => one_of([3000, 100000, 1000000000000]), pool => one_of([2500, 1000000000000]),
-      call_limit => one_of([1000, 20000, 4294967295]), time_to_live => one_of([60, 3600, 4294967295]),
+      call_limit => one_of([1000, 20000, 20000, 4294967295]), time_to_live => one_of([60, 3600, 4294967295]),
       endpoints => one_of([3, 20000]), calls => one_of([2, 20000])}.
 
 %% What the requests of a story share.
@@ -126,5 +126,5 @@ leg(Zone = #{calls := Calls}, Keys) ->
 %% Bandwidth: sometimes all that the zone or its pool has left, or one unit more.
 units(Zone) ->
     Left = min(zone:units_left(Zone), zone:pool_left(Zone)),
-    one_of([0, number(1, 3000), number(1, 30000), number(0, 4294967295),
+    one_of([0, number(1, 3000), number(1, 30000), number(0, 4294967295), min(Left, 4294967295),
             min(Left, 4294967295), min(Left + 1, 4294967295)]).

@@ -48,18 +48,25 @@ def line(packet):
     return " ".join([name(kind), *components])
 
 
+def end(part):
+    """Where a part ends in the packet; of the length of an open type, where that type ends."""
+    behind = int(part.get("pos")) + int(part.get("size"))
+    return behind + int(part.get("show")) if part.get("name") == "per.open_type_length" else behind
+
+
 def complaints(packet, length):
     """What is wrong with a packet whose payload has that many octets: anything that the dissector
-    marks (malformed, cut, an expert's note), octets handed to no dissector, and octets behind the
-    last one that is dissected."""
+    marks (malformed, cut, an expert's note), octets handed to no dissector, octets behind the last
+    one that is dissected, and octets that are missing."""
     found = []
     for part in packet.iter():
         marked = part.get("name", "")
         if marked.startswith("_ws.") or marked == "data":
             found.append(part.get("showname") or marked)
     if message(packet) is not None:
-        ends = [int(part.get("pos")) + int(part.get("size")) for part in message(packet).iter() if len(part) == 0]
-        left = IP_AND_UDP_HEADERS + length - max(ends)
-        if left != 0:
+        left = IP_AND_UDP_HEADERS + length - max(end(part) for part in message(packet).iter() if len(part) == 0)
+        if left > 0:
             found.append(f"{left} octets aren't dissected")
+        if left < 0:
+            found.append(f"{-left} octets are missing")
     return found
