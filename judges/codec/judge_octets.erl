@@ -21,10 +21,12 @@ replies(Script) ->
     [{[Name, ", event ", hd(string:lexemes(Line, " "))], list_to_binary(lists:last(string:lexemes(Line, " ")))}
      || Line <- Lines, string:find(Line, " > ") =/= nomatch].
 
+%% What the codec writes of what it reads, in hexadecimal, or what it reports instead.
 written_again(Digits) ->
-    case 'H225':decode('RasMessage', binary:decode_hex(Digits)) of
-        {ok, Value} ->
-            {ok, Octets} = 'H225':encode('RasMessage', Value),
-            binary:encode_hex(iolist_to_binary(Octets));
-        Fault -> Fault
-    end.
+    maybe_hex(case 'H225':decode('RasMessage', binary:decode_hex(Digits)) of
+                  {ok, Value} -> 'H225':encode('RasMessage', Value);
+                  Fault -> Fault
+              end).
+
+maybe_hex({ok, Octets}) -> binary:encode_hex(Octets);
+maybe_hex(Fault) -> Fault.
