@@ -40,6 +40,7 @@ judge_replies() { python3 -B "$here/dissector/judge.py" "$EXAMPLES" "$GATEKEEPER
 judge_octets() { erlang judge_octets; }
 judge_vectors() { erlang judge_vectors; }
 judge_requests() { erlang judge_requests; }
+judge_timers() { erlang judge_timers; }
 
 erlang() {
   ERL_CRASH_DUMP=/dev/null erl -noshell -pa "$JUDGES_FOLDER" -s "$1" main
