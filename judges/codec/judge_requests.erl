@@ -6,7 +6,6 @@
 -define(ROUNDS, 20).
 -define(REQUESTS_OF_A_ROUND, 10).
 -define(LONGEST_DATAGRAM, 4096).
-
 -define(DIFFERENCES_SHOWN, 10).
 
 main() ->
@@ -37,19 +36,22 @@ story(Gatekeeper, Seed) ->
     Settings = story:settings(),
     Sets = story:sets(),
     Rounds = chunks(seq_nums(?ROUNDS * ?REQUESTS_OF_A_ROUND)),
-    {_, _, Results} = lists:foldl(
-        fun(Numbers, Told = {Written, Zone, Before}) ->
-            case lists:all(fun({_, Result}) -> Result =:= ok end, Before) of
-                false -> Told;
-                true ->
-                    Requests = story:requests(Numbers, Zone, Sets, Later),
-                    Sum = Written ++ [{Request, encoded(Module, Request)} || Request <- Requests],
-                    {After, Compared} = compared(Sum, Gatekeeper, Settings),
-                    {Sum, After, Compared}
-            end
-        end, {[], zone:new(Settings), []}, Rounds),
+    Round = fun(Numbers, {Written, Zone, _}) ->
+        Requests = story:requests(Numbers, Zone, Sets, Later),
+        Sum = Written ++ [{Request, encoded(Module, Request)} || Request <- Requests],
+        {After, Compared} = compared(Sum, Gatekeeper, Settings),
+        {Sum, After, Compared}
+    end,
+    {_, _, Results} = told(Round, {[], zone:new(Settings), []}, Rounds),
     Places = lists:seq(1, length(Results)),
     [{What, located(Seed, Place, Result)} || {Place, {What, Result}} <- lists:zip(Places, Results)].
+
+told(_, Sum, []) -> Sum;
+told(Round, Sum = {_, _, Results}, [Numbers | Rest]) ->
+    case lists:all(fun({_, Result}) -> Result =:= ok end, Results) of
+        true -> told(Round, Round(Numbers, Sum), Rest);
+        false -> Sum
+    end.
 
 located(_, _, ok) -> ok;
 located(Seed, Place, Text) -> io_lib:format("story ~b, event ~b: ~s", [Seed, Place, Text]).

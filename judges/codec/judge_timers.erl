@@ -29,8 +29,8 @@ zone(Seed) ->
 
 settings() ->
     maps:merge(story:settings(),
-               #{limit => 1000000000000, call_limit => 4294967295, endpoints => 10, calls => 10, time_to_live => 3600000,
-                 delay => values:number(2, 65535), silence => values:number(2, 3000000),
+               #{limit => 1000000000000, call_limit => 4294967295, endpoints => 10, calls => 10,
+                 time_to_live => 3600000, delay => values:number(2, 65535), silence => values:number(2, 3000000),
                  ask_wait => values:number(2, 100000), window => ?LONGEST, burst => values:number(1, 100000)}).
 
 %% Two endpoints, the first of which calls the second with all that the pool lends before its next turn.

@@ -6,7 +6,8 @@
 
 main() ->
     Folder = os:getenv("VECTORS"),
-    Octets = maps:from_list(lists:append([worked(filename:join(Folder, Name)) || Name <- ["requests.rt", "replies.rt"]])),
+    Files = [filename:join(Folder, Name) || Name <- ["requests.rt", "replies.rt"]],
+    Octets = maps:from_list(lists:append([worked(File) || File <- Files])),
     {ok, Terms} = file:consult(os:getenv("WORKED_TERMS")),
     Values = maps:from_list([{Name, {Kind, Components}} || {Name, Kind, Components} <- Terms]),
     Names = lists:usort(maps:keys(Octets) ++ maps:keys(Values)),

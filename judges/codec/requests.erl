@@ -46,11 +46,13 @@ own(gatekeeperRequest, Later) ->
     [{callServices, fun() -> values:qseries(Later) end}, {endpointAlias, list(fun() -> alias_address(Later) end)},
      {tokens, list(fun() -> values:token(Later) end)}];
 own(registrationRequest, Later) ->
-    [{alternateEndpoints, list(fun() -> values:endpoint(Later) end)}, {tokens, list(fun() -> values:token(Later) end)},
-     {cryptoTokens, list(fun values:crypto_token/0)}, {integrityCheckValue, fun values:icv/0},
+    [{alternateEndpoints, list(fun() -> values:endpoint(Later) end)},
+     {tokens, list(fun() -> values:token(Later) end)}, {cryptoTokens, list(fun values:crypto_token/0)},
+     {integrityCheckValue, fun values:icv/0},
      {willSupplyUUIEs, fun flag/0}];
 own(unregistrationRequest, Later) ->
-    [{endpointAlias, list(fun() -> alias_address(Later) end)}, {alternateEndpoints, list(fun() -> values:endpoint(Later) end)},
+    [{endpointAlias, list(fun() -> alias_address(Later) end)},
+     {alternateEndpoints, list(fun() -> values:endpoint(Later) end)},
      {gatekeeperIdentifier, fun() -> text(1, 128) end}];
 own(admissionRequest, Later) ->
     [{callModel, fun() -> values:call_model(Later) end}, {destExtraCallInfo, list(fun() -> alias_address(Later) end)},

@@ -32,7 +32,8 @@ kinds() ->
 %% A kind of message, with the components that its answer depends on.
 drawn(gatekeeperRequest, Zone, _, _) -> {gatekeeperRequest, with_name(Zone, #{})};
 drawn(registrationRequest, Zone, Sets, Later) ->
-    Base = #{callSignalAddress => addresses(addresses, Sets, Later), rasAddress => addresses(ras_addresses, Sets, Later)},
+    Base = #{callSignalAddress => addresses(addresses, Sets, Later),
+             rasAddress => addresses(ras_addresses, Sets, Later)},
     Named = with_name(Zone, drawn_or_not(terminalAlias, fun() -> aliases(Sets, Later) end, Base)),
     Lived = drawn_or_not(timeToLive, fun() -> number(1, 4294967295) end, Named),
     {registrationRequest, kept_alive(Zone, Lived)};
@@ -96,7 +97,8 @@ other_address(Later) ->
 
 %% Some aliases: of the set, of any kind, and seldom many.
 aliases(Sets, Later) ->
-    One = fun() -> one_of([one_of(maps:get(aliases, Sets)), one_of(maps:get(aliases, Sets)), values:alias_address(Later)]) end,
+    Shared = maps:get(aliases, Sets),
+    One = fun() -> one_of([one_of(Shared), one_of(Shared), values:alias_address(Later)]) end,
     case rand:uniform(30) of
         1 -> [{dialledDigits, integer_to_list(N)} || N <- lists:seq(1, number(30, 35))];
         2 -> list_of(1, 12, fun() -> {'h323-ID', text(250, 256)} end);

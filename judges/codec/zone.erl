@@ -85,6 +85,7 @@ is_without_room(Request, Zone = #{registered := Registered}) ->
 
 registered_anew(Request, Handed, Zone = #{registered := Registered}) ->
     Identifier = case by_address(signal_address(Request), Zone) of
+                     none when is_map_key(Handed, Registered) -> {belongs_to_another, Handed};
                      none -> Handed;
                      Known -> Known
                  end,
@@ -231,7 +232,8 @@ by_address(Address, #{registered := Registered}) ->
     hd([Identifier || {Identifier, #{signal := Known}} <- maps:to_list(Registered), Known =:= Address] ++ [none]).
 
 by_alias(Alias, #{registered := Registered}) ->
-    hd([Identifier || {Identifier, #{aliases := Known}} <- maps:to_list(Registered), lists:member(Alias, Known)] ++ [none]).
+    Holders = [Identifier || {Identifier, #{aliases := Known}} <- maps:to_list(Registered), lists:member(Alias, Known)],
+    hd(Holders ++ [none]).
 
 %% The key of a request's call: its callIdentifier, if that is there and not all zero, else its conferenceID.
 key(#{callIdentifier := #{guid := Guid}}) when Guid =/= <<0:128>> -> Guid;
