@@ -5,10 +5,8 @@ use std::alloc::Global;
 use std::test::Fail;
 use zone_config::{ConfigParts, Key, Networks};
 
-/// A key, its name, its path, the least and the greatest number that it takes, and its default.
-type Row = (Key, &'static str, &'static str, u64, u64, u64);
-
-const ROWS: [Row; 13] = [
+/// For each key its name, its path, the least and the greatest number that it takes, and its default.
+const ROWS: [(Key, &str, &str, u64, u64, u64); 13] = [
     (
         Key::Limit,
         "limit",
@@ -80,21 +78,18 @@ fn the_keys_stand_in_the_order_of_the_table(rt: HostRuntime) {
     }
 }
 
-/// Whether the row is that of its key, which is found by its name.
-fn is_of_its_key((key, name, path, least, most, default): Row) -> bool {
-    key.name() == name
-        && key.path() == path
-        && (key.least(), key.most(), key.default()) == (least, most, default)
-        && Key::named(name.as_bytes()) == Some(key)
-}
-
 #[test]
 fn each_key_has_its_row(rt: HostRuntime) {
-    for row in ROWS {
-        assert!(rt; is_of_its_key(row), "{}", row.1);
+    for (key, name, path, least, most, default) in ROWS {
+        assert_eq!(rt; key.name(), name);
+        assert_eq!(rt; key.path(), path);
+        assert_eq!(rt; key.least(), least, "{name}");
+        assert_eq!(rt; key.most(), most, "{name}");
+        assert_eq!(rt; key.default(), default, "{name}");
+        assert_eq!(rt; Key::named(name.as_bytes()), Some(key));
     }
-    assert!(rt; Key::named(b"zone.limit").is_none());
-    assert!(rt; Key::named(b"pools").is_none());
+    assert_eq!(rt; Key::named(b"zone.limit"), None);
+    assert_eq!(rt; Key::named(b"pools"), None);
 }
 
 #[test]
