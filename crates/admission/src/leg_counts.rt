@@ -1,8 +1,8 @@
 //! How many legs each endpoint has.
 
-ghost use Rattle.std.specs.Prelude.{◌≡◌, ◌≢◌, ◌≤◌, ◌<◌, ◌^◌, IsTrue, IfOk, nat_eq};
+ghost use Rattle.std.specs.Prelude.{◌≡◌, ◌≢◌, ◌≤◌, ◌<◌, ◌^◌, None, IsTrue, IfOk, nat_eq};
 ghost use Rattle.std.specs.Cmp.Lexicographic.{pointwise};
-ghost use Rattle.indexmap.specs.IndexMap.{spare, ContainsKey};
+ghost use Rattle.indexmap.specs.IndexMap.{spare, get, ContainsKey};
 ghost use Rattle.admission.specs.inside.LegCounts.{count_of, known, AreZero, Keeps};
 ghost use Rattle.admission.specs.inside.LegCounts.{Puts, Comes, Goes};
 
@@ -97,7 +97,9 @@ impl LegCounts {
     /// Counts one leg fewer.
     pub fn go(&mut self, endpoint: &EndpointId)
         requires { IsTrue self.old.whole → 1 ≤ count_of self.old endpoint.now }
-        ensures { Goes self.old self.new endpoint.now }
+        ensures goes { Goes self.old self.new endpoint.now }
+        ensures none { IsTrue self.new.whole → count_of self.new endpoint.now ≡ 0
+            → get (pointwise nat_eq) self.new.counts endpoint.now ≡ None }
     {
         self.legs = self.legs.saturating_sub(1);
         if !self.whole {

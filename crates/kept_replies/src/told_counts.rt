@@ -1,8 +1,9 @@
 //! How often kept RegistrationConfirms tell each identifier.
 
-ghost use Rattle.std.specs.Prelude.{◌≡◌, ◌+◌, ℕ, List, [], Some, IsSome, IsTrue};
+ghost use Rattle.std.specs.Prelude.{◌≡◌, ◌+◌, ℕ, List, [], Some, None, IsSome, IsTrue};
 ghost use Rattle.std.specs.List.{list_any};
-ghost use Rattle.std.specs.Option.{option_copied};
+ghost use Rattle.std.specs.Option.{option_copied, ForSome};
+ghost use Rattle.std.specs.Map.{lookup};
 ghost use Rattle.indexmap.specs.IndexMap.{get, Updates};
 ghost use Rattle.kept_replies.specs.Kept.{named_by};
 ghost use Rattle.kept_replies.specs.Keys.{same_key};
@@ -108,6 +109,8 @@ impl ToldCounts {
         ensures still { IsTrue self.new.is_whole → IsTrue self.old.is_whole }
         ensures times { IsTrue self.new.is_whole → (id : List ℕ)
             → times self.new id + once (option_copied named.entry) id ≡ times self.old id }
+        ensures none { IsTrue self.new.is_whole → ForSome named.entry (λ id.
+            times self.new id.now ≡ 0 → lookup (same_id id.now) self.new.counts ≡ None) }
     {
         let Some(id) = named else {
             return;

@@ -18,4 +18,6 @@ mod loopback;
 #[cfg(test)]
 mod meeting;
 #[cfg(test)]
+mod timers;
+#[cfg(test)]
 mod two_at_once;

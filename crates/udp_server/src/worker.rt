@@ -1,8 +1,9 @@
 //! One who makes steps of the zone, and hands the replies to the sender.
 
-ghost use Rattle.std.specs.Prelude.{◌≡◌, IfOk};
+ghost use Rattle.std.specs.Prelude.{◌≡◌, ◌+◌, min, IfOk};
 ghost use Rattle.std.specs.Option.{ForSome};
 ghost use Rattle.ras_machine.specs.Steps.{HasFewOctets};
+ghost use Rattle.udp_server.specs.Ends.{fault_count};
 ghost use Rattle.udp_server.specs.Rooms.{IsRoom};
 
 use crate::board::Board;
@@ -52,12 +53,20 @@ impl Counts {
     };
 
     /// One step or chapter more was refused.
-    pub(crate) fn refuse(&mut self) {
+    pub(crate) fn refuse(&mut self)
+        ensures refused { self.new.refused ≡ fault_count self.old.refused }
+        ensures dropped { self.new.dropped ≡ self.old.dropped }
+        ensures faults { self.new.faults ≡ self.old.faults }
+    {
         self.refused = self.refused.saturating_add(1);
     }
 
     /// What both count together.
-    pub(crate) fn and(self, more: Counts) -> Counts {
+    pub(crate) fn and(self, more: Counts) -> Counts
+        ensures dropped { result.dropped ≡ min (self.dropped + more.dropped) 18446744073709551615 }
+        ensures refused { result.refused ≡ min (self.refused + more.refused) 18446744073709551615 }
+        ensures faults { result.faults ≡ min (self.faults + more.faults) 18446744073709551615 }
+    {
         Counts {
             dropped: self.dropped.saturating_add(more.dropped),
             refused: self.refused.saturating_add(more.refused),

@@ -40,7 +40,7 @@ invariant_of-self c =
     c.go.new.self c.args.endpoint.now
     (found_leg c.get-2.result c.is_none.result (leg_of call.legs c.args.endpoint.now)
     c.get-2.ensures c.is_none.ensures c.if-is_none.false)
-    c.go.ensures (sym c.has_other.ensures ∙ c.if-has_other.true) c.write_without.ensures
+    c.go.ensures.goes (sym c.has_other.ensures ∙ c.if-has_other.true) c.write_without.ensures
 
 pub returns-then-has_other-clause-ok : goal.returns-then-has_other-clause-ok
 returns-then-has_other-clause-ok c =
@@ -92,7 +92,7 @@ calls_left-requires c none =
     (found_leg c.get-2.result c.is_none.result
     (leg_of c.in-Some.call.now.legs c.args.endpoint.now)
     c.get-2.ensures c.is_none.ensures c.if-is_none.false)
-    c.go-2.ensures c.take.new.self (sym c.has_other.ensures ∙ c.if-has_other.false)
+    c.go-2.ensures.goes c.take.new.self (sym c.has_other.ensures ∙ c.if-has_other.false)
     c.swap_remove.result c.swap_remove.ensures.value c.swap_remove.ensures.unique
     c.swap_remove.ensures.updates c.swap_remove.ensures.len c.take.ensures in
     zero_left c.swap_remove.new.self c.self.inside.most counted.stored c.go-2.new.self
@@ -109,7 +109,7 @@ invariant_of-self-2 c =
     (found_leg c.get-2.result c.is_none.result
     (leg_of c.in-Some.call.now.legs c.args.endpoint.now)
     c.get-2.ensures c.is_none.ensures c.if-is_none.false)
-    c.go-2.ensures c.take.new.self (sym c.has_other.ensures ∙ c.if-has_other.false)
+    c.go-2.ensures.goes c.take.new.self (sym c.has_other.ensures ∙ c.if-has_other.false)
     c.swap_remove.result c.swap_remove.ensures.value c.swap_remove.ensures.unique
     c.swap_remove.ensures.updates c.swap_remove.ensures.len c.take.ensures in
     AreCounted-anew c.swap_remove.new.self c.swap_remove.new.self c.self.inside.most

@@ -1,0 +1,224 @@
+//! What is due at a tick is done at that tick, and what it sends is sent. A datagram has the moment at which it came.
+
+ghost use Rattle.std.specs.Prelude.{◌≤◌, length};
+ghost use Rattle.udp_server.specs.Ends.{IsWithin};
+
+use crate::fixtures::{ENDPOINT, PLAN, discovery, zone};
+use ras_core::{Event, Moment};
+use ras_module::{Address, Source};
+use std::alloc::Global;
+use std::rt::Clock;
+use std::sync::Wait;
+use std::sync::atomic::{AtomicBool, AtomicU64, Ordering};
+use std::thread;
+use std::thread::Threads;
+use std::time::Duration;
+use udp_server::{Datagrams, DeviceFault, Gate, Moments, Open, Received, Stage, serve_zone};
+use vectors::requests::{ARQ, GRQ, RRQ_101, RRQ_102};
+use zone_events::Datagram;
+
+/// How many requests there are: two registrations and an admission, and then discoveries.
+const REQUESTS: u64 = 40;
+
+/// The number of the worker of the timers: the other one is 0.
+const TIMERS: usize = 1;
+
+/// For how many milliseconds the end waits for the replies at most.
+const PATIENCE: u64 = 10_000;
+
+/// How many milliseconds after its start the clock of the timers leaps to: by then each kept reply is over, and the
+/// endpoint that is in the call was silent for too long.
+const AHEAD: u64 = 40_000;
+
+/// The endpoint that is called.
+const CALLED: Source = Address {
+    ip: [10, 0, 0, 6],
+    port: 1719,
+};
+
+/// An end that gives `left` requests, is quiet until that many replies were sent, and then has stopped.
+#[derive(Drop)]
+struct Caller<'a, R> {
+    rt: &'a R,
+    sent: &'a AtomicU64,
+    left: u64,
+    patience: u64,
+}
+
+impl<R: Clock> Datagrams for Caller<'_, R> {
+    ghost faults = { λ end. 0 };
+
+    fn receive(&mut self, buffer: &mut [u8; 4_097]) -> Result<Received, DeviceFault> {
+        if self.left == 0 {
+            if self.sent.load(Ordering::SeqCst) >= REQUESTS || self.patience == 0 {
+                return Ok(Received::Stopped);
+            }
+            self.patience -= 1;
+            thread::sleep(self.rt, Duration::from_millis(1));
+            return Ok(Received::Quiet);
+        }
+        self.left -= 1;
+        Ok(match REQUESTS.saturating_sub(self.left) {
+            1 => given(buffer, ENDPOINT, &RRQ_101),
+            2 => given(buffer, CALLED, &RRQ_102),
+            3 => given(buffer, ENDPOINT, &ARQ),
+            _ => given(buffer, ENDPOINT, &discovery(0, self.left)),
+        })
+    }
+
+    fn send(&mut self, _datagram: &Datagram) -> Result<(), DeviceFault> {
+        self.sent.fetch_add(1, Ordering::SeqCst);
+        Ok(())
+    }
+
+    fn failures(&self) -> u64 {
+        0
+    }
+}
+
+/// A datagram with these octets.
+fn given(buffer: &mut [u8; 4_097], source: Source, octets: &[u8]) -> Received
+    requires { length octets.now ≤ 4097 }
+    ensures { IsWithin result }
+{
+    buffer[..octets.len()].copy_from_slice(octets);
+    Received::Datagram(source, octets.len())
+}
+
+/// A clock that stands at the start, and once this many replies were sent, far ahead.
+#[derive(Drop)]
+struct Leap<'a> {
+    sent: &'a AtomicU64,
+    awaited: u64,
+}
+
+impl Moments for Leap<'_> {
+    fn now(&mut self) -> Moment {
+        if self.sent.load(Ordering::SeqCst) < self.awaited {
+            return Moment::START;
+        }
+        Moment::new(AHEAD).unwrap_or(Moment::START)
+    }
+}
+
+/// A gate that holds the worker of the timers once for a while, before the first step at which its clock is ahead:
+/// the other worker has ended by then, and the sender waits for this one alone.
+#[derive(Drop)]
+struct Late<'a, R> {
+    rt: &'a R,
+    sent: &'a AtomicU64,
+    was_held: &'a AtomicBool,
+}
+
+impl<R: Clock> Gate for Late<'_, R> {
+    fn pass(&self, worker: usize, stage: Stage) {
+        if worker == TIMERS
+            && stage == Stage::BeforeApply
+            && self.sent.load(Ordering::SeqCst) >= REQUESTS
+            && !self.was_held.swap(true, Ordering::SeqCst)
+        {
+            thread::sleep(self.rt, Duration::from_millis(100));
+        }
+    }
+}
+
+/// Whether at the end nothing is due any more, and all was sent: a reply to each request, and what asks the silent
+/// endpoint for its state.
+fn is_all_done<R: Threads + Wait + Clock + Sync>(rt: &R, alloc: Global) -> Option<bool> {
+    let (sent, was_held) = (AtomicU64::new(0), AtomicBool::new(false));
+    let caller = |left: u64| Caller {
+        rt,
+        sent: &sent,
+        left,
+        patience: PATIENCE,
+    };
+    let mut receivers = Vec::new(alloc);
+    receivers.push(caller(REQUESTS)).ok()?;
+    let mut clocks = Vec::new(alloc);
+    for awaited in [u64::MAX, REQUESTS] {
+        let sent = &sent;
+        clocks.push(Leap { sent, awaited }).ok()?;
+    }
+    let gate = Late {
+        rt,
+        sent: &sent,
+        was_held: &was_held,
+    };
+    let zone = zone(alloc)?;
+    let report = serve_zone(rt, alloc, zone, receivers, caller(0), &gate, clocks, PLAN).ok()?;
+    let is_due = report
+        .finished
+        .zone()
+        .machine()
+        .due(Moment::new(AHEAD)?)
+        .is_some();
+    Some(!is_due && report.sent == REQUESTS + 1 && report.dropped == 0)
+}
+
+#[test]
+fn what_is_due_is_done_at_once(rt: HostRuntime) {
+    let passed = is_all_done(&rt, rt.alloc());
+    assert!(rt; passed == Some(true));
+}
+
+/// An end that gives one discovery, and lets time pass before.
+#[derive(Drop)]
+struct Waiting<'a> {
+    passed: &'a AtomicU64,
+    is_done: bool,
+}
+
+impl Datagrams for Waiting<'_> {
+    ghost faults = { λ end. 0 };
+
+    fn receive(&mut self, buffer: &mut [u8; 4_097]) -> Result<Received, DeviceFault> {
+        if self.is_done {
+            return Ok(Received::Stopped);
+        }
+        self.is_done = true;
+        self.passed.store(1, Ordering::SeqCst);
+        Ok(given(buffer, ENDPOINT, &GRQ))
+    }
+
+    fn send(&mut self, _datagram: &Datagram) -> Result<(), DeviceFault> {
+        Ok(())
+    }
+
+    fn failures(&self) -> u64 {
+        0
+    }
+}
+
+/// Whether the step of a datagram has the moment at which it came, and not that at which its end began to wait.
+fn has_its_moment<R: Threads + Wait + Clock + Sync>(rt: &R, alloc: Global) -> Option<bool> {
+    let passed = AtomicU64::new(0);
+    let end = |is_done: bool| Waiting {
+        passed: &passed,
+        is_done,
+    };
+    let mut receivers = Vec::new(alloc);
+    receivers.push(end(false)).ok()?;
+    let mut clocks = Vec::new(alloc);
+    for _worker in 0..2 {
+        let sent = &passed;
+        clocks.push(Leap { sent, awaited: 1 }).ok()?;
+    }
+    let zone = zone(alloc)?;
+    let report = serve_zone(rt, alloc, zone, receivers, end(true), &Open, clocks, PLAN).ok()?;
+    let came = Moment::new(AHEAD)?;
+    let is_late = report
+        .finished
+        .entries()
+        .iter()
+        .all(|entry| match &entry.event {
+            Event::Datagram(_, _, moment) => *moment == came,
+            Event::Turn(_) => true,
+        });
+    Some(is_late && report.datagrams == 1)
+}
+
+#[test]
+fn a_datagram_has_the_moment_at_which_it_came(rt: HostRuntime) {
+    let passed = has_its_moment(&rt, rt.alloc());
+    assert!(rt; passed == Some(true));
+}
