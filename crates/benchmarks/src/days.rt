@@ -1,5 +1,6 @@
-//! Days in the life of a small zone, whose moments are handed in. Endpoints keep their registrations
-//! alive and call one another each minute, and each of them vanishes in its turn, in mid-call.
+//! Days in the life of a small zone, whose moments are handed in. Endpoints keep their
+//! registrations alive and call one another each minute, and each of them vanishes in its turn, in
+//! mid-call.
 
 use crate::requests::{Endpoint, admission, disengage, keep_alive};
 use crate::servers::print_memory;
@@ -192,7 +193,8 @@ fn live_a_day(
 
 fn print_day(rt: &(impl Files + Print), alloc: Global, day: u64, tally: &Tally) -> Result<()> {
     println!(rt;
-        "after day {}: {} requests, {} turns, {} interrogations, {} endpoints silent, {} registrations over",
+        "after day {}: {} requests, {} turns, {} interrogations, {} endpoints silent, \
+            {} registrations over",
         day.saturating_add(1),
         tally.requests,
         tally.turns,

@@ -53,7 +53,8 @@ pub enum Deed {
 /// What a step has to come to.
 #[derive(Clone, Copy, PartialEq, Eq)]
 pub enum Wanted {
-    /// The request is served by a message with this number among those of RAS (H.225.0, RasMessage).
+    /// The request is served by a message with this number among those of RAS (H.225.0,
+    /// RasMessage).
     Reply(u8),
     /// The same, and a kept reply is dropped to make room.
     ReplyInPlaceOfAnother(u8),

@@ -1,4 +1,5 @@
-//! What a server takes for many datagrams, over ends in memory: the time, and at most how much memory.
+//! What a server takes for many datagrams, over ends in memory: the time, and at most how much
+//! memory.
 
 ghost use Rattle.udp_server.specs.Plans.{IsPlan};
 

@@ -16,7 +16,8 @@ const STEPS: u16 = 500;
 /// How many replies are kept while the kinds of `AT_FIRST` are measured: of ten kinds.
 const REPLIES: u64 = 5_000;
 
-/// A kind of step: its name, what is done, at which moment in milliseconds, and what it has to come to.
+/// A kind of step: its name, what is done, at which moment in milliseconds, and what it has to come
+/// to.
 type Kind = (&'static str, Deed, u64, Wanted);
 
 /// In this order: a repeat is of a keep-alive, a call that was opened is joined and left, an
@@ -183,8 +184,8 @@ fn measure_all(
     measure_kinds(rt, alloc, zone, &endpoints, &LATER, sizes)
 }
 
-/// Fills the tables of a zone, and prints how long a step of each kind takes. There must be a place for
-/// 500 endpoints and calls, and for 5,000 replies.
+/// Fills the tables of a zone, and prints how long a step of each kind takes. There must be a place
+/// for 500 endpoints and calls, and for 5,000 replies.
 pub fn measure(rt: &(impl Clock + Print), alloc: Global, sizes: Sizes) -> Result<()> {
     let kept = (sizes.replies as u64).saturating_add(REPLIES);
     ensure!(kept <= MOST_KEPT, "REPLIES is 60536 at most");

@@ -1,5 +1,5 @@
-//! How long it takes until all endpoints are registered that come at once, as after a power cut, while
-//! the kept replies take all places that there are.
+//! How long it takes until all endpoints are registered that come at once, as after a power cut,
+//! while the kept replies take all places that there are.
 
 use crate::requests::{discovery, registration_with};
 use crate::zones::{MOST_KEPT, datagram, zone_of};
@@ -13,8 +13,8 @@ use std::time::{Clock, Instant};
 /// How many discoveries each of two senders makes: as many replies as may be kept.
 const DISCOVERIES: u16 = 32_768;
 
-/// How long it is from one storm to the next, in milliseconds. The replies to the one before are over
-/// then, and make room.
+/// How long it is from one storm to the next, in milliseconds. The replies to the one before are
+/// over then, and make room.
 const BETWEEN: u64 = 60_000;
 
 /// The replies to `DISCOVERIES` discoveries of this sender are kept.

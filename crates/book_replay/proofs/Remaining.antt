@@ -66,21 +66,22 @@ at_end base now end all i past left b same =
     (λ h. l.whole end (sym (same.0 h)), λ run. same.1 (sym (l.part end run)))
 
 module _ (base now new : State) (all : List Entry) (i : ℕ) (e : Entry)
-    (below : i < length all) (is : e ≡ get_or all i e) (left : IsLeft base all now (drop i all)) where
-  first_left : IsLeft base all now (e ∷ drop (i + 1) all)
-  first_left = subst (IsLeft base all now) (cut_at all i e below is) left
+    (below : i < length all) (is : e ≡ get_or all i e) (left : IsLeft base all now (drop i all))
+  where
+    first_left : IsLeft base all now (e ∷ drop (i + 1) all)
+    first_left = subst (IsLeft base all now) (cut_at all i e below is) left
 
-  -- an entry that is no step from here ends the replay
-  pub stops : (b : Bool) → b ≡ false → Redoes now e.event e.outcome b new → (end : State)
-      → BookRun base all end → ⊥
-  stops true is_false redoes end run = absurd (cc is_false)
-  stops false is_false none end run =
-      let more = first_left.part end run in
-      none more.0 more.1
+    -- an entry that is no step from here ends the replay
+    pub stops : (b : Bool) → b ≡ false → Redoes now e.event e.outcome b new → (end : State)
+        → BookRun base all end → ⊥
+    stops true is_false redoes end run = absurd (cc is_false)
+    stops false is_false none end run =
+        let more = first_left.part end run in
+        none more.0 more.1
 
-  -- else it goes on from the state after it
-  pub goes_on : (b : Bool) → b ≡ true → Redoes now e.event e.outcome b new → Sound new
-      → IsLeft base all new (drop (i + 1) all)
-  goes_on true is_true step sound =
-      one_less base now new all (drop (i + 1) all) e first_left step sound
-  goes_on false is_true none sound = absurd (cc is_true)
+    -- else it goes on from the state after it
+    pub goes_on : (b : Bool) → b ≡ true → Redoes now e.event e.outcome b new → Sound new
+        → IsLeft base all new (drop (i + 1) all)
+    goes_on true is_true step sound =
+        one_less base now new all (drop (i + 1) all) e first_left step sound
+    goes_on false is_true none sound = absurd (cc is_true)

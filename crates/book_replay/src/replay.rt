@@ -10,8 +10,8 @@ use ras_machine::Machine;
 use std::alloc::AllocError;
 use step_check::redo;
 
-/// Whether the steps of the book, done again one after the other from its base, lead to the state of
-/// the zone. One running machine does them all; the book and the zone stay as they are.
+/// Whether the steps of the book, done again one after the other from its base, lead to the state
+/// of the zone. One running machine does them all; the book and the zone stay as they are.
 pub fn replays<P: Pool>(book: &Book, zone: &Zone<P>) -> Result<bool, AllocError>
     ensures { IfOk result (λ is_run. IsTrue is_run
         ↔ BookRun book.now.base book.now.entries.items zone.now.state) }

@@ -1,5 +1,6 @@
 -- What a step does to the bandwidth in use, to the settings and to the number of steps.
-use Rattle.std.proofs.Common.{◌≡◌, ◌≤◌, ◌+◌, ◌-◌, ℕ, Bool, true, false, List, [], ◌∷◌, refl, sym, ◌∙◌}
+use Rattle.std.proofs.Common.{◌≡◌, ◌≤◌, ◌+◌, ◌-◌, ℕ, Bool, true, false, List, [], ◌∷◌, refl, sym}
+use Rattle.std.proofs.Common.{◌∙◌}
 use Rattle.std.proofs.Common.{ap, subst, length, Some, None, arith}
 use Rattle.std.specs.Prelude.{Option, IfSome, ◌==◌, nat_le, nat_lt, if◌then◌else◌, min, is_some}
 use Rattle.std.specs.List.{fold}
@@ -95,7 +96,11 @@ AddsBy z (Asking ask lent refused) =
 leaves : (calls : OpenCalls) (key : CallKey) (endpoint : List ℕ) (w : Option Call)
     → get calls key ≡ w → in_use (after_leave calls key endpoint) ≤ in_use calls
 leaves calls key endpoint None is =
-    rw is (omega (arith, ap in_use (remove_absent call_key_cmp_total call_key_cmp-IsAntisymmetric calls key is)))
+    rw is (omega (
+      arith,
+      ap in_use (remove_absent call_key_cmp_total call_key_cmp-IsAntisymmetric
+          calls key is),
+    ))
 leaves calls key endpoint (Some call) is = by_others (has_other call.legs endpoint) refl where
   by_others : (b : Bool) → has_other call.legs endpoint ≡ b
       → in_use (after_leave calls key endpoint) ≤ in_use calls
@@ -184,9 +189,22 @@ module _ (z : Tables) where
   makes q pool told none =
       either (len z.calls == z.config.calls) _ _ same
       (either (wanted z q.asked == 0) _ _
-      (record { settings = refl; units_are = omega (arith, in_use-open z.calls q.call pool 0 (leg_told q told) none) })
-      (either (units_left z == 0) _ _ same
-      ((λ units. record { settings = refl; units_are = omega (arith, in_use-open z.calls q.call pool units (leg_told q told) none) }), same)))
+      (record {
+        settings = refl;
+        units_are = omega (
+          arith,
+          in_use-open z.calls q.call pool 0
+              (leg_told q told) none,
+        );
+      })
+      (either (units_left z == 0) _ _ same (
+        (λ units. record {
+          settings = refl;
+          units_are = omega
+              (arith, in_use-open z.calls q.call pool units (leg_told q told) none);
+        }),
+        same,
+      )))
 
   admits : (q : AdmissionRequest) (w : Option Registration) (call : Option Call)
       (told : Option Address) → get z.calls q.call ≡ call
@@ -202,13 +220,24 @@ module _ (z : Tables) where
     by_leg None None = same
     by_leg None (Some told) =
         either (length call.legs == 1) _ _
-        (record { settings = refl; units_are = omega (arith, in_use-join z.calls q.call call (leg_told q told) is) })
+        (record {
+          settings = refl;
+          units_are = omega (
+            arith,
+            in_use-join z.calls q.call call
+                (leg_told q told) is,
+          );
+        })
         same
 
   -- BRQ
   raises : (q : BandwidthRequest) (call : Call) → get z.calls q.call ≡ Some call
       → AddsBy z (if units_left z == 0 then Settled (staying z q call)
-      else Asking (record { pool = call.pool; units = min (wanted z q.asked - call.units) (units_left z) })
+      else Asking (record {
+        pool = call.pool;
+        units = min (wanted z q.asked - call.units)
+            (units_left z);
+      })
       (raising z q call) (staying z q call))
   raises q call is =
       either (units_left z == 0) _ _ same (
@@ -232,7 +261,11 @@ module _ (z : Tables) where
     by_test : (b : Bool) → nat_le (wanted z q.asked) call.units ≡ b
         → AddsBy z (if b then Settled (lowering z q call (wanted z q.asked))
         else if units_left z == 0 then Settled (staying z q call)
-        else Asking (record { pool = call.pool; units = min (wanted z q.asked - call.units) (units_left z) })
+        else Asking (record {
+          pool = call.pool;
+          units = min (wanted z q.asked - call.units)
+              (units_left z);
+        })
         (raising z q call) (staying z q call))
     by_test true few = lowers q call is (at_most (wanted z q.asked) call.units few)
     by_test false few = raises q call is
@@ -261,7 +294,10 @@ module _ (z : Tables) where
   heard_too : (now : ℕ) (endpoint : Option (List ℕ)) (plan : Plan) → AddsBy z plan
       → AddsBy z (hearing now endpoint plan)
   heard_too now None (Settled served) is = is
-  heard_too now (Some id) (Settled served) is = record { settings = is.settings; units_are = is.units_are }
+  heard_too now (Some id) (Settled served) is = record {
+    settings = is.settings;
+    units_are = is.units_are;
+  }
   heard_too now None (Naming named) is = is
   heard_too now (Some id) (Naming named) is =
       λ n. record { settings = (is n).settings; units_are = (is n).units_are }
@@ -289,12 +325,15 @@ module _ (s : State) (now : ℕ) where
   responds : (endpoint : Option (List ℕ)) → AddsAlong s (machine.response_course s endpoint)
   responds None = tt
   responds (Some endpoint) = by_test (is_some (get s.tables.live endpoint)) where
-    by_test : (b : Bool) → AddsAlong s (if b then machine.Hearing endpoint else machine.Ignoring UnknownEndpoint)
+    by_test : (b : Bool) → AddsAlong s (if b then machine.Hearing endpoint else machine.Ignoring
+        UnknownEndpoint)
     by_test true = tt
     by_test false = tt
 
-  requests : (key : KeptKey) (request : Request) (w : Option Plan) (place : Place) (dropped : Option ℕ)
-      → IfSome w (AddsBy s.tables) → AddsAlong s (machine.request_case s now key request w place dropped)
+  requests : (key : KeptKey) (request : Request) (w : Option Plan) (place : Place)
+      (dropped : Option ℕ)
+      → IfSome w (AddsBy s.tables) → AddsAlong s (machine.request_case s now key request w place
+      dropped)
   requests key request None place dropped is = responds (endpoint_of request)
   requests key request (Some plan) (machine.Answered reply) dropped is = tt
   requests key request (Some plan) machine.Free dropped is =
@@ -324,7 +363,8 @@ module _ (s : State) (now : ℕ) where
   retries key born (Pending request reply retry left) =
       agains key born request left (plan_of s.tables now request) (plans s.tables now request)
 
-  waited : (born : ℕ) (w : Option (KeptKey × KeptEntry)) → AddsAlong s (machine.retry_course s now born w)
+  waited : (born : ℕ) (w : Option (KeptKey × KeptEntry)) → AddsAlong s
+      (machine.retry_course s now born w)
   waited born None = tt
   waited born (Some row) = retries row.0 born row.1.state
 
@@ -369,7 +409,8 @@ module _ (s : State) (now : ℕ) where
   asked task ask lent refused (Some Wait) outcome after adds is =
       by_wait (may_wait task.job.occasion) is where
         by_wait : (b : Bool) → machine.ended s now task None (Some Wait)
-            (with_answered_pool s.tables ask Wait (if b then in_progress s.tables.config.delay task.request refused
+            (with_answered_pool s.tables ask Wait (if b then in_progress s.tables.config.delay
+            task.request refused
             else answered refused)) ≡ Some (outcome, after) → Ends outcome after
         by_wait true is = ends_so _ _ outcome after
             (record { settings = adds.1.settings; units_are = adds.1.units_are }) is
@@ -389,7 +430,8 @@ module _ (s : State) (now : ℕ) where
       asked task ask lent refused choices.answer outcome after adds is
 
   did : (what : DueItem) (outcome : Outcome) (after : State)
-      → machine.course_ending s now (machine.Doing what) (choices_of outcome) ≡ Some (outcome, after)
+      → machine.course_ending s now (machine.Doing what) (choices_of outcome) ≡ Some
+      (outcome, after)
       → Ends outcome after
   did (item.RegistrationOver id) outcome after is =
       ends_so _ _ outcome after (let left = has_left s.tables id in
@@ -406,11 +448,14 @@ module _ (s : State) (now : ℕ) where
   ended_by : (c : Course) (outcome : Outcome) (after : State) → AddsAlong s c
       → machine.course_ending s now c (choices_of outcome) ≡ Some (outcome, after)
       → Ends outcome after
-  ended_by (machine.Ignoring cause) outcome after adds is = ends_so _ _ outcome after (nothing s.tables) is
+  ended_by (machine.Ignoring cause) outcome after adds is = ends_so _ _ outcome after
+      (nothing s.tables) is
   ended_by (machine.Hearing endpoint) outcome after adds is =
       ends_so _ _ outcome after (record { settings = refl; units_are = omega arith }) is
-  ended_by (machine.Repeating datagram) outcome after adds is = ends_so _ _ outcome after (nothing s.tables) is
-  ended_by (machine.Serving task) outcome after adds is = planned task task.plan (choices_of outcome) outcome after adds is
+  ended_by (machine.Repeating datagram) outcome after adds is = ends_so _ _ outcome after
+      (nothing s.tables) is
+  ended_by (machine.Serving task) outcome after adds is = planned task task.plan
+      (choices_of outcome) outcome after adds is
   ended_by (machine.Doing what) outcome after adds is = did what outcome after is
   ended_by machine.Idle outcome after adds is = ends_so _ _ outcome after (nothing s.tables) is
 
@@ -430,14 +475,16 @@ module _ (s : State) (now steps : ℕ) (outcome : Outcome) (after : State) where
   stamped (Some e) adds is =
       let same = same_some (e.0, record e.1 { clock = now; steps = steps }) (outcome, after) is in
       let out : e.0 ≡ outcome = ap (λ (x : Outcome × State). x.0) same in
-      let end : record e.1 { clock = now; steps = steps } ≡ after = ap (λ (x : Outcome × State). x.1) same in (
+      let end : record e.1 { clock = now; steps = steps } ≡ after = ap
+      (λ (x : Outcome × State). x.1) same in (
         subst (λ (x : State). Adds s.tables x.tables (units_lent outcome.answer)) end
             (let adds_so = adds e.1 (ap (λ (o : Outcome). Some (o, e.1)) out) in
             record { settings = adds_so.settings; units_are = adds_so.units_are }),
         sym (ap (λ (x : State). x.steps) end),
       )
 
-  unclosed : (b : Bool) (e : Ending) → (if b then at_moment now steps e else None) ≡ Some (outcome, after)
+  unclosed : (b : Bool) (e : Ending) → (if b then at_moment now steps e else None) ≡ Some
+      (outcome, after)
       → at_moment now steps e ≡ Some (outcome, after)
   unclosed true e is = is
   unclosed false e is = absurd (cc is)
@@ -448,9 +495,11 @@ step_is_fair s what outcome after step =
     let now = moment_of s what in
     let choices = choices_of outcome in
     let ending = course_ending s now (course s what choices) choices in
-    let made = unclosed s now (s.steps + 1) outcome after (nat_lt s.steps most_steps) ending step.makes in
+    let made = unclosed s now (s.steps + 1) outcome after (nat_lt s.steps most_steps) ending
+    step.makes in
     let both = stamped s now (s.steps + 1) outcome after ending
-    (λ mid is. ended_by s now (course s what choices) outcome mid (along s now what choices) is) made in
+    (λ mid is. ended_by s now (course s what choices) outcome mid (along s now what choices) is)
+    made in
     record { settings = both.0.settings; units = both.0.units_are; steps = both.1 }
 
 -- So it is of all steps of a book together.

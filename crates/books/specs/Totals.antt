@@ -26,7 +26,8 @@ units_lent (Some Refused) = 0
 units_lent (Some Wait) = 0
 units_lent None = 0
 
--- how many of the entries are of a datagram, how many of a turn, and the units that their pools lent
+-- how many of the entries are of a datagram, how many of a turn, and the units that their pools
+-- lent
 abbrev pub datagrams_of : List Entry → ℕ
 datagrams_of entries = sum_by (λ e. datagrams_in e.event) entries
 

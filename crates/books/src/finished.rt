@@ -13,8 +13,8 @@ use ras_machine::Machine;
 use std::marker::Model;
 
 /// A history that goes no further: the zone as it is left; the state after the last chapter, unless
-/// that is the state of the zone; the entries since then, which lead from that state to the zone; the
-/// place of the first of these entries in the whole history; and the totals of all chapters.
+/// that is the state of the zone; the entries since then, which lead from that state to the zone;
+/// the place of the first of these entries in the whole history; and the totals of all chapters.
 pub struct Finished<P: Pool> {
     zone: Zone<P>,
     base: Option<SharedSnapshot>,
@@ -58,8 +58,8 @@ impl<P: Pool> Drop for Finished<P> {
 }
 
 impl<P: Pool> Finished<P> {
-    /// A history whose entries since the last chapter lead from the state after it to the zone. If no
-    /// such state is given, it is that of the zone.
+    /// A history whose entries since the last chapter lead from the state after it to the zone. If
+    /// no such state is given, it is that of the zone.
     pub fn new(
         zone: Zone<P>,
         base: Option<SharedSnapshot>,
@@ -90,7 +90,8 @@ impl<P: Pool> Finished<P> {
         &self.zone
     }
 
-    /// The state after the last chapter, or, if there was none, the one with which the history began.
+    /// The state after the last chapter, or, if there was none, the one with which the history
+    /// began.
     pub fn base(&self) -> &Machine
         ensures { result.now ≡ self.now.base }
     {

@@ -1,5 +1,5 @@
-//! What makes the entries of a book a run, with calls that are counted seat by seat, and what they do
-//! to the bandwidth in use.
+//! What makes the entries of a book a run, with calls that are counted seat by seat, and what they
+//! do to the bandwidth in use.
 
 ghost use Rattle.std.specs.Prelude.{◌≡◌, ◌≤◌, ◌+◌, ◌++◌, ◌∷◌, [], List, length};
 ghost use Rattle.admission.specs.Calls.{in_use};

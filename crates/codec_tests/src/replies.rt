@@ -174,7 +174,8 @@ fn an_info_request_and_a_delay(rt: HostRuntime) -> Result<(), Fail> {
     Ok(())
 }
 
-/// A confirm with as many aliases as a reply may have, each of its texts and numbers at its greatest.
+/// A confirm with as many aliases as a reply may have, each of its texts and numbers at its
+/// greatest.
 fn longest_confirm(alloc: Global) -> Result<Reply, Fail> {
     let mut list = AliasList::new(alloc);
     for _ in 0..ReplyAliases::MOST {

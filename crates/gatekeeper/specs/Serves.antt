@@ -4,13 +4,14 @@ use Rattle.script.specs.Streams.{OutputState}
 use Rattle.gatekeeper.specs.Inputs.{GivesSettings, IsInputRead, input_status}
 use Rattle.gatekeeper.specs.declared.serving_fault.RunningFault.{RunningFault}
 use Rattle.gatekeeper.specs.declared.serving_fault.RunningFault.TheVariants.{Bind, Memory}
-use Rattle.gatekeeper.specs.declared.serving_fault.RunningFault.TheVariants.{WrongPools, NotFinished}
+use Rattle.gatekeeper.specs.declared.serving_fault.RunningFault.TheVariants.{WrongPools}
+use Rattle.gatekeeper.specs.declared.serving_fault.RunningFault.TheVariants.{NotFinished}
 use Rattle.gatekeeper.specs.declared.serving_fault.RunningFault.TheVariants.{Stream}
 use Rattle.gatekeeper.specs.declared.serving_fault.ServingFault.{ServingFault}
 use Rattle.gatekeeper.specs.declared.serving_fault.ServingFault.TheVariants.{Settings, Running}
 
--- 1: the zone couldn't be made, or didn't come back; 3: no memory; 4: the socket couldn't be made, or
--- a stream failed
+-- 1: the zone couldn't be made, or didn't come back; 3: no memory; 4: the socket couldn't be made,
+-- or a stream failed
 abbrev pub running_status : RunningFault → ℕ
 running_status (Bind fault) = 4
 running_status Memory = 3
@@ -30,13 +31,15 @@ AreServed octets (Err (Settings fault)) = IsInputRead octets (Err fault)
 AreServed octets (Err (Running fault)) = GivesSettings octets
 
 -- the report was flushed; if there is none, nothing was written
-abbrev pub IsReportWritten : {A : Type 0} → OutputState → OutputState → Result A RunningFault → Type 0
+abbrev pub IsReportWritten : {A : Type 0} → OutputState → OutputState → Result A RunningFault
+    → Type 0
 IsReportWritten old new (Ok done) = IsTrue new.flushed
 IsReportWritten old new (Err Stream) = Unit {0}
 IsReportWritten old new (Err fault) = new ≡ old
 
 -- so it is of the whole, and of settings that are refused nothing is written
-abbrev pub IsServiceWritten : {A : Type 0} → OutputState → OutputState → Result A ServingFault → Type 0
+abbrev pub IsServiceWritten : {A : Type 0} → OutputState → OutputState → Result A ServingFault
+    → Type 0
 IsServiceWritten old new (Ok done) = IsTrue new.flushed
 IsServiceWritten old new (Err (Settings fault)) = new ≡ old
 IsServiceWritten {A} old new (Err (Running fault)) = IsReportWritten {A = A} old new (Err fault)

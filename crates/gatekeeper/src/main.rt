@@ -101,8 +101,8 @@ fn refuse(rt: &impl Eprint, fault: &ReplayFault) -> u8
     fault.status()
 }
 
-/// Checks the settings on standard input, and prints them, with a warning for each key that is passed
-/// over.
+/// Checks the settings on standard input, and prints them, with a warning for each key that is
+/// passed over.
 fn check_input<R: Input + Print + Eprint>(rt: &R, alloc: Global) -> u8 {
     let Ok(buffer) = BufWriter::new(alloc, io::writer(rt)) else {
         return out_of_memory(rt);

@@ -28,8 +28,8 @@ use std::time::Instant;
 use udp_server::{Open, Plan, Report, serve_zone};
 use udp_socket::{BoundSocket, SocketEnd, Stop, bind_zone};
 
-/// With how many entries or more a chapter of the history ends. The report has no chapter, so that its
-/// entries are let go then.
+/// With how many entries or more a chapter of the history ends. The report has no chapter, so that
+/// its entries are let go then.
 const CHAPTER: usize = 4_096;
 
 /// A name as people read it.

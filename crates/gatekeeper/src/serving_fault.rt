@@ -30,8 +30,8 @@ pub enum RunningFault {
 }
 
 impl RunningFault {
-    /// The exit status: 3 if there is no memory, 4 if the socket can't be made or a stream failed, and 1
-    /// if the zone can't be made or didn't come back.
+    /// The exit status: 3 if there is no memory, 4 if the socket can't be made or a stream failed,
+    /// and 1 if the zone can't be made or didn't come back.
     pub fn status(&self) -> u8
         ensures { result ≡ running_status self.now }
     {

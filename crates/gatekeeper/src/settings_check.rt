@@ -9,8 +9,9 @@ use settings::{Settings, write_settings};
 use std::alloc::Global;
 use std::io::{self, Read, Write};
 
-/// Reads settings, and writes that they are well-formed, with the value of each key and whether that is
-/// its default. Returns the keys that are passed over. Of settings that are refused nothing is written.
+/// Reads settings, and writes that they are well-formed, with the value of each key and whether
+/// that is its default. Returns the keys that are passed over. Of settings that are refused nothing
+/// is written.
 pub fn check_settings<I: Read + Drop, W: Write + Drop>(
     alloc: Global,
     input: I,
@@ -32,7 +33,8 @@ pub fn check_settings<I: Read + Drop, W: Write + Drop>(
     }
 }
 
-/// Writes that settings are well-formed, and each key with its value and whether that is its default.
+/// Writes that settings are well-formed, and each key with its value and whether that is its
+/// default.
 fn write_checked<W: Write + Drop>(settings: &Settings, out: &mut Output<W>) -> io::Result<()>
     ensures { OnOk result (IsTrue out.new.flushed) }
 {

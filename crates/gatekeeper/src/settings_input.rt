@@ -36,7 +36,8 @@ pub enum InputFault {
 }
 
 impl InputFault {
-    /// The exit status: 1 if the settings are refused, 3 if there is no memory, and 4 if a read failed.
+    /// The exit status: 1 if the settings are refused, 3 if there is no memory, and 4 if a read
+    /// failed.
     pub fn status(&self) -> u8
         ensures { result ≡ input_status self.now }
     {

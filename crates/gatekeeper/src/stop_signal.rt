@@ -1,5 +1,5 @@
-//! Signals that ask the program to end. It is started with SIGTERM and SIGINT blocked, as `./gatekeeper
-//! serve` starts it; a signal that came then waits, and the system tells so.
+//! Signals that ask the program to end. It is started with SIGTERM and SIGINT blocked, as
+//! `./gatekeeper serve` starts it; a signal that came then waits, and the system tells so.
 
 use crate::elapsed::milliseconds_since;
 use std::alloc::Global;
@@ -12,8 +12,8 @@ use udp_socket::Stop;
 /// What the system tells of this program.
 const STATUS: &str = "/proc/self/status";
 
-/// The signals SIGINT, number 2, and SIGTERM, number 15, in a set of signals, of which the lowest bit is
-/// number 1.
+/// The signals SIGINT, number 2, and SIGTERM, number 15, in a set of signals, of which the lowest
+/// bit is number 1.
 const ASKING: u64 = 1 << 1 | 1 << 14;
 
 /// How long it is from one look at the signals to the next, in milliseconds.

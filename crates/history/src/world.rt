@@ -146,7 +146,8 @@ impl<P: Pool> World<P> {
         (zone, book)
     }
 
-    /// Does one step, or changes nothing. Neither receiving nor taking is refused for want of memory.
+    /// Does one step, or changes nothing. Neither receiving nor taking is refused for want of
+    /// memory.
     pub fn act(&mut self, step: WorldStep) -> Result<Acted, WorldFault>
         ensures ok { IfOk result (λ acted. Happens self.old step acted self.new) }
         ensures refused { MatchOption (refusal self.old step)

@@ -24,8 +24,8 @@ fn discard<D: Hall, T: Ledger, U: Ledger>(
     (entries.len(), base.is_some())
 }
 
-/// A step, which is discarded, a step, a chapter that can't be cut, and two steps more: those of two
-/// are discarded.
+/// A step, which is discarded, a step, a chapter that can't be cut, and two steps more: those of
+/// two are discarded.
 fn discard_steps<D: Hall, T: Ledger, U: Ledger>(
     rt: &impl Wait,
     alloc: Global,
@@ -55,8 +55,8 @@ fn is_nothing_left<P: Pool>(finished: &Finished<P>) -> bool {
         && carried.turns == 0
 }
 
-/// Whether steps are let go, and what is left goes on from the state of the zone, with their totals.
-/// An audit finds that their chapters are missing.
+/// Whether steps are let go, and what is left goes on from the state of the zone, with their
+/// totals. An audit finds that their chapters are missing.
 pub fn has_discarded<D: Hall, T: Ledger, U: Ledger, R: Wait>(
     rt: &R,
     alloc: Global,

@@ -17,8 +17,8 @@ use zone_lock::{Hall, Listing, Seat, ZoneLock};
 // A lock, seats and a finished history that are dropped at each of many exits make a test costly to
 // prove, so what is asked of them stands in functions that borrow them.
 
-/// Whether two seats make a step each, and both are the entries of the history when the lock is gone,
-/// with which their receipts agree.
+/// Whether two seats make a step each, and both are the entries of the history when the lock is
+/// gone, with which their receipts agree.
 pub fn are_seated<D: Hall, T: Ledger, U: Ledger, R: Wait>(
     rt: &R,
     alloc: Global,

@@ -15,8 +15,8 @@ impl Moments for Still {
     }
 }
 
-/// An end that gives the datagrams among these events, in order, and then has stopped. It notes what
-/// it sends; no call of it fails.
+/// An end that gives the datagrams among these events, in order, and then has stopped. It notes
+/// what it sends; no call of it fails.
 #[derive(Drop)]
 pub struct End<'a, R> {
     pub rt: &'a R,

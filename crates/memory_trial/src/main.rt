@@ -6,9 +6,9 @@
 //! Its input is a script, whose lines it prints. It runs it step by step; behind a line `run`, at
 //! once; behind a line `world`, by the workers of a world; behind a line `book`, step by step and
 //! recorded in a book, which is then run again; behind a line `lock`, by the seats of a lock, whose
-//! history is then audited; behind a line `serve`, by a server, of which it prints one line. Behind a
-//! line `settings` come settings, which it reads and prints. If there is nothing, the tables and the
-//! values have their turn.
+//! history is then audited; behind a line `serve`, by a server, of which it prints one line. Behind
+//! a line `settings` come settings, which it reads and prints. If there is nothing, the tables and
+//! the values have their turn.
 //!
 //! First it asks for memory once for each empty line at the head of the input, and at last once
 //! more. `rt try` refuses the request of one number in all runs of one build: with more and more

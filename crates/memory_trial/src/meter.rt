@@ -4,8 +4,8 @@ use pools::{Lend, Pool};
 use std::sync::Arc;
 use std::sync::atomic::{AtomicU64, Ordering};
 
-/// A pool that tells a meter what it lends and takes back. Several pools may share one meter, which then
-/// shows what they have lent together.
+/// A pool that tells a meter what it lends and takes back. Several pools may share one meter, which
+/// then shows what they have lent together.
 pub struct Metered<P: Pool> {
     pool: P,
     meter: Arc<AtomicU64>,

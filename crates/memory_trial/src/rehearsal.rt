@@ -252,8 +252,8 @@ fn script_of(alloc: Global, text: &[u8]) -> Result<Script, Trouble> {
     }
 }
 
-/// Makes the pools of a script, and runs it over them. The program makes them so too: no library may
-/// make a box and hand it out.
+/// Makes the pools of a script, and runs it over them. The program makes them so too: no library
+/// may make a box and hand it out.
 fn try_rehearsal<R: Print + Threads + Wait + Clock + Sync>(
     rt: &R,
     alloc: Global,

@@ -84,8 +84,8 @@ fn try_apply<P: Pool, D: Hall, T: Ledger, U: Ledger, R: Wait>(
     }
 }
 
-/// The seat makes a step of the event. How many steps were made before it, by all and by this seat, is
-/// told by its receipt: a refused step isn't among them.
+/// The seat makes a step of the event. How many steps were made before it, by all and by this seat,
+/// is told by its receipt: a refused step isn't among them.
 pub fn apply<P: Pool, D: Hall, T: Ledger, U: Ledger, R: Wait>(
     hold: &Hold<'_, P, D, T, U, R>,
     seat: &mut Seat<D, T, U>,

@@ -1,7 +1,7 @@
-//! Scripts whose zone is served while memory is refused. Either the server leaves no report, and another
-//! one serves the script, or one step isn't made, which the report counts, and all else is as ever.
-//! Which request is refused isn't the same in each run, since threads take turns: what is told here holds
-//! in any.
+//! Scripts whose zone is served while memory is refused. Either the server leaves no report, and
+//! another one serves the script, or one step isn't made, which the report counts, and all else is
+//! as ever. Which request is refused isn't the same in each run, since threads take turns: what is
+//! told here holds in any.
 
 use crate::ends::{End, Still};
 use crate::meter::Metered;
@@ -18,8 +18,8 @@ use std::sync::{Mutex, Wait};
 use std::thread::Threads;
 use udp_server::{Open, Plan, Report, ServeFault, serve_zone};
 
-/// Each reply waits in a ring of 64, each step has a receipt, and no chapter ends. The one turn that is
-/// made is that after the last datagram: a tick is longer than the server runs.
+/// Each reply waits in a ring of 64, each step has a receipt, and no chapter ends. The one turn
+/// that is made is that after the last datagram: a tick is longer than the server runs.
 const PLAN: Plan = Plan {
     ring: 64,
     faults: 16,

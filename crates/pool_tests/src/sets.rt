@@ -190,8 +190,8 @@ fn counted<P: Pool>(set: &PoolSet<P>, i: usize) -> Option<(u64, u64)> {
     }
 }
 
-/// Asks the first pool of a set three times and the second once, gives units back, makes two turns, and says what
-/// the set counted of the two.
+/// Asks the first pool of a set three times and the second once, gives units back, makes two turns,
+/// and says what the set counted of the two.
 fn ask_and_turn<P: Pool>(pools: Vec<P>) -> Option<((u64, u64), (u64, u64))> {
     let Ok(mut set) = PoolSet::new(pools) else {
         return None;

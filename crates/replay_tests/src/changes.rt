@@ -97,7 +97,8 @@ fn is_run(
 // A zone and a book that are dropped at each of many exits make a test costly to prove, so what is
 // asked of them stands in functions that borrow them.
 
-/// Whether the book of a call, which begins at this zone, leads to it, once the book was changed so.
+/// Whether the book of a call, which begins at this zone, leads to it, once the book was changed
+/// so.
 fn is_run_from(alloc: Global, zone: &mut Zone<FixedPool>, what: Change) -> Result<bool, Fail> {
     let mut book = Book::new(alloc, zone.snapshot()?);
     let passed = is_run(alloc, &mut book, zone, what);

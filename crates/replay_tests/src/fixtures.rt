@@ -61,8 +61,8 @@ fn datagram(alloc: Global, bytes: &[u8], milliseconds: u64) -> Result<Event, Fai
     Ok(Event::Datagram(ENDPOINT, bytes, moment))
 }
 
-/// Two endpoints register, the first one calls the second, its request comes again, and a turn finds
-/// nothing that is due.
+/// Two endpoints register, the first one calls the second, its request comes again, and a turn
+/// finds nothing that is due.
 pub fn call(alloc: Global, book: &mut Book, zone: &mut Zone<FixedPool>) -> Result<(), Fail> {
     record(book, zone, datagram(alloc, &GRQ, 0)?)?;
     record(book, zone, datagram(alloc, &RRQ_101, 1)?)?;

@@ -8,8 +8,8 @@ use std::alloc::Global;
 use std::test::Fail;
 use step_check::{accepts, same};
 
-/// Whether each entry of the book of a call is accepted in its order, and none that comes twice, and
-/// the snapshot is then the state of the zone.
+/// Whether each entry of the book of a call is accepted in its order, and none that comes twice,
+/// and the snapshot is then the state of the zone.
 fn are_accepted(
     alloc: Global,
     snapshot: &mut Snapshot,

@@ -25,7 +25,8 @@ abbrev pub are_pools_of : ConfigParts → List Account → Bool
 are_pools_of config pools =
     is_none (pool_fault pools) && length pools == length config.networks
 
--- the zone of a script before its first event, with these pools, as a set of them that was just made
+-- the zone of a script before its first event, with these pools, as a set of them that was just
+-- made
 abbrev pub start_of : ConfigParts → List Account → Running
 start_of config pools = record {
   state = opening config (figures_of pools);

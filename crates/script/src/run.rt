@@ -56,10 +56,11 @@ pub fn run_script<P: Pool, W: Write + Drop>(
     run_zone(alloc, &mut zone, events.as_slice(), out)
 }
 
-// A zone that is dropped at each of many exits makes a function costly to prove, so what is done with
-// it stands in a function that borrows it.
+// A zone that is dropped at each of many exits makes a function costly to prove, so what is done
+// with it stands in a function that borrows it.
 
-/// Runs events on a zone, one after the other, writes a line for each outcome, and flushes the writer.
+/// Runs events on a zone, one after the other, writes a line for each outcome, and flushes the
+/// writer.
 fn run_zone<P: Pool, W: Write + Drop>(
     alloc: Global,
     zone: &mut Zone<P>,

@@ -5,7 +5,8 @@ use std::alloc::Global;
 use std::test::Fail;
 use zone_config::{ConfigParts, Key, Networks};
 
-/// For each key its name, its path, the least and the greatest number that it takes, and its default.
+/// For each key its name, its path, the least and the greatest number that it takes, and its
+/// default.
 const ROWS: [(Key, &str, &str, u64, u64, u64); 13] = [
     (
         Key::Limit,

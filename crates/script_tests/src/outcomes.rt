@@ -20,8 +20,8 @@ fn confirm(alloc: Global) -> Result<Datagram, AllocError> {
     })
 }
 
-/// Whether an outcome has this note, and neither an answer of a pool, nor an entry that was dropped,
-/// nor an identifier that was given.
+/// Whether an outcome has this note, and neither an answer of a pool, nor an entry that was
+/// dropped, nor an identifier that was given.
 fn has_only(outcome: &Outcome, note: Note) -> bool {
     outcome.note == note
         && outcome.answer.is_none()

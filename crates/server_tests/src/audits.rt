@@ -93,7 +93,8 @@ fn a_running_server_is_audited_in_chapters(rt: HostRuntime) {
     assert!(rt; passed == Some((true, true)));
 }
 
-/// Whether these are two chapters of one turn each, one behind the other, right before what is left.
+/// Whether these are two chapters of one turn each, one behind the other, right before what is
+/// left.
 fn are_latest<P: Pool>(report: &Report<P>) -> bool {
     let [one, other] = report.chapters.as_slice() else {
         return false;
@@ -117,8 +118,8 @@ fn are_let_go<P: Pool>(report: &Report<P>) -> bool {
         && report.turns >= 1
 }
 
-/// Whether a server that ends a chapter after each turn has the latest two, if it keeps two of them; or
-/// whether it has let all go, if it keeps none.
+/// Whether a server that ends a chapter after each turn has the latest two, if it keeps two of
+/// them; or whether it has let all go, if it keeps none.
 fn keeps_latest<R: Threads + Wait + Clock + Sync>(
     rt: &R,
     alloc: Global,

@@ -149,8 +149,8 @@ const PARTED: [Deed; 7] = [
     Deed::Gives,
 ];
 
-/// How many datagrams were received, and how many receives have failed, if a worker stops after three
-/// failed receives in a row.
+/// How many datagrams were received, and how many receives have failed, if a worker stops after
+/// three failed receives in a row.
 fn failed_receives<R: Threads + Wait + Clock + Sync>(
     rt: &R,
     alloc: Global,
@@ -173,8 +173,8 @@ fn a_datagram_parts_failed_receives(rt: HostRuntime) {
     assert!(rt; failed == Some((1, 5)));
 }
 
-/// How many datagrams made a step, and how many replies there were, if the first of two datagrams has
-/// 4,097 octets.
+/// How many datagrams made a step, and how many replies there were, if the first of two datagrams
+/// has 4,097 octets.
 fn too_much<R: Threads + Wait + Clock + Sync>(rt: &R, alloc: Global) -> Option<(u64, u64)> {
     const DEEDS: [Deed; 2] = [Deed::GivesTooMuch, Deed::Gives];
     let report = served(rt, alloc, &DEEDS, PLAN)?;

@@ -24,8 +24,8 @@ const NEVER: u64 = u64::MAX;
 /// For how many milliseconds a worker is held at most.
 const PATIENCE: usize = 10_000;
 
-/// What is known of an end: which of its calls fails, counted from 0, how many it was asked for and how
-/// many of them have failed, and whether it has told that it stopped.
+/// What is known of an end: which of its calls fails, counted from 0, how many it was asked for and
+/// how many of them have failed, and whether it has told that it stopped.
 #[derive(Drop)]
 struct Record {
     fails_at: u64,
@@ -181,8 +181,8 @@ fn agrees_if_failing<R: Threads + Wait + Clock + Sync>(
     Some((agrees(&report, failed), failed > 0))
 }
 
-/// In how many runs a receive has failed, each time another one, until none does; None if one of the
-/// runs doesn't agree.
+/// In how many runs a receive has failed, each time another one, until none does; None if one of
+/// the runs doesn't agree.
 fn failing_receives<R: Threads + Wait + Clock + Sync>(rt: &R, alloc: Global) -> Option<u64> {
     for receive in 0..100 {
         match agrees_if_failing(rt, alloc, receive, NEVER)? {

@@ -1,4 +1,5 @@
-//! What is due at a tick is done at that tick, and what it sends is sent. A datagram has the moment at which it came.
+//! What is due at a tick is done at that tick, and what it sends is sent. A datagram has the moment
+//! at which it came.
 
 ghost use Rattle.std.specs.Prelude.{◌≤◌, length};
 ghost use Rattle.udp_server.specs.Ends.{IsWithin};
@@ -26,8 +27,8 @@ const TIMERS: usize = 1;
 /// For how many milliseconds the end waits for the replies at most.
 const PATIENCE: u64 = 10_000;
 
-/// How many milliseconds after its start the clock of the timers leaps to: by then each kept reply is over, and the
-/// endpoint that is in the call was silent for too long.
+/// How many milliseconds after its start the clock of the timers leaps to: by then each kept reply
+/// is over, and the endpoint that is in the call was silent for too long.
 const AHEAD: u64 = 40_000;
 
 /// The endpoint that is called.
@@ -36,7 +37,8 @@ const CALLED: Source = Address {
     port: 1719,
 };
 
-/// An end that gives `left` requests, is quiet until that many replies were sent, and then has stopped.
+/// An end that gives `left` requests, is quiet until that many replies were sent, and then has
+/// stopped.
 #[derive(Drop)]
 struct Caller<'a, R> {
     rt: &'a R,
@@ -101,8 +103,8 @@ impl Moments for Leap<'_> {
     }
 }
 
-/// A gate that holds the worker of the timers once for a while, before the first step at which its clock is ahead:
-/// the other worker has ended by then, and the sender waits for this one alone.
+/// A gate that holds the worker of the timers once for a while, before the first step at which its
+/// clock is ahead: the other worker has ended by then, and the sender waits for this one alone.
 #[derive(Drop)]
 struct Late<'a, R> {
     rt: &'a R,
@@ -122,8 +124,8 @@ impl<R: Clock> Gate for Late<'_, R> {
     }
 }
 
-/// Whether at the end nothing is due any more, and all was sent: a reply to each request, and what asks the silent
-/// endpoint for its state.
+/// Whether at the end nothing is due any more, and all was sent: a reply to each request, and what
+/// asks the silent endpoint for its state.
 fn is_all_done<R: Threads + Wait + Clock + Sync>(rt: &R, alloc: Global) -> Option<bool> {
     let (sent, was_held) = (AtomicU64::new(0), AtomicBool::new(false));
     let caller = |left: u64| Caller {
@@ -189,7 +191,8 @@ impl Datagrams for Waiting<'_> {
     }
 }
 
-/// Whether the step of a datagram has the moment at which it came, and not that at which its end began to wait.
+/// Whether the step of a datagram has the moment at which it came, and not that at which its end
+/// began to wait.
 fn has_its_moment<R: Threads + Wait + Clock + Sync>(rt: &R, alloc: Global) -> Option<bool> {
     let passed = AtomicU64::new(0);
     let end = |is_done: bool| Waiting {

@@ -1,4 +1,5 @@
-//! Two workers are at work at once: one gets on while the other one, or the sender, is held anywhere.
+//! Two workers are at work at once: one gets on while the other one, or the sender, is held
+//! anywhere.
 
 use crate::clocks::clocks;
 use crate::fixtures::{PLAN, zone};

@@ -14,8 +14,8 @@ pub enum ServeKey {
     Faults,
     /// How long it is from one look at what is due to the next, in milliseconds.
     Tick,
-    /// How many octets of datagrams that aren't received yet the system is asked to hold; 0: as many as
-    /// it holds by itself.
+    /// How many octets of datagrams that aren't received yet the system is asked to hold; 0: as
+    /// many as it holds by itself.
     Buffer,
 }
 

@@ -125,9 +125,10 @@ faults = 16
 # How long it is from one look at what is due to the next: 1 to 60000 milliseconds.
 tick = 20
 
-# How many octets of datagrams that weren't received yet the system is asked to hold: 1 to 1073741823,
-# or 0 for as many as it holds by itself. The default is meant for a storm of 20000 registrations; the
-# system may have a smaller limit of its own (on Linux net.core.rmem_max), and `serve` warns if it does.
+# How many octets of datagrams that weren't received yet the system is asked to hold: 1 to
+# 1073741823, or 0 for as many as it holds by itself. The default is meant for a storm of 20000
+# registrations; the system may have a smaller limit of its own (on Linux net.core.rmem_max), and
+# `serve` warns if it does.
 buffer = 8388608
 
 # The pools that lend calls their bandwidth: 1 to 16 tables `[[pool]]`. A call has its bandwidth

@@ -5,8 +5,8 @@ use std::alloc::{AllocError, Global};
 use std::test::Fail;
 use zone_config::Key;
 
-/// A number that is set: its name, its path, the least and the greatest number that it takes, and its
-/// default.
+/// A number that is set: its name, its path, the least and the greatest number that it takes, and
+/// its default.
 type Row = (&'static str, &'static str, u64, u64, u64);
 
 /// The numbers of the zone.

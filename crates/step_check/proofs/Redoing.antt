@@ -1,5 +1,6 @@
 -- A step that is done again by what its outcome shows is that step.
-use Rattle.std.proofs.Common.{◌≡◌, ◌<◌, ◌≤◌, ◌↔◌, ◌∙◌, ◌+◌, ℕ, Bool, true, false, List, Some, None, ap, subst}
+use Rattle.std.proofs.Common.{◌≡◌, ◌<◌, ◌≤◌, ◌↔◌, ◌∙◌, ◌+◌, ℕ, Bool, true, false, List, Some, None}
+use Rattle.std.proofs.Common.{ap, subst}
 use Rattle.std.proofs.Common.{sym, refl, arith}
 use Rattle.std.specs.Prelude.{Option, IfSome, IsTrue, max, nat_lt, if◌then◌else◌}
 use Rattle.std.specs.Option.{IsSomeAnd}
@@ -30,7 +31,8 @@ use Rattle.ras_machine.specs.State.{State}
 use Rattle.ras_machine.specs.Keeping.{Task, plan_at}
 use Rattle.ras_machine.specs.Machine.{Choices, Course, Ignoring, Hearing, Repeating, Serving, Doing}
 use Rattle.ras_machine.specs.Machine.{Idle, Ending, at_moment, course_at, course_ending, moment_of}
-use Rattle.ras_machine.specs.Machine.{most_steps, noted, plan_ending, serving, with_answer, with_name}
+use Rattle.ras_machine.specs.Machine.{most_steps, noted, plan_ending, serving, with_answer}
+use Rattle.ras_machine.specs.Machine.{with_name}
 use Rattle.ras_machine.specs.Courses.{IsReady, MayBeGiven, MayBeNamed, Performs, Stands, course_of}
 use Rattle.ras_machine.specs.Courses.{task_course}
 use Rattle.ras_machine.specs.Steps.{IsAllowed, IsAskedOnce, IsUnusedIn, MayChoose, Step, ask_in}

@@ -8,7 +8,8 @@ use Rattle.ras_machine.specs.Machine.{course_at, course_ending}
 use Rattle.ras_machine.specs.Courses.{CallsFor, IsReady}
 use Rattle.ras_machine.specs.Steps.{IsAllowed, choices_of}
 
--- a course of the code is what the event called for, and what was chosen for it so far may be chosen
+-- a course of the code is what the event called for, and what was chosen for it so far may be
+-- chosen
 pub record IsShown (s : State) (now : ℕ) (event : Event) (outcome : Outcome) (called : code.Course)
     : Type 0 where
   pub calls : CallsFor s now (course_at s now event (choices_of outcome)) called

@@ -62,8 +62,8 @@ pub fn accepts(
     }
 }
 
-/// Whether the snapshot is the state of the zone: its tables, what it keeps, its clock and counters,
-/// and the figures of its pools. This takes no memory.
+/// Whether the snapshot is the state of the zone: its tables, what it keeps, its clock and
+/// counters, and the figures of its pools. This takes no memory.
 pub fn same<P: Pool>(snapshot: &Snapshot, zone: &Zone<P>) -> bool
     ensures { IsTrue result ↔ (snapshot.now ≡ zone.now.state) }
 {

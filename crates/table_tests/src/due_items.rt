@@ -113,8 +113,8 @@ fn is_due_from(
         && due(table, calls, kept, moment, NEVER, &TIMES) == Some(item)
 }
 
-/// Whether an endpoint in a call, silent from the start, is asked after 30 seconds, and twice more in
-/// steps of 5 seconds, and counts as silent 5 seconds after the last question.
+/// Whether an endpoint in a call, silent from the start, is asked after 30 seconds, and twice more
+/// in steps of 5 seconds, and counts as silent 5 seconds after the last question.
 fn is_asked_three_times(
     alloc: Global,
     table: &mut Registrations,

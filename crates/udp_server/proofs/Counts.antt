@@ -16,5 +16,17 @@ few_counted f carried since es first few same all is =
     let ds : since.datagrams ≡ 0 + datagrams_of es = ap (λ (t : Totals). t.datagrams) is in
     let ts : since.turns ≡ 0 + turns_of es = ap (λ (t : Totals). t.turns) is in
     let n : length es ≡ length f.entries = ap (λ (e : List Entry). length e) all in
-    let every = all_counted es in
-    (omega (arith, first, few, d, t, ds, ts, n, every), omega (arith, first, few, d, t, ds, ts, n, every))
+    let every = all_counted es in (
+      omega (arith, first, few, d, t, ds, ts, n, every),
+      omega (
+        arith,
+        first,
+        few,
+        d,
+        t,
+        ds,
+        ts,
+        n,
+        every,
+      ),
+    )

@@ -14,7 +14,8 @@ pub record AreCounts (seats receivers clocks : ℕ) : Type 0 where
   pub one_more : seats ≡ receivers + 1
   pub clock_each : clocks ≡ seats
 
--- no more receiving ends than a lock has seats for, beside one for the turns; and a clock for each seat
+-- no more receiving ends than a lock has seats for, beside one for the turns; and a clock for each
+-- seat
 pub record AreCountsOfEnds (receivers clocks : ℕ) : Type 0 where
   pub few : receivers ≤ 15
   pub clock_each : clocks ≡ receivers + 1

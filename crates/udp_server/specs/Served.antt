@@ -7,10 +7,10 @@ use Rattle.books.specs.Chapters.{FinishedValue}
 use Rattle.books.specs.Totals.{datagrams_of, lent_of, returned_by, turns_of}
 use Rattle.zone_lock.specs.Held.{IsLedInUse, IsWholeHistory}
 
--- The history that a server leaves of a zone that was locked in this state. All steps that were made,
--- those that were let go too, lead from that state to the state of the zone, which is sound. The
--- entries since the last chapter lead there from the state after it; if no step stands before them,
--- they lead there from the state in which the zone was locked. The settings are the same. The
+-- The history that a server leaves of a zone that was locked in this state. All steps that were
+-- made, those that were let go too, lead from that state to the state of the zone, which is sound.
+-- The entries since the last chapter lead there from the state after it; if no step stands before
+-- them, they lead there from the state in which the zone was locked. The settings are the same. The
 -- bandwidth in use is what was in use then, with what was lent in the whole history, but without
 -- what came back in it. The whole history has `datagrams` datagrams and `turns` turns.
 pub record IsServed (opened : State) (f : FinishedValue) (datagrams turns : ℕ) : Type 0 where

@@ -1,5 +1,5 @@
-//! What the threads of a server tell one another: when they begin, how many workers have ended, and that
-//! a reply waits for the sender.
+//! What the threads of a server tell one another: when they begin, how many workers have ended, and
+//! that a reply waits for the sender.
 
 use std::rt::Clock;
 use std::sync::{Condvar, Mutex, Wait};

@@ -13,8 +13,8 @@ use std::sync::Wait;
 use std::sync::ledger::Ledger;
 use zone_lock::{Discarded, Hall};
 
-/// The latest chapters, and the place of the first entry behind them. If no chapter is kept, the room of
-/// the entries that were let go last: the next ones stand there.
+/// The latest chapters, and the place of the first entry behind them. If no chapter is kept, the
+/// room of the entries that were let go last: the next ones stand there.
 #[derive(Drop)]
 pub(crate) struct Chapters {
     latest: Vec<Chapter>,
@@ -33,8 +33,8 @@ impl Chapters {
         }
     }
 
-    /// Ends a chapter if one is due by the plan: a step was the entry at this place. If no chapter is
-    /// kept, none is made: the entries are let go, once the lock is free.
+    /// Ends a chapter if one is due by the plan: a step was the entry at this place. If no chapter
+    /// is kept, none is made: the entries are let go, once the lock is free.
     pub(crate) fn end_if_due<P: Pool, D: Hall, T: Ledger, U: Ledger, R: Wait, G: Gate>(
         &mut self,
         shared: &Shared<'_, P, D, T, U, R, G>,

@@ -6,8 +6,8 @@ ghost use Rattle.udp_server.specs.Ends.{IsWithin, fault_count};
 use ras_module::Source;
 use zone_events::Datagram;
 
-/// How many octets of a datagram are received at most. A datagram of a request has at most 4,096; one
-/// octet more shows that it is too long.
+/// How many octets of a datagram are received at most. A datagram of a request has at most 4,096;
+/// one octet more shows that it is too long.
 pub const MOST_RECEIVED: usize = 4_097;
 
 /// What a receive gave.

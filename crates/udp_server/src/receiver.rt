@@ -21,8 +21,8 @@ struct Receiver<N: Datagrams> {
     failed_in_a_row: u64,
 }
 
-/// Receives datagrams and makes a step for each, until the end has stopped, too many receives in a row
-/// have failed, or no step may be made any more.
+/// Receives datagrams and makes a step for each, until the end has stopped, too many receives in a
+/// row have failed, or no step may be made any more.
 pub(crate) fn work<
     P: Pool,
     D: Hall,

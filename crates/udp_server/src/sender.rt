@@ -6,8 +6,8 @@ use reply_queues::Inlet;
 use std::sync::Wait;
 use std::thread::yield_now;
 
-/// How often the sender looks for one more reply before it sleeps: for some microseconds. To sleep and to
-/// be woken takes longer, for it and for the worker that wakes it.
+/// How often the sender looks for one more reply before it sleeps: for some microseconds. To sleep
+/// and to be woken takes longer, for it and for the worker that wakes it.
 const LOOKS: usize = 64;
 
 /// An end that sends, and how many replies were sent and how many sends have failed.
@@ -58,8 +58,8 @@ pub(crate) fn send_all<R: Wait, N: Datagrams>(
 }
 
 impl<N: Datagrams> Sender<N> {
-    /// Sends the next reply of each ring, and waits a little for one if there is none. Whether there was
-    /// any.
+    /// Sends the next reply of each ring, and waits a little for one if there is none. Whether
+    /// there was any.
     fn has_sent_soon(&mut self, inlets: &mut [Inlet]) -> bool {
         for _ in 0..LOOKS {
             if self.has_sent(inlets) {

@@ -27,9 +27,9 @@ use std::sync::ledger::Ledger;
 use std::thread::Threads;
 use zone_lock::{Blanks, Hall, OpenFault, Seat, ZoneLock};
 
-/// Serves the zone of a lock until each receiving end has stopped. It takes all seats of the lock: one
-/// for each receiving end, in order, and the last one for the turns of the timers; and a clock for each
-/// seat. What is refused is let go.
+/// Serves the zone of a lock until each receiving end has stopped. It takes all seats of the lock:
+/// one for each receiving end, in order, and the last one for the turns of the timers; and a clock
+/// for each seat. What is refused is let go.
 pub fn serve<
     P: Pool + Send,
     D: Hall + Send + Sync,
@@ -212,8 +212,8 @@ fn counted<P: Pool>(finished: &Finished<P>) -> (u64, u64)
     )
 }
 
-/// Puts a zone behind a lock and serves it: a seat for each receiving end, of which there are at most 15,
-/// and one for the turns of the timers.
+/// Puts a zone behind a lock and serves it: a seat for each receiving end, of which there are at
+/// most 15, and one for the turns of the timers.
 pub fn serve_zone<
     P: Pool + Send,
     R: Threads + Wait + Clock + Sync,

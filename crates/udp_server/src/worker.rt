@@ -204,8 +204,8 @@ impl<D: Hall, T: Ledger, U: Ledger, C: Moments> Worker<D, T, U, C> {
         reply
     }
 
-    /// The same reply in memory of its own length, if there is any: the seat gets the buffer back, in
-    /// which there is room for the longest one.
+    /// The same reply in memory of its own length, if there is any: the seat gets the buffer back,
+    /// in which there is room for the longest one.
     fn short(&mut self, reply: Datagram) -> Datagram
         ensures { result ≡ reply }
     {

@@ -10,8 +10,8 @@ use std::os::fd::AsRawFd;
 use std::time::Duration;
 use thiserror::Error;
 
-/// For how many milliseconds a receive waits for a datagram: an end that is to stop does so within this
-/// time.
+/// For how many milliseconds a receive waits for a datagram: an end that is to stop does so within
+/// this time.
 const WAIT: u64 = 200;
 
 /// A socket that is bound to the address of a zone.

@@ -1,5 +1,5 @@
-//! A UDP socket over IPv4, bound to the address of a zone, with the ends by which a server receives and
-//! sends over it.
+//! A UDP socket over IPv4, bound to the address of a zone, with the ends by which a server receives
+//! and sends over it.
 #![tactic(auto)]
 
 mod addresses;

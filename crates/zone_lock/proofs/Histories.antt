@@ -56,10 +56,30 @@ all_counted (e ∷ es) =
 same_totals : (a b : Totals) → a.datagrams ≡ b.datagrams → a.turns ≡ b.turns → a.lent ≡ b.lent
     → a.returned ≡ b.returned → a ≡ b
 same_totals a b d t u r =
-    ap (λ (n : ℕ). let x : Totals = record { datagrams = n; turns = a.turns; lent = a.lent; returned = a.returned } in x) d
-    ∙ (ap (λ (n : ℕ). let x : Totals = record { datagrams = b.datagrams; turns = n; lent = a.lent; returned = a.returned } in x) t
-    ∙ (ap (λ (n : ℕ). let x : Totals = record { datagrams = b.datagrams; turns = b.turns; lent = n; returned = a.returned } in x) u
-    ∙ ap (λ (n : ℕ). let x : Totals = record { datagrams = b.datagrams; turns = b.turns; lent = b.lent; returned = n } in x) r))
+    ap (λ (n : ℕ). let x : Totals = record {
+      datagrams = n;
+      turns = a.turns;
+      lent = a.lent;
+      returned = a.returned;
+    } in x) d
+    ∙ (ap (λ (n : ℕ). let x : Totals = record {
+      datagrams = b.datagrams;
+      turns = n;
+      lent = a.lent;
+      returned = a.returned;
+    } in x) t
+    ∙ (ap (λ (n : ℕ). let x : Totals = record {
+      datagrams = b.datagrams;
+      turns = b.turns;
+      lent = n;
+      returned = a.returned;
+    } in x) u
+    ∙ ap (λ (n : ℕ). let x : Totals = record {
+      datagrams = b.datagrams;
+      turns = b.turns;
+      lent = b.lent;
+      returned = n;
+    } in x) r))
 
 -- the totals so far have as many datagrams and turns as there are entries
 pub so_many : (opened : State) (h : Held) (sums : Totals) (units d t u : ℕ)
@@ -115,19 +135,26 @@ pub inside_more : (opened : State) (h : Held) (sums next : Totals) (units d t u 
     → d1 ≡ d + datagrams_in entry.event → t1 ≡ t + turns_in entry.event
     → u1 ≡ u + units_lent entry.outcome.answer
     → IsInside opened (longer h entry after) next units d1 t1 u1
-inside_more opened h sums next units d t u d1 t1 u1 entry after is step few ds ts us rs dt tt ut = record {
-  kept = kept_more opened h entry after is.kept step;
-  opened_units = is.opened_units;
-  so_far = same_totals next (totals_with h.carried (h.entries ++ entry ∷ []) 0)
-      (omega (arith, ds, datagrams_more h.entries entry, ap (λ (x : Totals). x.datagrams) is.so_far))
-      (omega (arith, ts, turns_more h.entries entry, ap (λ (x : Totals). x.turns) is.so_far))
-      (omega (arith, us, lent_more h.entries entry, ap (λ (x : Totals). x.lent) is.so_far))
-      (rs ∙ ap (λ (x : Totals). x.returned) is.so_far);
-  datagrams = omega (arith, dt, ds, is.datagrams);
-  turns = omega (arith, tt, ts, is.turns);
-  lent = omega (arith, ut, us, is.lent);
-  few_lent = omega (arith, us, is.few_lent, few, length-append h.entries (entry ∷ []));
-}
+inside_more opened h sums next units d t u d1 t1 u1 entry after is step few ds ts us rs dt tt
+    ut = record {
+      kept = kept_more opened h entry after is.kept step;
+      opened_units = is.opened_units;
+      so_far = same_totals next (totals_with h.carried (h.entries ++ entry ∷ []) 0)
+          (omega (
+            arith,
+            ds,
+            datagrams_more h.entries entry,
+            ap (λ (x : Totals). x.datagrams)
+                is.so_far,
+          ))
+          (omega (arith, ts, turns_more h.entries entry, ap (λ (x : Totals). x.turns) is.so_far))
+          (omega (arith, us, lent_more h.entries entry, ap (λ (x : Totals). x.lent) is.so_far))
+          (rs ∙ ap (λ (x : Totals). x.returned) is.so_far);
+      datagrams = omega (arith, dt, ds, is.datagrams);
+      turns = omega (arith, tt, ts, is.turns);
+      lent = omega (arith, ut, us, is.lent);
+      few_lent = omega (arith, us, is.few_lent, few, length-append h.entries (entry ∷ []));
+    }
 
 -- what is held, by its parts
 abbrev pub cut_so : ℕ → Totals → Option State → List Entry → Running → Held
@@ -189,7 +216,14 @@ module _ (opened : State) (h : Held) (sums carried : Totals) (units d t u : ℕ)
             (omega (arith, ds, many.0, none))
             (omega (arith, ts, many.0, none))
             (omega (arith, us, is.few_lent, none))
-            (omega (arith, rs, is.few_lent, none, is.opened_units, ap (λ (s : State). in_use s.tables.calls) same)),
+            (omega (
+              arith,
+              rs,
+              is.few_lent,
+              none,
+              is.opened_units,
+              ap (λ (s : State). in_use s.tables.calls) same,
+            )),
       )
 
   totals_joined : AreCarriedOn no_totals (is.kept.past ++ h.entries) carried
@@ -224,7 +258,8 @@ module _ (opened : State) (h : Held) (sums carried : Totals) (units d t u : ℕ)
       let none : lent_of [] ≡ 0 = refl in record {
         past = is.kept.past ++ h.entries;
         began = h.zone.state;
-        before = run_on opened is.kept.began h.zone.state is.kept.past h.entries is.kept.before is.kept.run;
+        before = run_on opened is.kept.began h.zone.state is.kept.past h.entries is.kept.before
+            is.kept.run;
         places = omega (arith, is.kept.places, length-append is.kept.past h.entries);
         totals = totals_joined;
         base = λ s is_base. absurd (cc is_base);
@@ -261,7 +296,8 @@ pub inside_opened : (opened : State) (zone : Running) (base : State) (es : List 
     → base ≡ zone.state → es ≡ [] → carried ≡ no_totals → sums ≡ no_totals
     → units ≡ in_use zone.state.tables.calls → d ≡ 0 → t ≡ 0 → u ≡ 0
     → IsInside opened (cut_so 0 carried (Some base) es zone) sums units d t u
-inside_opened opened zone base es carried sums units d t u at sound based none nothing sum used ds ts us =
+inside_opened opened zone base es carried sums units d t u at sound based none nothing sum used ds
+    ts us =
     let same : zone.state ≡ opened = sym at in
     let backs : in_use zone.state.tables.calls ≡ in_use opened.tables.calls =
     ap (λ (s : State). in_use s.tables.calls) same in
@@ -302,7 +338,8 @@ inside_opened opened zone base es carried sums units d t u at sound based none n
     }
 
 -- Without entries, the book begins in the state of the zone, and a copy of it may be kept.
-pub inside_based : (opened : State) (h : Held) (sums : Totals) (units d t u : ℕ) (next : Option State)
+pub inside_based : (opened : State) (h : Held) (sums : Totals) (units d t u : ℕ)
+    (next : Option State)
     → IsInside opened h sums units d t u → h.entries ≡ [] → next ≡ Some h.zone.state
     → IsInside opened (cut_so h.first h.carried next h.entries h.zone) sums units d t u
 inside_based opened h sums units d t u next is none same =
@@ -353,7 +390,8 @@ left_of h base = record {
   carried = h.carried;
 }
 
-rest_at : (opened : State) (h : Held) (kept : IsKept opened h) → IsRest opened (left_of h kept.began)
+rest_at : (opened : State) (h : Held) (kept : IsKept opened h) → IsRest opened
+    (left_of h kept.began)
 rest_at opened h kept = record {
   run = kept.run;
   opened_at = λ none. (kept.opened_at none).0;
@@ -361,12 +399,13 @@ rest_at opened h kept = record {
   in_use = omega (arith, kept.carried, kept.backed);
 }
 
--- It goes on from the state of which a copy is kept, or, if there is none and so no entry, from that of
--- the zone.
+-- It goes on from the state of which a copy is kept, or, if there is none and so no entry, from
+-- that of the zone.
 rest_from : (opened : State) (h : Held) (base : Option State) → IsKept opened h → h.base ≡ base
     → (h.base ≡ None → h.entries ≡ []) → IsRest opened (left_of h (base_or base h.zone.state))
 rest_from opened h (Some base) kept is none =
-    subst (λ (b : State). IsRest opened (left_of h b)) (sym (kept.base base is)) (rest_at opened h kept)
+    subst (λ (b : State). IsRest opened (left_of h b)) (sym (kept.base base is))
+    (rest_at opened h kept)
 rest_from opened h None kept is none =
     let now : h.zone.state ≡ kept.began =
     subst (λ (es : List Entry). BookRun kept.began es h.zone.state) (none is) kept.run in
@@ -375,11 +414,41 @@ rest_from opened h None kept is none =
 same_left : (f : FinishedValue) (h : Held) (base : State) → f.zone ≡ h.zone → f.base ≡ base
     → f.entries ≡ h.entries → f.first ≡ h.first → f.carried ≡ h.carried → f ≡ left_of h base
 same_left f h base z b e n t =
-    ap (λ (x : Running). let l : FinishedValue = record { zone = x; base = f.base; entries = f.entries; first = f.first; carried = f.carried } in l) z
-    ∙ (ap (λ (x : State). let l : FinishedValue = record { zone = h.zone; base = x; entries = f.entries; first = f.first; carried = f.carried } in l) b
-    ∙ (ap (λ (x : List Entry). let l : FinishedValue = record { zone = h.zone; base = base; entries = x; first = f.first; carried = f.carried } in l) e
-    ∙ (ap (λ (x : ℕ). let l : FinishedValue = record { zone = h.zone; base = base; entries = h.entries; first = x; carried = f.carried } in l) n
-    ∙ ap (λ (x : Totals). let l : FinishedValue = record { zone = h.zone; base = base; entries = h.entries; first = h.first; carried = x } in l) t)))
+    ap (λ (x : Running). let l : FinishedValue = record {
+      zone = x;
+      base = f.base;
+      entries = f.entries;
+      first = f.first;
+      carried = f.carried;
+    } in l) z
+    ∙ (ap (λ (x : State). let l : FinishedValue = record {
+      zone = h.zone;
+      base = x;
+      entries = f.entries;
+      first = f.first;
+      carried = f.carried;
+    } in l) b
+    ∙ (ap (λ (x : List Entry). let l : FinishedValue = record {
+      zone = h.zone;
+      base = base;
+      entries = x;
+      first = f.first;
+      carried = f.carried;
+    } in l) e
+    ∙ (ap (λ (x : ℕ). let l : FinishedValue = record {
+      zone = h.zone;
+      base = base;
+      entries = h.entries;
+      first = x;
+      carried = f.carried;
+    } in l) n
+    ∙ ap (λ (x : Totals). let l : FinishedValue = record {
+      zone = h.zone;
+      base = base;
+      entries = h.entries;
+      first = h.first;
+      carried = x;
+    } in l) t)))
 
 pub rest_of : (opened : State) (h : Held) (f : FinishedValue) → IsKept opened h
     → (h.base ≡ None → h.entries ≡ []) → f.zone ≡ h.zone

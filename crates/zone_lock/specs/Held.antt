@@ -20,8 +20,9 @@ use Rattle.books.specs.Totals.{datagrams_of, lent_of, no_totals, totals_with, tu
 abbrev pub idle_state : State
 idle_state = opening (default_parts [] (record { ip = []; port = 0 }) []) []
 
--- The place of the book's first entry in the whole history, the totals of the entries before it, the
--- state in which the book begins, unless no copy of it is kept, its entries, and the zone as it runs.
+-- The place of the book's first entry in the whole history, the totals of the entries before it,
+-- the state in which the book begins, unless no copy of it is kept, its entries, and the zone as it
+-- runs.
 pub record Held : Type 0 where
   pub first : ℕ
   pub carried : Totals
@@ -29,8 +30,8 @@ pub record Held : Type 0 where
   pub entries : List Entry
   pub zone : Running
 
--- The bandwidth that is in use in the one state is that of the other, with what was lent in between,
--- but without what came back.
+-- The bandwidth that is in use in the one state is that of the other, with what was lent in
+-- between, but without what came back.
 abbrev pub IsLedInUse : State → State → ℕ → ℕ → Type 0
 IsLedInUse old new lent returned =
     in_use new.tables.calls + returned ≡ in_use old.tables.calls + lent
@@ -42,11 +43,11 @@ pub record AreCarriedOn (before : Totals) (entries : List Entry) (after : Totals
   pub lent : after.lent ≡ before.lent + lent_of entries
 
 -- What holds whenever the lock is free. The steps before the book, kept or not, are a run from the
--- state in which the zone was locked to the one in which the book began: as many as the place of its
--- first entry says, with the totals that were carried. The book leads on from there to the state of the
--- zone; if a copy of the state in which it began is kept, it is that state. If there was no step before
--- the book, it began in the state in which the zone was locked; otherwise what was in use where it began
--- follows from the totals before it, and the settings are the same.
+-- state in which the zone was locked to the one in which the book began: as many as the place of
+-- its first entry says, with the totals that were carried. The book leads on from there to the
+-- state of the zone; if a copy of the state in which it began is kept, it is that state. If there
+-- was no step before the book, it began in the state in which the zone was locked; otherwise what
+-- was in use where it began follows from the totals before it, and the settings are the same.
 pub record IsKept (opened : State) (h : Held) : Type 0 where
   pub past : List Entry
   pub began : State
@@ -64,9 +65,9 @@ pub record IsKept (opened : State) (h : Held) : Type 0 where
   pub sound : Sound h.zone.state
   pub few : h.first + length h.entries ≤ h.zone.state.steps
 
--- What holds of all that stands behind the lock: the units are those that were in use when the zone was
--- locked; the totals so far are those before the book with what its entries add, and each ledger has the
--- total of its kind; no step lends 2^64 units.
+-- What holds of all that stands behind the lock: the units are those that were in use when the zone
+-- was locked; the totals so far are those before the book with what its entries add, and each
+-- ledger has the total of its kind; no step lends 2^64 units.
 pub record IsInside (opened : State) (h : Held) (sums : Totals)
     (units all_datagrams all_turns all_lent : ℕ) : Type 0 where
   pub kept : IsKept opened h
@@ -103,9 +104,10 @@ pub record IsStepOfSome (event : Event) (outcome : Outcome) : Type 0 where
   pub sound : Sound old.state
   pub step : RunningStep old event outcome new
 
--- The whole history of a zone that was locked in this state, up to what is left of it: with the entries
--- that are left, those before them, which may have been let go, are a run of the machine to the zone.
--- They are as many as the place of the first entry that is left says, and their totals were carried.
+-- The whole history of a zone that was locked in this state, up to what is left of it: with the
+-- entries that are left, those before them, which may have been let go, are a run of the machine to
+-- the zone. They are as many as the place of the first entry that is left says, and their totals
+-- were carried.
 pub record IsWholeHistory (opened : State) (f : FinishedValue) : Type 0 where
   pub past : List Entry
   pub run : BookRun opened (past ++ f.entries) f.zone.state

@@ -7,8 +7,8 @@ use Rattle.ras_machine.specs.State.{State}
 use Rattle.ras_machine.specs.Soundness.{Sound}
 use Rattle.zone_lock.specs.declared.listing.Listing.{Listing}
 
--- The endpoints that are registered in this state and the calls that are open, the bandwidth in use,
--- which is the sum over these calls, and the limit of the zone, within which it is.
+-- The endpoints that are registered in this state and the calls that are open, the bandwidth in
+-- use, which is the sum over these calls, and the limit of the zone, within which it is.
 pub record IsListing (s : State) (l : Listing) : Type 0 where
   pub endpoints : IsListOf s.tables.live l.endpoints
   pub calls : l.calls ≡ entries s.tables.calls

@@ -4,8 +4,8 @@ use Rattle.zone_events.specs.declared.event.Event.{Event}
 use Rattle.zone_events.specs.declared.outcome.Outcome.{Outcome}
 use Rattle.books.specs.Totals.{datagrams_in, turns_in, units_lent}
 
--- Its number, how many steps it made, and its shares: how many of these were of a datagram, how many
--- of a turn, and how many units were lent in them.
+-- Its number, how many steps it made, and its shares: how many of these were of a datagram, how
+-- many of a turn, and how many units were lent in them.
 pub record Seated : Type 0 where
   pub number : ℕ
   pub calls : ℕ

@@ -15,8 +15,8 @@ use std::alloc::Global;
 use std::mem;
 use std::sync::ledger::Ledger;
 
-/// What a lock had of its history, and has no more: the state in which its book began, if a copy of it
-/// was kept, and the entries of the book.
+/// What a lock had of its history, and has no more: the state in which its book began, if a copy of
+/// it was kept, and the entries of the book.
 #[derive(Drop)]
 pub struct Discarded {
     pub base: Option<SharedSnapshot>,
@@ -26,8 +26,8 @@ pub struct Discarded {
 /// Why no chapter ends.
 #[derive(Clone, Copy, Debug, PartialEq, Eq, Drop)]
 pub enum CutFault {
-    /// The entries before were let go, with the state to which they led, so that nobody has the state
-    /// in which the chapter would begin.
+    /// The entries before were let go, with the state to which they led, so that nobody has the
+    /// state in which the chapter would begin.
     NoBase,
     Memory,
 }
@@ -44,9 +44,10 @@ impl CutFault {
     }
 }
 
-/// Ends a chapter: the entries so far are taken out, and the state that they lead to, which is copied
-/// once, is the end of the chapter and the base of what comes. It is refused as NoBase if and only if
-/// the state in which the chapter would begin was let go. If it is refused, nothing has changed.
+/// Ends a chapter: the entries so far are taken out, and the state that they lead to, which is
+/// copied once, is the end of the chapter and the base of what comes. It is refused as NoBase if
+/// and only if the state in which the chapter would begin was let go. If it is refused, nothing has
+/// changed.
 pub fn cut_locked<P: Pool, D: Hall, T: Ledger, U: Ledger>(
     locked: &mut Locked<P, D, T, U>,
 ) -> Result<Chapter, CutFault>
@@ -107,9 +108,9 @@ fn ends_of<P: Pool>(
     Ok((end, next))
 }
 
-/// Takes the entries so far out, with the copy of the state in which they began, if there is one. The
-/// state to which they lead isn't copied: what comes next begins there, and no copy says so. The entries
-/// that come next stand in `room`, which has none yet. This takes no memory.
+/// Takes the entries so far out, with the copy of the state in which they began, if there is one.
+/// The state to which they lead isn't copied: what comes next begins there, and no copy says so.
+/// The entries that come next stand in `room`, which has none yet. This takes no memory.
 pub fn discard_locked<P: Pool, D: Hall, T: Ledger, U: Ledger>(
     locked: &mut Locked<P, D, T, U>,
     room: Vec<Entry>,

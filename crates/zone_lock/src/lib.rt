@@ -1,6 +1,7 @@
-//! A zone behind a lock, with the history of its steps: whoever has a seat may make a step. The book
-//! under the lock is a run of the machine at any time, and the shares that the seats have of the
-//! ledgers add up to what the history has. What was done can be taken out in chapters, or let go.
+//! A zone behind a lock, with the history of its steps: whoever has a seat may make a step. The
+//! book under the lock is a run of the machine at any time, and the shares that the seats have of
+//! the ledgers add up to what the history has. What was done can be taken out in chapters, or let
+//! go.
 #![tactic(auto)]
 
 mod cutting;

@@ -1,7 +1,8 @@
 //! The lock.
 
 ghost use Rattle.std.specs.Prelude.{◌≡◌, ◌≢◌, ◌≤◌, ◌+◌, ◌<◌, ℕ, Some, slice_get, sum_by, vec_len};
-ghost use Rattle.std.specs.Prelude.{◌^◌, length, IfOk, IfErr, OnOk, OnErr, vec_capacity, ◌⊎◌, [], None};
+ghost use Rattle.std.specs.Prelude.{◌^◌, length, IfOk, IfErr, OnOk, OnErr, vec_capacity, ◌⊎◌, []};
+ghost use Rattle.std.specs.Prelude.{None};
 ghost use Rattle.ras_machine.specs.Soundness.{Sound};
 ghost use Rattle.books.specs.Books.{BookRun};
 ghost use Rattle.books.specs.Totals.{datagrams_of, lent_of, returned_by, turns_of};
@@ -143,8 +144,8 @@ impl<P: Pool, D: Hall, T: Ledger, U: Ledger> ZoneLock<P, D, T, U> {
         ))
     }
 
-    /// Waits for the lock and makes one step. What it needs of memory but for its place in the book is
-    /// there before.
+    /// Waits for the lock and makes one step. What it needs of memory but for its place in the book
+    /// is there before.
     pub fn apply<R: Wait>(
         &self,
         rt: &R,
@@ -182,18 +183,18 @@ impl<P: Pool, D: Hall, T: Ledger, U: Ledger> ZoneLock<P, D, T, U> {
         cut_locked(&mut *self.inner.lock(rt))
     }
 
-    /// Waits for the lock and takes the entries so far out of it. Letting them go is for the caller, once
-    /// the lock is free. Those that come next stand in `room`, which has none yet. No chapter can be cut
-    /// afterwards.
+    /// Waits for the lock and takes the entries so far out of it. Letting them go is for the
+    /// caller, once the lock is free. Those that come next stand in `room`, which has none yet. No
+    /// chapter can be cut afterwards.
     pub fn discard<R: Wait>(&self, rt: &R, room: Vec<Entry>) -> Discarded
         requires { room.items ≡ [] }
     {
         discard_locked(&mut *self.inner.lock(rt), room)
     }
 
-    /// Takes the zone out, with its history since the last chapter. If entries were discarded, so are
-    /// those since then, and the history is left without entries. It is refused if and only if the seats
-    /// are not all of this lock's; lock and seats then come back.
+    /// Takes the zone out, with its history since the last chapter. If entries were discarded, so
+    /// are those since then, and the history is left without entries. It is refused if and only if
+    /// the seats are not all of this lock's; lock and seats then come back.
     pub fn finish(
         self,
         seats: Vec<Seat<D, T, U>>,
@@ -252,8 +253,8 @@ impl<P: Pool, D: Hall, T: Ledger, U: Ledger> ZoneLock<P, D, T, U> {
     }
 }
 
-/// What stood behind a lock. If no copy of the state in which its entries begin is kept, they are let
-/// go, and it begins in the state of the zone.
+/// What stood behind a lock. If no copy of the state in which its entries begin is kept, they are
+/// let go, and it begins in the state of the zone.
 fn settled<P: Pool, D: Hall, T: Ledger, U: Ledger>(locked: Locked<P, D, T, U>) -> Locked<P, D, T, U>
     ensures kept { IsKept D.opened result }
     ensures begun { result.base ≡ None → result.entries ≡ [] }

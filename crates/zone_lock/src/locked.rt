@@ -59,7 +59,8 @@ impl<P: Pool, D: Hall, T: Ledger, U: Ledger> Model for Locked<P, D, T, U> {
       base = l.base;
       entries = l.entries.items;
       zone = l.zone;
-    }) l.so_far l.opened_units l.ledgers.datagrams.total l.ledgers.turns.total l.ledgers.lent.total };
+    }) l.so_far l.opened_units
+        l.ledgers.datagrams.total l.ledgers.turns.total l.ledgers.lent.total };
 }
 
 /// Makes one step of the locked zone, which is the last entry afterwards, or changes nothing. It is

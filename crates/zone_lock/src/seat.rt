@@ -21,8 +21,8 @@ impl Hall for Brand {
     ghost opened = { idle_state };
 }
 
-/// One who may make steps: its number, how many steps it made, and its shares of the three ledgers. It
-/// may have a buffer for the octets of its next receipt, of which contracts see nothing.
+/// One who may make steps: its number, how many steps it made, and its shares of the three ledgers.
+/// It may have a buffer for the octets of its next receipt, of which contracts see nothing.
 #[derive(Drop)]
 pub struct Seat<D: Hall, T: Ledger, U: Ledger> {
     pub(crate) number: usize,
@@ -46,8 +46,8 @@ impl<D: Hall, T: Ledger, U: Ledger> Model for Seat<D, T, U> {
 }
 
 impl<D: Hall, T: Ledger, U: Ledger> Seat<D, T, U> {
-    /// Gives the seat a buffer that is needed no more. The octets of its next receipt stand there, so
-    /// that no memory is requested for them if there is room for 20,000.
+    /// Gives the seat a buffer that is needed no more. The octets of its next receipt stand there,
+    /// so that no memory is requested for them if there is room for 20,000.
     pub fn give_back(&mut self, buffer: Vec<u8>)
         ensures { self.new ≡ self.old }
     {

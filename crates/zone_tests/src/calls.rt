@@ -48,8 +48,8 @@ fn are_two(alloc: Global, zone: &mut Zone<FixedPool>) -> Result<bool, Fail> {
     Ok(zone.endpoints()?.as_slice().len() == 2)
 }
 
-/// Whether a call opens with 1,280 units, is told again, is joined, grows to 2,000 units, keeps its first
-/// endpoint in the zone, and goes on when it leaves.
+/// Whether a call opens with 1,280 units, is told again, is joined, grows to 2,000 units, keeps its
+/// first endpoint in the zone, and goes on when it leaves.
 fn is_lived(alloc: Global, zone: &mut Zone<FixedPool>) -> Result<bool, Fail> {
     let lent = Some(Lend::Lent(1_280));
     let more = Some(Lend::Lent(720));

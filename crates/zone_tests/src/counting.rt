@@ -1,5 +1,5 @@
-//! How often a zone asks its pools, and how often they have their turn. The contracts say it of what the set of
-//! pools counts; these pools count for themselves what is called of them.
+//! How often a zone asks its pools, and how often they have their turn. The contracts say it of
+//! what the set of pools counts; these pools count for themselves what is called of them.
 
 use crate::fixtures::{event_from, parts, zone_over};
 use crate::messages::{KEEP_ALIVE_0001, LESS_BCF, LESS_BRQ, SAME_CALL_ACF, SAME_CALL_ARQ, UCF};
@@ -81,7 +81,8 @@ impl<P: Pool> Pool for CountingPool<P> {
     }
 }
 
-/// A zone over these two pools, of which the first serves 10.1.0.0/16, and the second all other addresses.
+/// A zone over these two pools, of which the first serves 10.1.0.0/16, and the second all other
+/// addresses.
 fn counted_zone<P: Pool>(
     alloc: Global,
     mut parts: ConfigParts,
@@ -156,8 +157,8 @@ fn is_told<P: Pool>(
     Ok(is_sent && outcome.note == note)
 }
 
-/// Whether each datagram that isn't served asks no pool and gives none a turn: one that is too long, unreadable, not
-/// served, or a sign of life of nobody.
+/// Whether each datagram that isn't served asks no pool and gives none a turn: one that is too
+/// long, unreadable, not served, or a sign of life of nobody.
 fn is_ignored(
     alloc: Global,
     zone: &mut Zone<CountingPool<FixedPool>>,
@@ -224,10 +225,11 @@ fn a_busy_zone_asks_no_pool(rt: HostRuntime) -> Result<(), Fail> {
     Ok(())
 }
 
-/// Whether these requests get their replies, and the second pool, of which their calls have their bandwidth, was
-/// asked as often as each line says once it is answered: for a call that opens, for more bandwidth, and for a
-/// call that is refused; and neither for discovery, registration, a sign of life and a repeat, nor for a leg in an
-/// open call, less bandwidth and an end. Meanwhile it has no turn, and the first pool meets nothing.
+/// Whether these requests get their replies, and the second pool, of which their calls have their
+/// bandwidth, was asked as often as each line says once it is answered: for a call that opens, for
+/// more bandwidth, and for a call that is refused; and neither for discovery, registration, a sign
+/// of life and a repeat, nor for a leg in an open call, less bandwidth and an end. Meanwhile it has
+/// no turn, and the first pool meets nothing.
 fn is_asked_once(
     alloc: Global,
     zone: &mut Zone<CountingPool<FixedPool>>,
@@ -352,8 +354,9 @@ fn a_turn_of_the_pools_reaches_each_pool_once(rt: HostRuntime) -> Result<(), Fai
     Ok(())
 }
 
-// An endpoint in a call is silent for 1,000 milliseconds, is asked once, and has 500 for an answer; three replies are
-// kept for 10,000; two registrations live for 60 seconds; and the pools' turn is due at 100,000.
+// An endpoint in a call is silent for 1,000 milliseconds, is asked once, and has 500 for an answer;
+// three replies are kept for 10,000; two registrations live for 60 seconds; and the pools' turn is
+// due at 100,000.
 /// Whether no pool meets anything if a zone interrogates an endpoint, takes its legs, lets go what
 /// is kept, and ends registrations; and each has its turn when that is due.
 fn has_no_turn_else(
@@ -408,9 +411,10 @@ fn what_else_is_due_gives_no_pool_a_turn(rt: HostRuntime) -> Result<(), Fail> {
     Ok(())
 }
 
-// The pool lends 1,280 units, and then makes the second call wait, of which it is asked again after each 500
-// milliseconds; its turn is due at 1,200.
-/// Whether a request that waits asks its pool once each time that it is served again, until it is lent units.
+// The pool lends 1,280 units, and then makes the second call wait, of which it is asked again after
+// each 500 milliseconds; its turn is due at 1,200.
+/// Whether a request that waits asks its pool once each time that it is served again, until it is
+/// lent units.
 fn is_asked_again(
     alloc: Global,
     zone: &mut Zone<CountingPool<PacedPool>>,

@@ -83,8 +83,8 @@ pub fn sent(alloc: Global, bytes: &[u8]) -> Result<Outcome, Fail> {
     })
 }
 
-// A zone that is dropped at each of many exits makes a test costly to prove, so what is asked of a zone
-// stands in functions that borrow it.
+// A zone that is dropped at each of many exits makes a test costly to prove, so what is asked of a
+// zone stands in functions that borrow it.
 
 /// Whether the datagram is answered with these octets.
 pub fn is_told(

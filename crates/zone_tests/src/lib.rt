@@ -1,5 +1,5 @@
-//! Tests of the zone over its public calls: worked examples, octet for octet. They stand above `ras_core`, so that
-//! the zone needn't be proved once more for them.
+//! Tests of the zone over its public calls: worked examples, octet for octet. They stand above
+//! `ras_core`, so that the zone needn't be proved once more for them.
 #![tactic(auto)]
 
 #[cfg(test)]

@@ -1,7 +1,7 @@
 //! Messages of these tests alone, octet for octet. Others stand in `vectors`.
 
-/// RegistrationConfirm for the alias 101 as its endpoint registers anew, while the confirm of 0001 is kept and 0002
-/// is registered: identifier 0003.
+/// RegistrationConfirm for the alias 101 as its endpoint registers anew, while the confirm of 0001
+/// is kept and 0002 is registered: identifier 0003.
 pub const RCF_ANEW: [u8; 45] = [
     0x12, 0xC0, 0x00, 0x01, 0x06, 0x00, 0x08, 0x91, 0x4A, 0x00, 0x02, 0x01, 0x00, 0x0A, 0x00, 0x00,
     0x05, 0x06, 0xB8, 0x01, 0x01, 0x00, 0x43, 0x40, 0x20, 0x00, 0x67, 0x00, 0x6B, 0x06, 0x00, 0x30,

@@ -88,7 +88,8 @@ fn the_pools_make_turns(rt: HostRuntime) -> Result<(), Fail> {
     Ok(())
 }
 
-/// A GatekeeperRequest, one that is cut short, a message that isn't served, and one that is too long.
+/// A GatekeeperRequest, one that is cut short, a message that isn't served, and one that is too
+/// long.
 fn four_events(alloc: Global) -> Result<Vec<Event>, Fail> {
     let mut events = Vec::new(alloc);
     events.push(event(alloc, &GRQ, 40)?)?;

@@ -13,7 +13,8 @@ returns-then-not-is_step c =
     let l = c.loop-entry in
     let all = c.args.book.now.entries.items in
     let items = c.deref-entry-items.ensures.value in
-    let below = subst (λ (es : List Entry). l.entry-index < length es) items c.loop-entry-test.true in
+    let below = subst (λ (es : List Entry). l.entry-index < length es) items
+    c.loop-entry-test.true in
     let is = subst (λ (es : List Entry). c.entry-item.result
     ≡ get_or es l.entry-index c.entry-item.result) items c.entry-item.is in (
       λ h. absurd (cc h),
@@ -27,7 +28,8 @@ loop-entry-preserved c =
     let l = c.loop-entry in
     let all = c.args.book.now.entries.items in
     let items = c.deref-entry-items.ensures.value in
-    let below = subst (λ (es : List Entry). l.entry-index < length es) items c.loop-entry-test.true in
+    let below = subst (λ (es : List Entry). l.entry-index < length es) items
+    c.loop-entry-test.true in
     let is = subst (λ (es : List Entry). c.entry-item.result
     ≡ get_or es l.entry-index c.entry-item.result) items c.entry-item.is in
     goes_on c.args.book.now.base l.machine c.redo.new.machine all l.entry-index c.entry-item.result
@@ -38,7 +40,8 @@ pub returns : goal.returns
 returns c =
     let l = c.loop-entry in
     let all = c.args.book.now.entries.items in
-    let past = subst (λ (es : List Entry). length es ≤ l.entry-index) c.deref-entry-items.ensures.value
+    let past = subst (λ (es : List Entry). length es ≤ l.entry-index)
+    c.deref-entry-items.ensures.value
     c.loop-entry-test.false in
     at_end c.args.book.now.base l.machine c.args.end.now all l.entry-index past l.invariant
     c.is_same.result c.is_same.ensures

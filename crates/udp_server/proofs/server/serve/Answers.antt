@@ -35,7 +35,8 @@ returns-then-len-count-clause-wrong_counts g c = (
 
 pub returns-in-Ok-run-clause-wrong_counts : goal.returns-in-Ok-run-clause-wrong_counts
 returns-in-Ok-run-clause-wrong_counts g c =
-    let counts : AreCounts (vec_len c.args.seats) (vec_len c.args.receivers) (vec_len c.args.clocks) = record {
+    let counts : AreCounts (vec_len c.args.seats) (vec_len c.args.receivers)
+    (vec_len c.args.clocks) = record {
       one_more = omega (
         arith,
         c.len-count.ensures,
@@ -55,7 +56,8 @@ returns-in-Ok-run-clause-wrong_counts g c =
 
 pub returns-in-Err-clause-wrong_counts : goal.returns-in-Err-clause-wrong_counts
 returns-in-Err-clause-wrong_counts g c =
-    let counts : AreCounts (vec_len c.args.seats) (vec_len c.args.receivers) (vec_len c.args.clocks) = record {
+    let counts : AreCounts (vec_len c.args.seats) (vec_len c.args.receivers)
+    (vec_len c.args.clocks) = record {
       one_more = omega (
         arith,
         c.len-count.ensures,

@@ -7,7 +7,8 @@ use Rattle.std.specs.List.{list_all}
 use Rattle.std.specs.Option.{SomeIff}
 use Rattle.std.specs.Str.{chars, IsUtf8}
 use Rattle.ras_module.specs.Texts.{IsText}
-use Rattle.value_texts.proofs.Names.{is_small, no_utf8, large_character, too_many, name_read, units_more}
+use Rattle.value_texts.proofs.Names.{is_small, no_utf8, large_character, too_many, name_read}
+use Rattle.value_texts.proofs.Names.{units_more}
 use Rattle.value_texts.proofs.Names.{small_more}
 use Rattle.value_texts.proofs.name.name_of.Goals as goal
 use Rattle.value_texts.proofs.name.name_of.Goals.{then-number-gt65535-via-then-number-gt65535}

@@ -8,7 +8,8 @@ pub invariant_of-locked : goal.invariant_of-locked
 invariant_of-locked g c =
     let l = c.locked-2.inside in
     let gone = c.discard_locked-entries.ensures in
-    let none : l.entries.items ≡ [] = ap (λ (h : Held). h.entries) c.locked-2.view_is ∙ gone.entries in
+    let none : l.entries.items ≡ [] = ap (λ (h : Held). h.entries) c.locked-2.view_is
+    ∙ gone.entries in
     let zone : l.zone ≡ c.locked.inside.zone =
     ap (λ (h : Held). h.zone) c.locked-2.view_is
     ∙ (gone.zone ∙ sym (ap (λ (h : Held). h.zone) c.locked.view_is)) in

@@ -17,11 +17,13 @@ overflow_sub-totals c =
     let before : c.in_use-before.result ≡ in_use c.self.inside.base.tables.calls =
     c.in_use-before.ensures ∙ (ap (λ (t : Tables). in_use t.calls) c.tables.ensures
     ∙ ap (λ (s : State). in_use s.tables.calls)
-    (c.machine.ensures.machine ∙ (c.base.ensures ∙ ap (λ (v : ChapterValue). v.base) (sym c.self.view_is)))) in
+    (c.machine.ensures.machine ∙ (c.base.ensures ∙ ap (λ (v : ChapterValue). v.base)
+    (sym c.self.view_is)))) in
     let after : c.in_use-after.result ≡ in_use c.self.inside.end.tables.calls =
     c.in_use-after.ensures ∙ (ap (λ (t : Tables). in_use t.calls) c.tables-2.ensures
     ∙ ap (λ (s : State). in_use s.tables.calls)
-    (c.machine-2.ensures.machine ∙ (c.end.ensures ∙ ap (λ (v : ChapterValue). v.end) (sym c.self.view_is)))) in
+    (c.machine-2.ensures.machine ∙ (c.end.ensures ∙ ap (λ (v : ChapterValue). v.end)
+    (sym c.self.view_is)))) in
     let lent = ap (λ (t : Totals). t.lent) c.totals_of-totals.ensures.totals in
     let items = ap lent_of c.deref.ensures.value in
     let fair = book_is_fair c.self.inside.base c.self.inside.end c.self.inside.entries.items

@@ -28,7 +28,8 @@ returns-then-workers-eq0-clause-fault g c = inl (
         omega (arith, range.most, w.if-workers-gt16.true)
     | then-workers-eq0-via-else-workers-eq0+else-workers-gt16+then-capacity-eq0 w ↦
         omega (arith, range.room, w.if-capacity-eq0.true)
-    | then-workers-eq0-via-else-workers-eq0+else-workers-gt16+else-capacity-eq0+then-capacity-gt4096 w ↦
+    | then-workers-eq0-via-else-workers-eq0+else-workers-gt16+else-capacity-eq0+then-capacity-gt4096
+        w ↦
         omega (arith, range.largest, w.if-capacity-gt4096.true)
   ],
 )

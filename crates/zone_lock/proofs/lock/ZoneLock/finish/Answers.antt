@@ -57,7 +57,8 @@ new-requires g c =
     let h = cut_so l.first l.carried l.base l.entries.items l.zone in
     let none = subst (λ (x : Held). x.base ≡ None → x.entries ≡ []) (sym c.first.view_is)
     c.settled.ensures.begun in
-    (rest_of g.D.Hall.opened h (left_of h (base_or l.base l.zone.state)) c.first.invariant.kept none refl
+    (rest_of g.D.Hall.opened h (left_of h (base_or l.base l.zone.state)) c.first.invariant.kept none
+    refl
     refl refl refl refl).run
 
 pub returns-clause-history : goal.returns-clause-history
