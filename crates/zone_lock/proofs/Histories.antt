@@ -1,7 +1,7 @@
 -- A history that is one entry longer, or from which a chapter is cut.
 use Rattle.std.proofs.Common.{◌≡◌, ◌≤◌, ◌<◌, ◌+◌, ◌-◌, ◌*◌, ◌^◌, ℕ, List, [], ◌∷◌, ◌++◌}
 use Rattle.std.proofs.Common.{length, refl, sym, ◌∙◌, ap, subst, arith, Ok, Err, IfOk}
-use Rattle.std.specs.Prelude.{Result, Option, None, Some}
+use Rattle.std.specs.Prelude.{Result, Option, None, Some, ◌↔◌}
 use Rattle.std.proofs.Common.{length-append}
 use Rattle.std.proofs.lemmas.List.Sums.{sum_by-append, sum_by-cons}
 use Rattle.admission.specs.Calls.{in_use}
@@ -19,11 +19,13 @@ use Rattle.books.specs.Totals.{datagrams_in, datagrams_of, lent_of, no_totals, r
 use Rattle.books.specs.Totals.{totals_with, turns_in, turns_of, units_lent}
 use Rattle.books.proofs.Entries.{run_more, run_on}
 use Rattle.books.proofs.Spending.{book_is_fair, step_is_fair}
+use Rattle.ras_machine.specs.Machine.{most_steps}
 use Rattle.ras_machine.specs.Soundness.{Sound}
 use Rattle.ras_core.specs.declared.fault.StepFault.{StepFault}
+use Rattle.ras_core.specs.declared.fault.StepFault.TheVariants.{Closed}
 use Rattle.zone_lock.specs.declared.listing.Listing.{Listing}
 use Rattle.zone_lock.specs.Held.{AreCarriedOn, Held, IsInside, IsKept, IsLedInUse, IsStepOfSome}
-use Rattle.zone_lock.specs.Held.{IsWholeHistory}
+use Rattle.zone_lock.specs.Held.{IsClosed, IsWholeHistory}
 use Rattle.zone_lock.specs.Listings.{IsListing, IsListingOfSome}
 
 pub datagrams_more : (es : List Entry) (e : Entry)
@@ -483,6 +485,23 @@ step_of_some (Ok receipt) old new made event same sound step = record {
   step = subst (λ (e : Event). RunningStep old e receipt.outcome new) same step;
 }
 step_of_some (Err fault) old new made event same sound step = tt
+
+-- Whoever held the lock and found it closed saw that as many steps were made as there may be.
+pub closed_of_some : (opened : State) (f : StepFault) (h : Held) → IsKept opened h
+    → ((f ≡ Closed) ↔ (h.zone.state.steps ≡ most_steps)) → f ≡ Closed → IsClosed opened
+closed_of_some opened f h kept closed is = record {
+  held = h;
+  kept = kept;
+  steps = closed.0 is;
+}
+
+pub closed_by_step : (opened : State) (r : Result Receipt StepFault) (h : Held) → IsKept opened h
+    → ((r ≡ Err Closed) ↔ (h.zone.state.steps ≡ most_steps)) → r ≡ Err Closed → IsClosed opened
+closed_by_step opened r h kept closed is = record {
+  held = h;
+  kept = kept;
+  steps = closed.0 is;
+}
 
 pub listing_of_some : (E : Type 0) (r : Result Listing E) (s : State) → Sound s
     → IfOk r (IsListing s) → IfOk r IsListingOfSome

@@ -6,6 +6,7 @@ use Rattle.zone_config.specs.Defaults.{default_parts}
 use Rattle.zone_events.specs.declared.event.Event.{Event}
 use Rattle.zone_events.specs.declared.outcome.Outcome.{Outcome}
 use Rattle.ras_machine.specs.State.{State, opening}
+use Rattle.ras_machine.specs.Machine.{most_steps}
 use Rattle.ras_machine.specs.Soundness.{Sound}
 use Rattle.ras_core.specs.Running.{Running}
 use Rattle.ras_core.specs.Runs.{RunningStep}
@@ -103,6 +104,12 @@ pub record IsStepOfSome (event : Event) (outcome : Outcome) : Type 0 where
   pub new : Running
   pub sound : Sound old.state
   pub step : RunningStep old event outcome new
+
+-- The zone that was locked in this state has made as many steps as there may be.
+pub record IsClosed (opened : State) : Type 0 where
+  pub held : Held
+  pub kept : IsKept opened held
+  pub steps : held.zone.state.steps ≡ most_steps
 
 -- The whole history of a zone that was locked in this state, up to what is left of it: with the
 -- entries that are left, those before them, which may have been let go, are a run of the machine to

@@ -6,7 +6,8 @@ ghost use Rattle.std.specs.Prelude.{None};
 ghost use Rattle.ras_machine.specs.Soundness.{Sound};
 ghost use Rattle.books.specs.Books.{BookRun};
 ghost use Rattle.books.specs.Totals.{datagrams_of, lent_of, returned_by, turns_of};
-ghost use Rattle.zone_lock.specs.Held.{IsKept, IsLedInUse, IsStepOfSome, IsWholeHistory, entry_by};
+ghost use Rattle.zone_lock.specs.Held.{IsClosed, IsKept, IsLedInUse, IsStepOfSome, IsWholeHistory};
+ghost use Rattle.zone_lock.specs.Held.{entry_by};
 ghost use Rattle.zone_lock.specs.Held.{receipt_at};
 ghost use Rattle.zone_lock.specs.Faults.{open_fault_number};
 ghost use Rattle.zone_lock.specs.Listings.{IsListingOfSome};
@@ -15,7 +16,7 @@ ghost use Rattle.zone_lock.specs.Seats.{IsSeatCount, seated, seated_after};
 use crate::cutting::{CutFault, Discarded, cut_locked, discard_locked};
 use crate::ledgers::Ledgers;
 use crate::listing::Listing;
-use crate::locked::{Locked, list_locked, make_step};
+use crate::locked::{Locked, fault_without_order, list_locked, make_step};
 use crate::order::Order;
 use crate::seat::{Hall, Seat};
 use books::{Chapter, Entry, Finished, Receipt, SharedSnapshot, Totals};
@@ -157,17 +158,12 @@ impl<P: Pool, D: Hall, T: Ledger, U: Ledger> ZoneLock<P, D, T, U> {
         ensures step { IfOk result (λ receipt. IsStepOfSome prepared receipt.outcome) }
         ensures seat { IfOk result (λ receipt.
             seat.new ≡ seated_after seat.old prepared receipt.outcome) }
+        ensures closed { result ≡ Err StepFault.Closed → IsClosed D.opened }
         ensures err { OnErr result (seat.new ≡ seat.old) }
     {
         match Order::new(self.alloc, prepared, seat) {
             Ok(order) => make_step(&mut *self.inner.lock(rt), seat, order),
-            Err(_) => {
-                if self.inner.lock(rt).zone.is_closed() {
-                    Err(StepFault::Closed)
-                } else {
-                    Err(StepFault::Memory)
-                }
-            }
+            Err(_) => Err(fault_without_order(&*self.inner.lock(rt))),
         }
     }
 

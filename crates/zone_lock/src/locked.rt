@@ -154,6 +154,22 @@ pub(crate) fn make_step<P: Pool, D: Hall, T: Ledger, U: Ledger>(
     Ok(receipt)
 }
 
+/// Why no step is made if there is no memory for what it needs: as many steps were made as there may
+/// be, or that want of memory alone.
+pub(crate) fn fault_without_order<P: Pool, D: Hall, T: Ledger, U: Ledger>(
+    locked: &Locked<P, D, T, U>,
+) -> StepFault
+    ensures closed { (result ≡ StepFault.Closed)
+        ↔ (locked.now.zone.state.steps ≡ most_steps) }
+    ensures kept { IsKept D.opened locked.now }
+{
+    if locked.zone.is_closed() {
+        StepFault::Closed
+    } else {
+        StepFault::Memory
+    }
+}
+
 /// An equal outcome, of which what is sent stands in this buffer.
 fn copy_of(outcome: &Outcome, buffer: Vec<u8>) -> Outcome
     requires empty { buffer.items ≡ [] }
