@@ -129,7 +129,8 @@ module _ {S : Type 0} (old new : IndexMap CallKey Call S) (most : ℕ) (u : InUs
             → length new.entries + (if is_some removed then 1 else 0) ≡ length old.entries
             → Grows v u call.pool call.units → AreCounted new most v counts
         AreCounted-ended v last removed was unique updates fewer less =
-            let shorter = shorter_by_one removed (length new.entries) (length old.entries) call fewer
+            let shorter =
+            shorter_by_one removed (length new.entries) (length old.entries) call fewer
             (was ∙ (get_call old key ∙ there)) in
             counted_over new most v counts (after_leave (open_of old) key endpoint)
             (calls_removed old new key updates

@@ -17,7 +17,8 @@ use Rattle.admission.specs.declared.leg_counts.LegCounts.{LegCounts}
 use Rattle.admission.specs.Calls.{OpenCalls, leg_count, has_leg, legs_of, new_call, with_leg}
 use Rattle.admission.specs.Calls.{with_units, after_leave}
 use Rattle.admission.specs.Legs.{leg_of}
-use Rattle.admission.specs.inside.LegCounts.{count_of, known, one_if_same, AreLegCounts, AreZero, Keeps}
+use Rattle.admission.specs.inside.LegCounts.{count_of, known, one_if_same}
+use Rattle.admission.specs.inside.LegCounts.{AreLegCounts, AreZero, Keeps}
 use Rattle.admission.specs.inside.LegCounts.{Comes, Goes}
 use Rattle.admission.specs.inside.Stored.{AreStored}
 use Rattle.admission.proofs.Soundness.{legs_of-open, legs_of-join, legs_of-set_units}

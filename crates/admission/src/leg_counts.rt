@@ -80,7 +80,8 @@ impl LegCounts {
     pub fn come(&mut self, endpoint: &EndpointId)
         requires { IsTrue self.old.whole → count_of self.old endpoint.now < 2 ^ 63 }
         ensures comes { Comes self.old self.new endpoint.now }
-        ensures counted { 0 < spare self.old.counts → IsTrue self.old.whole → IsTrue self.new.whole }
+        ensures counted { 0 < spare self.old.counts → IsTrue self.old.whole
+            → IsTrue self.new.whole }
     {
         self.legs = self.legs.saturating_add(1);
         if !self.whole {

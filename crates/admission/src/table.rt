@@ -1,13 +1,16 @@
 //! The table of the calls.
 
 ghost use Rattle.std.specs.Prelude.{All};
-ghost use Rattle.std.specs.Prelude.{◌≡◌, ◌≢◌, ◌<◌, ◌≤◌, ◌+◌, ◌^◌, ◌↔◌, length, None, Err, IsOk, IsSome, IsTrue, IfOk, OnOk, OnErr, IsOkUnless, MatchOption};
+ghost use Rattle.std.specs.Prelude.{◌≡◌, ◌≢◌, ◌<◌, ◌≤◌, ◌+◌, ◌^◌, ◌↔◌, length, None, Err, IsOk};
+ghost use Rattle.std.specs.Prelude.{IsSome, IsTrue, IfOk, OnOk, OnErr, IsOkUnless, MatchOption};
 ghost use Rattle.std.specs.Option.{option_copied};
 ghost use Rattle.std.specs.FinMap as map;
 ghost use Rattle.keyed.specs.Maps.{update};
 ghost use Rattle.ras_module.specs.CallKeys.{same_call_key};
 ghost use Rattle.indexmap.specs.IndexMap.{get};
-ghost use Rattle.admission.specs.Calls.{in_use, in_use_of, legs_in, leg_at, legs_of, new_call, with_leg, with_units, after_leave, freed_by_leave, IsInNoCall, IsConsistent, Stays, Becomes, Adds};
+ghost use Rattle.admission.specs.Calls.{in_use, in_use_of, legs_in, leg_at, legs_of, new_call};
+ghost use Rattle.admission.specs.Calls.{with_leg, with_units, after_leave, freed_by_leave};
+ghost use Rattle.admission.specs.Calls.{IsInNoCall, IsConsistent, Stays, Becomes, Adds};
 ghost use Rattle.admission.specs.Legs.{leg_of, without_leg, has_other};
 ghost use Rattle.admission.specs.inside.Stored.{IsIn, Rewrites, with_legs_but};
 

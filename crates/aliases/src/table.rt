@@ -1,12 +1,15 @@
 //! The table of the aliases.
 
-ghost use Rattle.std.specs.Prelude.{◌≡◌, ◌≢◌, ◌≤◌, ◌<◌, ◌+◌, ◌↔◌, Some, Err, IsOk, IfOk, IfErr, OnOk, OnErr, length, Contains};
+ghost use Rattle.std.specs.Prelude.{◌≡◌, ◌≢◌, ◌≤◌, ◌<◌, ◌+◌, ◌↔◌, Some, Err, IsOk};
+ghost use Rattle.std.specs.Prelude.{IfOk, IfErr, OnOk, OnErr, length, Contains};
 ghost use Rattle.std.specs.Prelude.{not, nat_eq};
 ghost use Rattle.std.specs.Cmp.Lexicographic.{pointwise};
 ghost use Rattle.ras_module.specs.declared.alias.Alias.{Alias};
 ghost use Rattle.std.specs.Option.{option_copied};
 ghost use Rattle.std.specs.FinMap as map;
-ghost use Rattle.aliases.specs.Held.{holder_of, conflicts, is_elsewhere, is_held_by, without_holder, without_alias, without_aliases, with_alias, with_aliases, IsHeldByAnother, Becomes};
+ghost use Rattle.aliases.specs.Held.{holder_of, conflicts, is_elsewhere, is_held_by};
+ghost use Rattle.aliases.specs.Held.{without_holder, without_alias, without_aliases};
+ghost use Rattle.aliases.specs.Held.{with_alias, with_aliases, IsHeldByAnother, Becomes};
 ghost use Rattle.aliases.specs.inside.Stored.{OthersLeft};
 
 use crate::fault::SetFault;

@@ -67,8 +67,10 @@ fn sift_up(rows: &mut [Due], at: &mut [usize], from: usize) -> usize
 /// are none.
 fn least_below(rows: &[Due], i: usize) -> Option<usize>
     requires { i < length rows.now }
-    ensures { MatchOption result (length rows.now ≤ 2 * i + 1) (λ k. (k < length rows.now) × IsParent i k
-        × ((j : ℕ) → IsParent i j → j < length rows.now → moment_in rows.now k ≤ moment_in rows.now j)) }
+    ensures { MatchOption result (length rows.now ≤ 2 * i + 1)
+        (λ k. (k < length rows.now) × IsParent i k
+        × ((j : ℕ) → IsParent i j → j < length rows.now
+        → moment_in rows.now k ≤ moment_in rows.now j)) }
 {
     let len = rows.len();
     if i >= len / 2 {

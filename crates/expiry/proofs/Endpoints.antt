@@ -19,7 +19,8 @@ use Rattle.expiry.specs.inside.Searched.{item_of}
 use Rattle.expiry.specs.declared.times.Times.{Times}
 use Rattle.zone_events.specs.declared.due_item.DueItem.{DueItem}
 use Rattle.zone_events.specs.declared.due_item.DueItem.TheVariants.{RegistrationOver, Interrogate}
-use Rattle.zone_events.specs.declared.due_item.DueItem.TheVariants.{Silent, Retry, KeptOver, PoolTurn}
+use Rattle.zone_events.specs.declared.due_item.DueItem.TheVariants.{Silent, Retry}
+use Rattle.zone_events.specs.declared.due_item.DueItem.TheVariants.{KeptOver, PoolTurn}
 
 pub the_live : (test : Registration → Bool) (live : Live) (id : List ℕ) → IsLiveAnd test live id
     → (r : Registration) × (fin.get live id ≡ Some r) × (test r ≡ true)

@@ -11,7 +11,8 @@ use Rattle.expiry.specs.Due.{IsDue, IsNoEndpointDue, IsNothingDue, is_deadline_p
 use Rattle.expiry.specs.declared.times.Times.{Times}
 use Rattle.zone_events.specs.declared.due_item.DueItem.{DueItem}
 use Rattle.zone_events.specs.declared.due_item.DueItem.TheVariants.{RegistrationOver, Interrogate}
-use Rattle.zone_events.specs.declared.due_item.DueItem.TheVariants.{Silent, Retry, KeptOver, PoolTurn}
+use Rattle.zone_events.specs.declared.due_item.DueItem.TheVariants.{Silent, Retry}
+use Rattle.zone_events.specs.declared.due_item.DueItem.TheVariants.{KeptOver, PoolTurn}
 use Rattle.expiry.proofs.Endpoints.{none_live}
 
 later : (now : ℕ) (r : Registration) → now < r.deadline → is_deadline_past now r ≡ false

@@ -14,7 +14,8 @@ use Rattle.registrations.specs.declared.registration.Registration.{Registration}
 use Rattle.expiry.specs.declared.times.Times.{Times}
 use Rattle.zone_events.specs.declared.due_item.DueItem.{DueItem}
 use Rattle.zone_events.specs.declared.due_item.DueItem.TheVariants.{RegistrationOver, Interrogate}
-use Rattle.zone_events.specs.declared.due_item.DueItem.TheVariants.{Silent, Retry, KeptOver, PoolTurn}
+use Rattle.zone_events.specs.declared.due_item.DueItem.TheVariants.{Silent, Retry}
+use Rattle.zone_events.specs.declared.due_item.DueItem.TheVariants.{KeptOver, PoolTurn}
 
 -- the time to live is over
 abbrev pub is_deadline_past : ℕ → Registration → Bool

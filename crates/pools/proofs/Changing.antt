@@ -1,5 +1,6 @@
 -- The members of a set, if one of them changes, or all do.
-use Rattle.std.proofs.Common.{◌≡◌, ℕ, ◌<◌, ◌≤◌, List, [], ◌∷◌, length, map, get_or, set, All, replicate}
+use Rattle.std.proofs.Common.{◌≡◌, ℕ, ◌<◌, ◌≤◌, List, [], ◌∷◌, length}
+use Rattle.std.proofs.Common.{map, get_or, set, All, replicate}
 use Rattle.std.proofs.Common.{IsTrue, refl, sym, ap, ◌∙◌, arith, zero, suc}
 use Rattle.std.proofs.lemmas.List.{map-set, get_or-map, set-get_or, length-map, length-set}
 use Rattle.std.proofs.lemmas.List.Elements.{All-map, All-set}
@@ -49,7 +50,8 @@ member_here (b ∷ accounts) (e ∷ counts) (suc i) d a c h k =
 members_of-set :
     (accounts : List Account) (counts : List Counts) (i : ℕ) (a : Account) (c : Counts) →
     length accounts ≤ length counts →
-    members_of (set accounts i a) (set counts i c) ≡ set (members_of accounts counts) i (counted a c)
+    members_of (set accounts i a) (set counts i c)
+    ≡ set (members_of accounts counts) i (counted a c)
 members_of-set [] counts i a c few = refl
 members_of-set (b ∷ accounts) [] i a c few = absurd (omega (arith, few))
 members_of-set (b ∷ accounts) (e ∷ counts) zero a c few = refl
@@ -92,8 +94,10 @@ module _ {X : Type 0} (f : X → Account) (xs : List X) (cs : List Counts) where
       pub counts_here : counted (get_or (map f xs) i (opening_account 0)) (get_or cs i no_counts)
           ≡ member_at members i
       counts_here =
-          sym (member_here (map f xs) cs i (new_member (opening_account 0)) (opening_account 0) no_counts
-          (omega (arith, below_pools, length-map xs f)) (omega (arith, below_pools, are.few, are.each)))
+          sym (member_here (map f xs) cs i (new_member (opening_account 0)) (opening_account 0)
+          no_counts
+          (omega (arith, below_pools, length-map xs f))
+          (omega (arith, below_pools, are.few, are.each)))
           ∙ ap (λ (ms : List Member). member_at ms i) is
 
       pub account_here : (x : X) → x ≡ get_or xs i x → f x ≡ (member_at members i).account
@@ -137,7 +141,8 @@ pool_set_after :
 pool_set_after members i m s within = record {
   at_least_one = rw length-set s.at_least_one;
   at_most_sixteen = rw length-set s.at_most_sixteen;
-  within_limits = All-set (λ (m : Member). IsWithinLimit m.account) members i m within s.within_limits;
+  within_limits =
+      All-set (λ (m : Member). IsWithinLimit m.account) members i m within s.within_limits;
 }
 
 -- a member of a set is within its limit

@@ -1,5 +1,6 @@
 -- What a set keeps of each of its pools.
-use Rattle.std.specs.Prelude.{ℕ, ◌≤◌, ◌+◌, ◌-◌, ◌^◌, List, length, map, min, slice_index_or, slice_set}
+use Rattle.std.specs.Prelude.{ℕ, ◌≤◌, ◌+◌, ◌-◌, ◌^◌, List, length}
+use Rattle.std.specs.Prelude.{map, min, slice_index_or, slice_set}
 use Rattle.std.specs.List.{All, sum_by}
 use Rattle.pools.specs.declared.interface.Lend.{Lend}
 use Rattle.pools.specs.Account.{Account, IsWithinLimit, opening_account}

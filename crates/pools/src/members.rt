@@ -1,7 +1,8 @@
 //! The pools of a set, which count what is called of them.
 ghost use Rattle.std.specs.Prelude.{◌≡◌, ◌≤◌, ◌<◌, length, map, slice_set};
 ghost use Rattle.pools.specs.Account.{MayAsk, IsAnswer};
-ghost use Rattle.pools.specs.Members.{accounts_of, member_after_turn, member_at, new_member, one_more};
+ghost use Rattle.pools.specs.Members.{accounts_of, member_after_turn};
+ghost use Rattle.pools.specs.Members.{member_at, new_member, one_more};
 ghost use Rattle.pools.specs.Members.{members_after_answer, members_after_return};
 
 use crate::interface::{Lend, Pool};

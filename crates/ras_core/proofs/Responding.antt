@@ -9,7 +9,8 @@ use Rattle.zone_events.specs.declared.outcome.Outcome.{Outcome}
 use Rattle.zone_tables.specs.Leaving.{AreSameButLent}
 use Rattle.zone_tables.specs.Pools.{figures_of}
 use Rattle.ras_machine.specs.State.{State}
-use Rattle.ras_machine.specs.Machine.{Course, at_moment, course, course_ending, moment_of, most_steps}
+use Rattle.ras_machine.specs.Machine.{Course, at_moment, course}
+use Rattle.ras_machine.specs.Machine.{course_ending, moment_of, most_steps}
 use Rattle.ras_machine.specs.Steps.{IsAskedOnce, ask_in, choices_of, pools_after_ask}
 use Rattle.ras_machine.specs.Courses.{Performs}
 use Rattle.ras_core.specs.Running.{Running}
@@ -34,7 +35,8 @@ pub running_step : (old : Running) (what : Event) (outcome : Outcome) (new : Sta
     (tallies : List Tally) → old.state.steps < most_steps
     → Performs old.state (moment_of old.state what) (course old.state what (choices_of outcome))
     outcome new
-    → tallies ≡ tallies_after old.tallies (course old.state what (choices_of outcome)) outcome.answer
+    → tallies ≡ tallies_after old.tallies (course old.state what (choices_of outcome))
+    outcome.answer
     → RunningStep old what outcome (record { state = new; tallies = tallies })
 running_step old what outcome new tallies few p counted =
     let s = old.state in
@@ -52,7 +54,8 @@ running_step old what outcome new tallies few p counted =
     }
 
 -- the tallies of the pools after they were asked and turned
-pub tallies_counted : (before asked after : List Member) (pools : List Figures) (c : Course) (outcome : Outcome)
+pub tallies_counted : (before asked after : List Member) (pools : List Figures) (c : Course)
+    (outcome : Outcome)
     → IsAskedOnce answers_of before pools (ask_in c) outcome.answer asked
     → tallies_of after ≡ tallies_turned (tallies_of asked) (is_pool_turn c)
     → tallies_of after ≡ tallies_after (tallies_of before) c outcome.answer

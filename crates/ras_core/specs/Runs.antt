@@ -18,8 +18,8 @@ Run s [] after = after ≡ s
 Run s (entry ∷ entries) after = (mid : State) × Step s entry.0 entry.1 mid × Run mid entries after
 
 -- One step of a gatekeeper as it runs: the machine makes it; the pools were asked, and made their
--- turn, as often as the machine calls for, and the pool that was asked gave the outcome's answer; what
--- is sent has at most 20,000 octets; and the state after it is sound.
+-- turn, as often as the machine calls for, and the pool that was asked gave the outcome's answer;
+-- what is sent has at most 20,000 octets; and the state after it is sound.
 pub record RunningStep (old : Running) (event : Event) (outcome : Outcome)
     (new : Running) : Type 0 where
   pub step : Step old.state event outcome new.state

@@ -13,8 +13,8 @@ use Rattle.ras_machine.specs.Steps.{ask_in}
 abbrev pub Last : Type 0
 Last = Option (ℕ × Lend)
 
--- What is known of a pool beside its figures: its last request, how often it was asked for units, and
--- how many turns it made.
+-- What is known of a pool beside its figures: its last request, how often it was asked for units,
+-- and how many turns it made.
 pub record Tally : Type 0 where
   pub last : Last
   pub requests : ℕ
@@ -64,9 +64,9 @@ tallies_after_ask tallies (Some ask) (Some answer) = tallies_after_answer tallie
 tallies_after_ask tallies (Some ask) None = tallies
 tallies_after_ask tallies None answer = tallies
 
--- The tallies of the pools after what an event calls for. At the turn of the pools each of them makes
--- one turn. Else the pool that is asked is asked once, with this answer; the tallies of all others
--- stay, and all stay if none is asked.
+-- The tallies of the pools after what an event calls for. At the turn of the pools each of them
+-- makes one turn. Else the pool that is asked is asked once, with this answer; the tallies of all
+-- others stay, and all stay if none is asked.
 abbrev pub tallies_after : List Tally → Course → Option Lend → List Tally
 tallies_after tallies (Doing PoolTurn) answer = tallies_after_turn tallies
 tallies_after tallies other answer = tallies_after_ask tallies (ask_in other) answer

@@ -11,8 +11,8 @@ use std::alloc::AllocError;
 use zone_config::Moment;
 use zone_events::DueItem;
 
-/// What an event calls for. A kept entry that is over is dropped if the reply to a datagram finds no
-/// other place, and in a turn any one item is done of those that are due.
+/// What an event calls for. A kept entry that is over is dropped if the reply to a datagram finds
+/// no other place, and in a turn any one item is done of those that are due.
 pub fn chosen_course(machine: &Machine, now: Moment, arrival: Arrival) -> Result<Course, AllocError>
     requires { IsRead arrival }
     ensures { IfOk result (λ course. (moment : ℕ)

@@ -30,7 +30,8 @@ pub fn a_repeat_gets_its_kept_reply()
         → get s.kept (record { source = source; bytes = bytes }) ≡ Some entry
         → IsTrue (is_repeat s (max s.clock moment) entry)
         → Step s (Event.Datagram source bytes moment) outcome after
-        → (outcome.output ≡ Some (record { to = source; bytes = encoding_of (reply_in entry.state) }))
+        → (outcome.output
+        ≡ Some (record { to = source; bytes = encoding_of (reply_in entry.state) }))
         × (after ≡ record s { clock = max s.clock moment; steps = s.steps + 1 }) }
 {}
 

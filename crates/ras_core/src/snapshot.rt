@@ -7,8 +7,8 @@ use ras_machine::Machine;
 use std::alloc::AllocError;
 use std::marker::Model;
 
-/// A copy of the state of a zone, its configuration and its pools' figures included, in lists of its
-/// own. By its type it is sound. Of the pools themselves it has nothing.
+/// A copy of the state of a zone, its configuration and its pools' figures included, in lists of
+/// its own. By its type it is sound. Of the pools themselves it has nothing.
 #[derive(Drop)]
 pub struct Snapshot {
     machine: Machine,

@@ -1,7 +1,8 @@
 //! The zone.
 
-ghost use Rattle.std.specs.Prelude.{◌≡◌, ◌≢◌, ◌<◌, ◌≤◌, ◌↔◌, All, map, Err, IfOk, IsOk, OnOk, OnErr};
-ghost use Rattle.std.specs.Prelude.{IfErr, IsTrue, take, length, vec_len, vec_capacity, ◌++◌, ◌∷◌, []};
+ghost use Rattle.std.specs.Prelude.{◌≡◌, ◌≢◌, ◌<◌, ◌≤◌, ◌↔◌, ◌++◌, ◌∷◌, [], All, map, take};
+ghost use Rattle.std.specs.Prelude.{Err, IfErr, IfOk, IsOk, OnOk, OnErr, IsTrue};
+ghost use Rattle.std.specs.Prelude.{length, vec_len, vec_capacity};
 ghost use Rattle.std.specs.FinMap as fin;
 ghost use Rattle.registrations.specs.Registry.{IsListOf};
 ghost use Rattle.admission.specs.Calls.{in_use};
@@ -185,8 +186,8 @@ impl<P: Pool> Zone<P> {
         &self.machine
     }
 
-    /// Ends the zone. Its pools come back in their order, with nothing lent; their limits, refusals,
-    /// waits and last answers stay.
+    /// Ends the zone. Its pools come back in their order, with nothing lent; their limits,
+    /// refusals, waits and last answers stay.
     pub fn close(self) -> Vec<P>
         ensures figures { figures_of (map P.account result.items)
             ≡ figures_without_loans self.state.tables.pools }

@@ -23,7 +23,8 @@ use Rattle.zone_tables.specs.Tables.{Tables}
 use Rattle.ras_requests.specs.Plans.{Served, Plan, Asking}
 use Rattle.zone_tables.specs.Pools.{RequestedUnits, figures_at, pools_after_answer}
 use Rattle.ras_requests.specs.Requests.{seq_of}
-use Rattle.ras_machine.specs.Keeping.{Progress, Task, answered, answered_by, dropped_for, in_progress}
+use Rattle.ras_machine.specs.Keeping.{Progress, Task, answered, answered_by}
+use Rattle.ras_machine.specs.Keeping.{dropped_for, in_progress}
 use Rattle.ras_machine.specs.Keeping.{kept_with, plan_at, state_after, waits, with_answered_pool}
 use Rattle.zone_config.specs.Terms.{term_of}
 use Rattle.ras_machine.specs.Machine.{Ending, Serving, ended, note_at, plan_ending}
@@ -97,7 +98,8 @@ module _ (s : State) (now : ℕ) (key : KeptKey) (request : Request)
       → plan_ending s now (asked_task occasion) (plan_at occasion now (Some id) asking)
       (choices_of (asked_outcome occasion (Lent units)
       (reply_of q (Lent units) false s.tables.config.delay)))
-      ≡ asked_answer occasion (Lent units) false (reply_of q (Lent units) false s.tables.config.delay)
+      ≡ asked_answer occasion (Lent units) false
+      (reply_of q (Lent units) false s.tables.config.delay)
   lent_now (First dropped) units = refl
   lent_now (Again born left) units = refl
 
@@ -109,7 +111,8 @@ module _ (s : State) (now : ℕ) (key : KeptKey) (request : Request)
   refused_now (Again born left) = refl
 
   waits_at_first : (dropped : Option ℕ) → seq_of request ≡ q.seq
-      → plan_ending s now (asked_task (First dropped)) (plan_at (First dropped) now (Some id) asking)
+      → plan_ending s now (asked_task (First dropped))
+      (plan_at (First dropped) now (Some id) asking)
       (choices_of (asked_outcome (First dropped) Wait (reply_of q Wait true s.tables.config.delay)))
       ≡ asked_answer (First dropped) Wait true (reply_of q Wait true s.tables.config.delay)
   waits_at_first dropped seq =
@@ -182,7 +185,8 @@ module _ (s : State) (now : ℕ) (key : KeptKey) (request : Request)
             (pools_after_ask s.tables.pools ask (Some answer)) (asked_tables occasion answer).pools)
             (sym (ask_is occasion))
             (subst (λ (pools : List Figures). AreSameButLent
-            (pools_after_answer s.tables.pools q.pool answer) pools) (sym (pools_are occasion answer))
+            (pools_after_answer s.tables.pools q.pool answer) pools)
+            (sym (pools_are occasion answer))
             (same_after_end (pools_after_answer s.tables.pools q.pool answer) None));
         counts = λ most h. subst (λ (pools : List Figures). All (HasCounts (most + 1)) pools)
             (sym (pools_are occasion answer))

@@ -83,7 +83,8 @@ pub placed_by : (s : State) (now : ℕ) (key : KeptKey) (dropped : Option ℕ) �
     → IfSome dropped (Passes (is_over now) s.kept) → IsPlacedIn s (first key dropped)
 placed_by s now key None apart full absent is over = absurd (cc is)
 placed_by s now key (Some born) apart full absent is over =
-    fits_of (record { kept = s.kept; most = s.tables.config.kept; room = 0 }) now key born apart full
+    fits_of (record { kept = s.kept; most = s.tables.config.kept; room = 0 }) now key born apart
+    full
     absent over
 
 -- a look-up that finds nothing

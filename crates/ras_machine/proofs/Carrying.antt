@@ -73,14 +73,16 @@ module _ (s : State) (now : ℕ) (key : KeptKey) (request : Request)
       (plan_at occasion now endpoint plan) (choices_of (outcome_by occasion given))
       ≡ Some (outcome_by occasion given, state_by occasion endpoint)
   answer_by (First dropped) None (Settled served) None is =
-      subst (λ (v : Served). plan_ending s now (task_by (First dropped) (plan_at (First dropped) now None (Settled v)))
+      subst (λ (v : Served). plan_ending s now
+      (task_by (First dropped) (plan_at (First dropped) now None (Settled v)))
       (plan_at (First dropped) now None (Settled v)) (choices_of (outcome_by (First dropped) None))
       ≡ Some (outcome_by (First dropped) None, state_by (First dropped) None))
       (sym (same_some served served_by is)) refl
   answer_by (First dropped) (Some id) (Settled served) None is =
       subst (λ (v : Served). plan_ending s now
       (task_by (First dropped) (plan_at (First dropped) now (Some id) (Settled v)))
-      (plan_at (First dropped) now (Some id) (Settled v)) (choices_of (outcome_by (First dropped) None))
+      (plan_at (First dropped) now (Some id) (Settled v))
+      (choices_of (outcome_by (First dropped) None))
       ≡ Some (outcome_by (First dropped) None, state_by (First dropped) (Some id)))
       (sym (same_some served served_by is)) refl
   answer_by (Again born left) endpoint (Settled served) None is =
@@ -96,7 +98,8 @@ module _ (s : State) (now : ℕ) (key : KeptKey) (request : Request)
       (answered v)) (same_some (named id) served_by is)
   answer_by (First dropped) (Some endpoint) (Naming named) (Some id) is =
       ap (λ (v : Served). ended s now
-      (task_by (First dropped) (plan_at (First dropped) now (Some endpoint) (Naming named))) (Some id) None
+      (task_by (First dropped) (plan_at (First dropped) now (Some endpoint) (Naming named)))
+      (Some id) None
       (answered (with_heard now (Some endpoint) v))) (same_some (named id) served_by is)
   answer_by (Again born left) endpoint (Naming named) (Some id) is =
       ap (λ (v : Served). ended s now (task_by (Again born left) (Naming named)) (Some id) None

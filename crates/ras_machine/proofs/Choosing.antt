@@ -13,7 +13,8 @@ use Rattle.kept_replies.specs.declared.key.KeptKey.{KeptKey}
 use Rattle.kept_replies.specs.Kept.{NonePasses, Passes, births, is_over, reply_in}
 use Rattle.zone_events.specs.declared.due_item.DueItem.{DueItem}
 use Rattle.zone_events.specs.declared.due_item.DueItem.TheVariants.{RegistrationOver, Interrogate}
-use Rattle.zone_events.specs.declared.due_item.DueItem.TheVariants.{Silent, Retry, KeptOver, PoolTurn}
+use Rattle.zone_events.specs.declared.due_item.DueItem.TheVariants.{Silent, Retry}
+use Rattle.zone_events.specs.declared.due_item.DueItem.TheVariants.{KeptOver, PoolTurn}
 use Rattle.zone_events.specs.declared.event.Event.{Event}
 use Rattle.zone_events.specs.declared.event.Event.TheVariants as event
 use Rattle.zone_events.specs.declared.outcome.Datagram.{Datagram}
@@ -31,8 +32,10 @@ use Rattle.ras_machine.specs.State.{State}
 use Rattle.ras_machine.specs.declared.job.Occasion.TheVariants.{First}
 use Rattle.ras_machine.specs.Keeping.{Task, is_repeat, plan_at}
 use Rattle.ras_machine.specs.Turns.{IsDueIn, IsNothingDueIn}
-use Rattle.ras_machine.specs.Machine.{Course, Ending, Hearing, Ignoring, Place, Answered, Free, Full}
-use Rattle.ras_machine.specs.Machine.{again, again_course, at_moment, course_at, course_ending, first}
+use Rattle.ras_machine.specs.Machine.{Course, Ending, Hearing, Ignoring}
+use Rattle.ras_machine.specs.Machine.{Place, Answered, Free, Full}
+use Rattle.ras_machine.specs.Machine.{again, again_course, at_moment}
+use Rattle.ras_machine.specs.Machine.{course_at, course_ending, first}
 use Rattle.ras_machine.specs.Machine.{message_course, noted, place_by, place_of, request_case}
 use Rattle.ras_machine.specs.Machine.{response_course, retry_course, retry_in_course, turn_course}
 use Rattle.ras_machine.specs.Steps.{choices_of, item_of}

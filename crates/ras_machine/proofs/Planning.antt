@@ -17,11 +17,13 @@ module _ (z : Tables) (now : ℕ) (request : Request) (served : HasReply request
   its_plan = plan_there z now request served
 
   -- a change that was decided can be made
-  pub possible_of : (d : Decision) → IsConclusion z now request (conclusion.Settled d) → IsPossible z d.change
+  pub possible_of : (d : Decision) → IsConclusion z now request (conclusion.Settled d)
+      → IsPossible z d.change
   possible_of d is = (is its_plan.0 its_plan.1).possible
 
   -- and units may be requested
-  pub requests_units_of : (q : UnitRequest) → IsConclusion z now request (conclusion.Asking q) → RequestsUnits z its_plan.0 q
+  pub requests_units_of : (q : UnitRequest) → IsConclusion z now request (conclusion.Asking q)
+      → RequestsUnits z its_plan.0 q
   requests_units_of q is = is its_plan.0 its_plan.1
 
   -- a new endpoint may be added

@@ -4,7 +4,8 @@ use Rattle.std.specs.Prelude.{Option, Contains, IsTrue, MatchOption, is_some, no
 use Rattle.std.specs.FinMap as fin
 use Rattle.ras_module.specs.Texts.{IsText}
 use Rattle.kept_replies.specs.declared.entry.KeptEntry.{KeptEntry}
-use Rattle.kept_replies.specs.Kept.{IsConsistent, IsNamed, KeptReplies, KeptTable, NonePasses, Passes}
+use Rattle.kept_replies.specs.Kept.{IsConsistent, IsNamed, KeptReplies}
+use Rattle.kept_replies.specs.Kept.{KeptTable, NonePasses, Passes}
 use Rattle.kept_replies.proofs.Births.{none_passes}
 use Rattle.registrations.specs.Registry.{Live, IsUnused}
 use Rattle.ras_machine.specs.Unused.{IsUnusedFor}

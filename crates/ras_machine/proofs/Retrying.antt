@@ -22,7 +22,8 @@ use Rattle.ras_requests.specs.Plans.{Plan, Settled, Naming, Asking}
 use Rattle.ras_requests.specs.Requests.{plan_of, HasReply}
 use Rattle.ras_machine.specs.Keeping.{Task, dropped_for}
 use Rattle.ras_machine.specs.Machine.{Choices, again_course, note_at, plan_ending}
-use Rattle.ras_machine.specs.Machine.{retry_course, retry_in_course, serving, with_answer, with_name}
+use Rattle.ras_machine.specs.Machine.{retry_course, retry_in_course}
+use Rattle.ras_machine.specs.Machine.{serving, with_answer, with_name}
 use Rattle.ras_machine.specs.Courses.{IsAgain}
 
 -- a request that is served comes to something

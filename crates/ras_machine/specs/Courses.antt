@@ -1,4 +1,5 @@
--- What an event calls for as a value of the code, what may be chosen for it, and what the deed owes.
+-- What an event calls for as a value of the code, what may be chosen for it, and what the deed
+-- owes.
 use Rattle.std.specs.Prelude.{ℕ, ◌≡◌, ◌≤◌, ◌+◌, List, length, Some, Option, None}
 use Rattle.std.specs.Option.{IsSomeAnd}
 use Rattle.std.specs.FinMap.{get}
@@ -31,7 +32,8 @@ use Rattle.ras_machine.specs.State.{State}
 use Rattle.ras_machine.specs.Soundness.{AreBornBefore, Sound}
 use Rattle.ras_machine.specs.Turns.{IsDueIn, IsNothingDueIn}
 use Rattle.ras_machine.specs.Machine.{Choices, Course, Ignoring, Hearing, Repeating, Serving, Doing}
-use Rattle.ras_machine.specs.Machine.{Idle, at_moment, course_at, course_ending, retry_course, serving}
+use Rattle.ras_machine.specs.Machine.{Idle, at_moment, course_at}
+use Rattle.ras_machine.specs.Machine.{course_ending, retry_course, serving}
 use Rattle.ras_machine.specs.Steps.{HasFewOctets, IsAllowed, IsTimely, IsUnusedIn}
 use Rattle.ras_machine.specs.Steps.{IsAskedOnce, ask_in, choices_of, pools_after_ask}
 use Rattle.ras_machine.specs.inside.Room.{IsPlaced}
@@ -151,7 +153,8 @@ abbrev pub IsAskedFor : {L : Type 0} → (L → List Figures → RequestedUnits 
     → State → ℕ → Job → Request → Outcome → L → L → Type 0
 IsAskedFor lends s now job request outcome old new =
     (plan : Plan) → plan_of s.tables now request ≡ Some plan
-    → IsAskedOnce lends old s.tables.pools (ask_in (serving job now request plan)) outcome.answer new
+    → IsAskedOnce lends old s.tables.pools
+    (ask_in (serving job now request plan)) outcome.answer new
 
 -- this request may be served again, and that is what is to be done
 pub record IsAgain (s : State) (now born : ℕ) (job : Job) (request : Request) : Type 0 where

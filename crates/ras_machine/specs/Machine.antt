@@ -20,7 +20,8 @@ use Rattle.ras_machine.specs.declared.job.Occasion.{Occasion}
 use Rattle.ras_machine.specs.declared.job.Occasion.TheVariants.{First, Again}
 use Rattle.zone_events.specs.declared.outcome.Datagram.{Datagram}
 use Rattle.zone_events.specs.declared.outcome.IgnoredCause.{IgnoredCause}
-use Rattle.zone_events.specs.declared.outcome.IgnoredCause.TheVariants.{TooLong, Unreadable, NotServed}
+use Rattle.zone_events.specs.declared.outcome.IgnoredCause.TheVariants.{TooLong, Unreadable}
+use Rattle.zone_events.specs.declared.outcome.IgnoredCause.TheVariants.{NotServed}
 use Rattle.zone_events.specs.declared.outcome.IgnoredCause.TheVariants.{Busy, UnknownEndpoint}
 use Rattle.zone_events.specs.declared.outcome.Note.{Note}
 use Rattle.zone_events.specs.declared.outcome.Note.TheVariants as note
@@ -109,7 +110,8 @@ abbrev pub request_course : State → ℕ → KeptKey → Option ℕ → Request
 request_course s now key dropped request =
     request_case s now key request (plan_of s.tables now request) (place_of s now key) dropped
 
--- A datagram falls under the first that applies: it is too long, unreadable, not served, or a request.
+-- A datagram falls under the first that applies: it is too long, unreadable, not served, or a
+-- request.
 abbrev pub message_course : State → ℕ → KeptKey → Option ℕ → Message → Course
 message_course s now key dropped message.TooLong = Ignoring TooLong
 message_course s now key dropped message.Unreadable = Ignoring Unreadable
@@ -189,7 +191,8 @@ abbrev pub with_name : State → ℕ → Task → (List ℕ → Served) → Opti
 with_name s now task named None = None
 with_name s now task named (Some id) = ended s now task (Some id) None (answered (named id))
 
-abbrev pub with_answer : State → ℕ → Task → RequestedUnits → (ℕ → Served) → Served → Option Lend → Ending
+abbrev pub with_answer : State → ℕ → Task → RequestedUnits → (ℕ → Served) → Served → Option Lend
+    → Ending
 with_answer s now task ask lent refused None = None
 with_answer s now task ask lent refused (Some answer) =
     ended s now task None (Some answer) (with_answered_pool s.tables ask answer

@@ -10,7 +10,8 @@ use Rattle.registrations.specs.Registry.{after_ask}
 use Rattle.kept_replies.specs.Kept.{without_birth}
 use Rattle.zone_events.specs.declared.due_item.DueItem.{DueItem}
 use Rattle.zone_events.specs.declared.due_item.DueItem.TheVariants.{RegistrationOver, Interrogate}
-use Rattle.zone_events.specs.declared.due_item.DueItem.TheVariants.{Silent, Retry, KeptOver, PoolTurn}
+use Rattle.zone_events.specs.declared.due_item.DueItem.TheVariants.{Silent, Retry}
+use Rattle.zone_events.specs.declared.due_item.DueItem.TheVariants.{KeptOver, PoolTurn}
 use Rattle.expiry.specs.Due.{IsDue, IsNothingDue}
 use Rattle.zone_events.specs.declared.outcome.Datagram.{Datagram}
 use Rattle.zone_tables.specs.Silence.{times_of}

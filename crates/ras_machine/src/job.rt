@@ -45,7 +45,8 @@ impl Occasion {
         }
     }
 
-    /// Whether a request with this answer of its pool is to wait: not if it waited for the last time.
+    /// Whether a request with this answer of its pool is to wait: not if it waited for the last
+    /// time.
     pub fn waits(self, answer: Lend) -> bool
         ensures { result ≡ waits self answer }
     {

@@ -61,8 +61,8 @@ fn drop_entry(kept: &mut Kept, dropped: Option<u64>)
     }
 }
 
-/// Keeps how far a request is, in an entry that is born now, or in the one that waited. This takes no
-/// memory.
+/// Keeps how far a request is, in an entry that is born now, or in the one that waited. This takes
+/// no memory.
 pub fn keep(kept: &mut Kept, job: Job, born: u64, state: KeptState)
     requires place { IsPlaced kept.old job.key job.occasion }
     requires room { HasRoom kept.old job.key }

@@ -1,6 +1,7 @@
 //! The machine's state and its deed.
 
-ghost use Rattle.std.specs.Prelude.{◌≡◌, ◌<◌, ◌≤◌, ◌^◌, ◌+◌, ◌↔◌, All, IfOk, IfSome, IsTrue, OnErr, Some, length};
+ghost use Rattle.std.specs.Prelude.{◌≡◌, ◌<◌, ◌≤◌, ◌^◌, ◌+◌, ◌↔◌, All, IfOk};
+ghost use Rattle.std.specs.Prelude.{IfSome, IsTrue, OnErr, Some, length};
 ghost use Rattle.zone_tables.specs.Pools.{IsIdle};
 ghost use Rattle.ras_machine.specs.State.{opening};
 ghost use Rattle.ras_machine.specs.Machine.{Hearing, most_steps};
@@ -21,9 +22,10 @@ use zone_tables::{Lender, PoolFigures, ZoneTables};
 /// The steps that a zone makes at most.
 const MOST_STEPS: u64 = 1 << 62;
 
-/// The tables, the replies that are kept, the clock, the number of the next interrogation, the moment
-/// of the next turn of the pools, and the number of steps made. By its type all of it is sound, but
-/// for two facts that hold between steps: the pools' counts are small, and what is kept was born before.
+/// The tables, the replies that are kept, the clock, the number of the next interrogation, the
+/// moment of the next turn of the pools, and the number of steps made. By its type all of it is
+/// sound, but for two facts that hold between steps: the pools' counts are small, and what is kept
+/// was born before.
 pub struct Machine {
     pub(crate) alloc: Global,
     pub(crate) tables: ZoneTables,
@@ -162,8 +164,8 @@ impl Machine {
         self.alloc
     }
 
-    /// The identifier that is handed out, if the course calls for one: one that no endpoint has, and
-    /// that no kept reply tells.
+    /// The identifier that is handed out, if the course calls for one: one that no endpoint has,
+    /// and that no kept reply tells.
     pub fn identifier_for(&self, course: &Course) -> Result<Option<EndpointId>, AllocError>
         ensures { IfOk result (MayBeNamed self.now course.now) }
     {

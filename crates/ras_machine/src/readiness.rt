@@ -17,8 +17,8 @@ use zone_config::Moment;
 use zone_events::{DueItem, IgnoredCause};
 
 impl Machine {
-    /// Whether what was chosen so far for a course may be done now: the entry that is dropped, and the
-    /// item. This takes no memory.
+    /// Whether what was chosen so far for a course may be done now: the entry that is dropped, and
+    /// the item. This takes no memory.
     pub fn is_ready(&self, now: Moment, course: &Course) -> bool
         requires { Stands self.now now course.now }
         ensures { IsTrue result ↔ IsReady self.now now (course_of self.now now course.now) }

@@ -14,7 +14,8 @@ ghost use Rattle.ras_machine.specs.Keeping.{plan_at};
 ghost use Rattle.ras_machine.specs.Machine.{Serving};
 ghost use Rattle.ras_machine.specs.Soundness.{Sound};
 ghost use Rattle.ras_machine.specs.Steps.{IsAskedOnce, IsTimely, IsUnusedIn};
-ghost use Rattle.ras_machine.specs.Courses.{Does, IsAskedFor, IsPlacedIn, IsTask, MayBeGiven, Serves};
+ghost use Rattle.ras_machine.specs.Courses.{Does, IsAskedFor, IsPlacedIn};
+ghost use Rattle.ras_machine.specs.Courses.{IsTask, MayBeGiven, Serves};
 ghost use Rattle.ras_machine.specs.Courses.{heard_at, resolved};
 
 use crate::course::Task;
@@ -74,8 +75,8 @@ impl Machine {
         }
     }
 
-    /// Does what was decided about a request that names this endpoint, and keeps the reply. All that
-    /// may want memory comes before the first change.
+    /// Does what was decided about a request that names this endpoint, and keeps the reply. All
+    /// that may want memory comes before the first change.
     fn carry_out(
         &mut self,
         now: Moment,
@@ -122,8 +123,8 @@ impl Machine {
         })
     }
 
-    /// Requests units of a pool, and does what follows from its answer about a request. The memory is
-    /// there before the pool is asked.
+    /// Requests units of a pool, and does what follows from its answer about a request. The memory
+    /// is there before the pool is asked.
     fn request_units<L: Lender>(
         &mut self,
         now: Moment,
@@ -134,7 +135,8 @@ impl Machine {
     ) -> Result<Outcome, AllocError>
         requires lends_for { L.lends_for lender.old self.old.tables.pools }
         requires may { IsUnitRequest (usage_of self.old.tables) unit_request }
-        requires leg { IfSome (leg_of_purpose unit_request.purpose) (IsRegistered self.old.tables.live) }
+        requires leg { IfSome (leg_of_purpose unit_request.purpose)
+            (IsRegistered self.old.tables.live) }
         requires seq { seq_of request ≡ unit_request.seq }
         requires placed { IsPlacedIn self.old job }
         requires timely { IsTimely self.old now job.occasion }

@@ -1,5 +1,6 @@
 -- The derived tests of equality of requests and replies decide whether they are equal.
-use Rattle.std.proofs.Common.{◌≡◌, Bool, true, false, List, Option, Some, None, ℕ, nat_eq, ap, refl, rules}
+use Rattle.std.proofs.Common.{◌≡◌, Bool, true, false, List, Option}
+use Rattle.std.proofs.Common.{Some, None, ℕ, nat_eq, ap, refl, rules}
 use Rattle.std.specs.Bool.{Decides}
 use Rattle.std.specs.Option.{option_eq}
 use Rattle.std.specs.Cmp.{booleans_Decides}

@@ -1,6 +1,7 @@
 //! Lists of aliases.
 
-ghost use Rattle.std.specs.Prelude.{◌≡◌, ◌↔◌, ◌++◌, ◌∷◌, ◌≤◌, [], length, IfOk, OnOk, OnErr, IsTrue, MatchResult, ◌<◌};
+ghost use Rattle.std.specs.Prelude.{◌≡◌, ◌↔◌, ◌++◌, ◌∷◌, ◌≤◌, [], length, IfOk};
+ghost use Rattle.std.specs.Prelude.{OnOk, OnErr, IsTrue, MatchResult, ◌<◌};
 ghost use Rattle.std.specs.Cmp.Lexicographic.{pointwise};
 ghost use Rattle.ras_module.specs.Aliases.{same_alias, has_alias, without_doubles};
 ghost use Rattle.ras_module.specs.Same.{aliases_equivalence, aliases_partial_equivalence};
@@ -143,7 +144,8 @@ impl ReplyAliases {
 
     /// These aliases. The list comes back if and only if there are more than 32.
     pub fn new(list: AliasList) -> Result<Self, AliasList>
-        ensures { MatchResult result (λ few. (few ≡ list) × (length list ≤ 32)) (λ many. (many ≡ list) × (32 < length list)) }
+        ensures { MatchResult result (λ few. (few ≡ list) × (length list ≤ 32))
+            (λ many. (many ≡ list) × (32 < length list)) }
     {
         if list.len() > Self::MOST {
             return Err(list);

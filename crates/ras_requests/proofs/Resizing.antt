@@ -50,11 +50,17 @@ module _ (z : Tables) (q : BandwidthRequest) (call : Call) (w r n : ℕ) where
             ap (λ (b : Bool). if b then Settled (lowering z q call (wanted z q.asked))
             else if units_left z == 0 then Settled (staying z q call)
             else Asking
-            (record { pool = call.pool; units = min (wanted z q.asked - call.units) (units_left z) })
+            (record {
+              pool = call.pool;
+              units = min (wanted z q.asked - call.units) (units_left z);
+            })
             (raising z q call) (staying z q call)) wants
             ∙ (ap (λ (b : Bool). if b then Settled (staying z q call)
             else Asking
-            (record { pool = call.pool; units = min (wanted z q.asked - call.units) (units_left z) })
+            (record {
+              pool = call.pool;
+              units = min (wanted z q.asked - call.units) (units_left z);
+            })
             (raising z q call) (staying z q call)) has
             ∙ ap (λ (x : ℕ). Asking (record { pool = call.pool; units = x }) (raising z q call)
             (staying z q call)) units);

@@ -51,7 +51,10 @@ abbrev pub resizing : Tables → BandwidthRequest → Call → Plan
 resizing z q call =
     if nat_le (wanted z q.asked) call.units then Settled (lowering z q call (wanted z q.asked))
     else if units_left z == 0 then Settled (staying z q call)
-    else Asking (record { pool = call.pool; units = min (wanted z q.asked - call.units) (units_left z) })
+    else Asking (record {
+      pool = call.pool;
+      units = min (wanted z q.asked - call.units) (units_left z);
+    })
     (raising z q call) (staying z q call)
 
 -- A BRQ: of this endpoint if it is registered, with its standing to the call.

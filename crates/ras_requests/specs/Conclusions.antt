@@ -15,7 +15,8 @@ use Rattle.ras_requests.specs.declared.conclusion.Conclusion.TheVariants as conc
 use Rattle.zone_tables.specs.Tables.{Tables, with_calls}
 use Rattle.ras_requests.specs.Requests.{plan_of}
 use Rattle.zone_tables.specs.Parts.{usage_of}
-use Rattle.zone_tables.specs.UnitRequests.{units_requested, granted_reply, granted_calls, refused_reply}
+use Rattle.zone_tables.specs.UnitRequests.{units_requested, granted_reply}
+use Rattle.zone_tables.specs.UnitRequests.{granted_calls, refused_reply}
 use Rattle.zone_tables.specs.UnitRequests.{IsUnitRequest, leg_of_purpose}
 use Rattle.ras_requests.specs.Plans.{Served, Plan, Settled, Naming, Asking, unchanged}
 use Rattle.zone_tables.specs.Changes.{after_change, IsRegistered, IsPossible}

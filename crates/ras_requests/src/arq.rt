@@ -3,7 +3,8 @@
 ghost use Rattle.std.specs.Prelude.{◌≡◌, ◌<◌, length, None, Some, IsSome};
 ghost use Rattle.std.specs.FinMap as fin;
 ghost use Rattle.admission.specs.Legs.{leg_of};
-ghost use Rattle.ras_requests.specs.Arq.{admission, admission_of, destination, joining, leg_told, making};
+ghost use Rattle.ras_requests.specs.Arq.{admission, admission_of, destination};
+ghost use Rattle.ras_requests.specs.Arq.{joining, leg_told, making};
 ghost use Rattle.ras_requests.specs.Standing.{NoCall, standing_in};
 ghost use Rattle.zone_config.specs.Networks.{pool_of};
 ghost use Rattle.ras_requests.specs.Conclusions.{Concludes, Decides, IsFor};

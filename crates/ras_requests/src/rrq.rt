@@ -5,7 +5,8 @@ ghost use Rattle.ras_module.specs.Aliases.{has_alias, without_doubles};
 ghost use Rattle.registrations.specs.Registry.{at_address};
 ghost use Rattle.registrations.specs.Agreement.{registered_elsewhere};
 ghost use Rattle.ras_requests.specs.Rrq.{confirmation, deadline, granted, has_moved};
-ghost use Rattle.ras_requests.specs.Rrq.{entering, full_registration, keep_alive, named, registration};
+ghost use Rattle.ras_requests.specs.Rrq.{entering, full_registration};
+ghost use Rattle.ras_requests.specs.Rrq.{keep_alive, named, registration};
 ghost use Rattle.ras_requests.specs.Conclusions.{Concludes, Decides, IsFor};
 
 use crate::conclusion::{Conclusion, Decision, Newcomer};

@@ -62,7 +62,8 @@ uuies_bits : in_order (encoding.octets (0 ∷ 0 ∷ []) ∷ []) 0 ≡ in_order t
 unfolding octet
 uuies_bits = refl
 
-pub uuies_added : AreEncodings (forms.optional true (forms.inside grammar.uuies_requested)) (Some tt)
+pub uuies_added : AreEncodings (forms.optional true (forms.inside grammar.uuies_requested))
+    (Some tt)
     (encoding.size 2 ∷ encoding.octets (0 ∷ 0 ∷ []) ∷ [])
 uuies_added = front_written grammar.uuies_requested 2 (encoding.octets (0 ∷ 0 ∷ []) ∷ [])
     (in_order ten_booleans 0) (replicate 6 false) (omega arith) two_octets uuies_bits

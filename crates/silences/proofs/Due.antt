@@ -38,7 +38,8 @@ module _ (entries next : List Entry) (m n : Moments) (due : AreDue entries m) wh
       ∙ (d.here
       ∙ (ap (option_and_then end_of) (sym c.here)
       ∙ ap (λ k. option_and_then end_of (slice_get next k)) (sym e))))
-      (λ differ. d.others i differ ∙ (due i ∙ ap (option_and_then end_of) (sym (c.others i differ))))
+      (λ differ. d.others i differ ∙ (due i
+      ∙ ap (option_and_then end_of) (sym (c.others i differ))))
 
   -- what stands last goes to one place, and its moment with it
   pub AreDue-moved : (place last : ℕ) → Moved (row_in entries) (row_in next) place last

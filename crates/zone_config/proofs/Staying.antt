@@ -1,5 +1,6 @@
 -- Settings stay within their ranges if a number in its range is set.
-use Rattle.std.proofs.Common.{◌≡◌, ℕ, suc, zero, Bool, true, false, not, List, [], ◌∷◌, map, set, refl}
+use Rattle.std.proofs.Common.{◌≡◌, ℕ, suc, zero, Bool, true, false}
+use Rattle.std.proofs.Common.{not, List, [], ◌∷◌, map, set, refl}
 use Rattle.std.proofs.Common.{sym, subst, Some, None, Result, Ok, Err, Bor}
 use Rattle.std.specs.List.{list_any}
 use Rattle.std.specs.Prelude.{Option, if◌then◌else◌}

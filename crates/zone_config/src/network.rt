@@ -7,7 +7,8 @@ ghost use Rattle.std.specs.Cmp.Lexicographic.{pointwise};
 ghost use Rattle.std.specs.Cmp.Rules.{comparing};
 ghost use Rattle.std.proofs.Common.{rules};
 ghost use Rattle.zone_config.specs.Networks.{same_network};
-ghost use Rattle.zone_config.specs.Networks.{front_bits, has_default, holds, is_too_long, pool_of, serves};
+ghost use Rattle.zone_config.specs.Networks.{front_bits, has_default, holds};
+ghost use Rattle.zone_config.specs.Networks.{is_too_long, pool_of, serves};
 
 use std::alloc::AllocError;
 use std::marker::Model;

@@ -154,8 +154,8 @@ pub(crate) fn make_step<P: Pool, D: Hall, T: Ledger, U: Ledger>(
     Ok(receipt)
 }
 
-/// Why no step is made if there is no memory for what it needs: as many steps were made as there may
-/// be, or that want of memory alone.
+/// Why no step is made if there is no memory for what it needs: as many steps were made as there
+/// may be, or that want of memory alone.
 pub(crate) fn fault_without_order<P: Pool, D: Hall, T: Ledger, U: Ledger>(
     locked: &Locked<P, D, T, U>,
 ) -> StepFault

@@ -25,7 +25,8 @@ use Rattle.zone_config.specs.declared.key.Key.TheVariants.{Limit}
 use Rattle.zone_config.specs.declared.config.ConfigParts.{ConfigParts}
 use Rattle.zone_events.specs.declared.due_item.DueItem.{DueItem}
 use Rattle.zone_events.specs.declared.due_item.DueItem.TheVariants.{RegistrationOver, Interrogate}
-use Rattle.zone_events.specs.declared.due_item.DueItem.TheVariants.{Silent, Retry, KeptOver, PoolTurn}
+use Rattle.zone_events.specs.declared.due_item.DueItem.TheVariants.{Silent, Retry}
+use Rattle.zone_events.specs.declared.due_item.DueItem.TheVariants.{KeptOver, PoolTurn}
 use Rattle.zone_tables.specs.inside.Watched.{AreWatched, end_in_call, end_of}
 
 -- if no key of a list passes, the one at this place doesn't
@@ -39,7 +40,8 @@ none_passes p (key ∷ keys) (suc i) none below =
 -- an endpoint is asked once at least
 pub some_asks : (parts : ConfigParts) → range_fault parts ≡ None → 1 ≤ parts.asks
 some_asks parts e = cases (leb 1 parts.asks) refl
-    (none_passes (λ key. is_outside parts key) all_keys 10 (keys_inside parts e) (omega arith)) where
+    (none_passes (λ key. is_outside parts key) all_keys 10 (keys_inside parts e)
+    (omega arith)) where
       cases : (b : Bool) → leb 1 parts.asks ≡ b
           → not (leb 1 parts.asks && leb parts.asks 16) ≡ false → 1 ≤ parts.asks
       cases true is h = leb-true 1 parts.asks is

@@ -56,7 +56,8 @@ All-answer most pools i answer h below =
 
 -- no limit is passed by an answer that may be given, nor by units that come back
 answer_within : (f : Figures) (units : ℕ) (answer : Lend) → IsAnswer f units answer
-    → f.lent ≤ f.limit → (figures_after_answer f answer).lent ≤ (figures_after_answer f answer).limit
+    → f.lent ≤ f.limit → (figures_after_answer f answer).lent
+    ≤ (figures_after_answer f answer).limit
 answer_within f units (Lent n) fits within = fits.2
 answer_within f units Refused fits within = within
 answer_within f units Wait fits within = within

@@ -160,7 +160,8 @@ pub update_entered : (ends : Ends) (id : List ℕ) (was end : Option ℕ)
     → update (fin.insert ends id was) id (λ w. end) ≡ fin.insert ends id end
 update_entered ends id was end =
     let first = Changed-insert nat_list_cmp_total exact_bytes ends id was in
-    let next = Changed-update nat_list_cmp_total exact_bytes (fin.insert ends id was) id (λ w. end) in
+    let next =
+    Changed-update nat_list_cmp_total exact_bytes (fin.insert ends id was) id (λ w. end) in
     insert_is nat_list_cmp_total exact_bytes ends (update (fin.insert ends id was) id (λ w. end)) id
     end (record {
       here = next.here ∙ ap (option_map (λ (w : Option ℕ). end)) first.here;

@@ -5,12 +5,14 @@ ghost use Rattle.std.specs.Prelude.{◌≡◌, ◌≤◌, ◌<◌, [], IsSome, I
 ghost use Rattle.std.specs.Option.{option_copied, IsSomeAnd};
 ghost use Rattle.std.specs.FinMap as map;
 ghost use Rattle.keyed.specs.Maps.{update};
-ghost use Rattle.registrations.specs.Registry.{at_address, IsConsistent, IsListOf, IsUnused, after_ask, after_calm, with_deadline};
+ghost use Rattle.registrations.specs.Registry.{at_address, IsConsistent, IsListOf, IsUnused};
+ghost use Rattle.registrations.specs.Registry.{after_ask, after_calm, with_deadline};
 ghost use Rattle.aliases.specs.Held.{Becomes, without_holder};
 ghost use Rattle.registrations.specs.Agreement.{Agree, registered_elsewhere};
 ghost use Rattle.zone_tables.specs.Tables.{heard_now};
 ghost use Rattle.zone_tables.specs.Translation.{registered_with, translation};
-ghost use Rattle.zone_tables.specs.Changes.{IsAddable, IsEndpointChange, IsRewritable, after_endpoint_change};
+ghost use Rattle.zone_tables.specs.Changes.{IsAddable, IsEndpointChange};
+ghost use Rattle.zone_tables.specs.Changes.{IsRewritable, after_endpoint_change};
 ghost use Rattle.zone_tables.specs.Parts.{IsSoundRoll};
 
 use crate::change::EndpointChange;
@@ -215,7 +217,8 @@ impl Endpoints {
     ) -> Result<(), AllocError>
         requires { IsRewritable self.old id entry }
         ensures live { OnOk result (self.new.live
-            ≡ after_endpoint_change now (EndpointChange.Rewriting id entry deadline) self.old.live) }
+            ≡ after_endpoint_change now (EndpointChange.Rewriting id entry deadline)
+            self.old.live) }
         ensures most { self.new.most ≡ self.old.most }
         ensures err { OnErr result (self.new ≡ self.old) }
     {

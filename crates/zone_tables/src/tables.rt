@@ -1,11 +1,13 @@
 //! The tables of a zone: its endpoints and its calls, under its settings.
 
 ghost use Rattle.std.specs.Prelude.{◌↔◌};
-ghost use Rattle.std.specs.Prelude.{◌≡◌, ◌<◌, ◌≤◌, ◌^◌, All, IfOk, IfSome, IsTrue, MatchOption, OnErr, OnOk, Some, length, map, ℕ};
+ghost use Rattle.std.specs.Prelude.{◌≡◌, ◌<◌, ◌≤◌, ◌^◌, All, IfOk, IfSome, IsTrue};
+ghost use Rattle.std.specs.Prelude.{MatchOption, OnErr, OnOk, Some, length, map, ℕ};
 ghost use Rattle.std.specs.Option.{IsSomeAnd, option_copied};
 ghost use Rattle.std.specs.FinMap as fin;
 ghost use Rattle.keyed.specs.Maps.{update};
-ghost use Rattle.registrations.specs.Registry.{at_address, IsConsistent, IsListOf, IsUnused, after_ask};
+ghost use Rattle.registrations.specs.Registry.{at_address, IsConsistent};
+ghost use Rattle.registrations.specs.Registry.{IsListOf, IsUnused, after_ask};
 ghost use Rattle.registrations.specs.Agreement.{registered_elsewhere};
 ghost use Rattle.zone_tables.specs.Translation.{translation};
 ghost use Rattle.admission.specs.Calls.{EachLeg, in_use, leg_at, legs_of};
@@ -17,7 +19,8 @@ ghost use Rattle.zone_tables.specs.Pools.{IsIdle, figures_at, pools_after_answer
 ghost use Rattle.zone_tables.specs.Parts.{usage_of};
 ghost use Rattle.zone_tables.specs.Changes.{IsPossible, IsRegistered};
 ghost use Rattle.zone_tables.specs.UnitRequests.{IsUnitRequest};
-ghost use Rattle.zone_tables.specs.UnitRequests.{units_requested, calls_after_answer, leg_of_purpose};
+ghost use Rattle.zone_tables.specs.UnitRequests.{units_requested};
+ghost use Rattle.zone_tables.specs.UnitRequests.{calls_after_answer, leg_of_purpose};
 ghost use Rattle.zone_tables.specs.Changes.{after_change, heard};
 ghost use Rattle.zone_tables.specs.Soundness.{HasCounts, SoundTables};
 ghost use Rattle.zone_tables.specs.Silence.{times_of};

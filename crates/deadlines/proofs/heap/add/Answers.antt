@@ -23,7 +23,8 @@ pub returns-clause-moments : goal.returns-clause-moments
 returns-clause-moments c =
     let rows = c.args.rows.now.items in
     let pushed = c.push_reserved.ensures.items in
-    ap moments_of (written_back c.settle.new.rows c.push_reserved.new.self.items c.push_reserved.new.self.len
+    ap moments_of (written_back c.settle.new.rows c.push_reserved.new.self.items
+    c.push_reserved.new.self.len
     (omega arith))
     ∙ (c.settle.ensures.moments ∙ (ap moments_of (c.deref_mut.ensures.value ∙ pushed)
     ∙ moments_added rows c.args.at.now c.args.due c.requires.indexed

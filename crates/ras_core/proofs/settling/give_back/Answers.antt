@@ -18,4 +18,6 @@ give_back_to-requires-clause-same g c =
     let le_self : i ≤ i = omega arith in
     let here = sym (c.loop-i.invariant.rest i le_self) ∙ figures_there c.loop-i.pools i in
     subst (λ (f : Figures). IsSameButLent f c.get.result) here
-    (subst (λ (f : Figures). IsSameButLent (figures_at (figures_of (accounts_of c.args.pools.now)) i) f) (sym c.get.ensures.same) (c.requires.same i below))
+    (subst
+    (λ (f : Figures). IsSameButLent (figures_at (figures_of (accounts_of c.args.pools.now)) i) f)
+    (sym c.get.ensures.same) (c.requires.same i below))

@@ -12,7 +12,8 @@ returns-then-has_all c =
     both_have call_key_cmp_total call_key_cmp-IsAntisymmetric key_of value_of
     mine.calls.entries theirs.calls.entries c.args.self.now.calls c.args.other.now.calls
     (IsMapOf-stored mine.calls mine.most c.args.self.now c.self.invariant.stored c.self.view_is)
-    (IsMapOf-stored theirs.calls theirs.most c.args.other.now c.other.invariant.stored c.other.view_is)
+    (IsMapOf-stored theirs.calls theirs.most c.args.other.now c.other.invariant.stored
+    c.other.view_is)
     true c.has_all-then-has_all.result c.if-has_all.ensures c.has_all-then-has_all.ensures
 
 pub returns-else-has_all : goal.returns-else-has_all
@@ -20,5 +21,6 @@ returns-else-has_all c =
     let theirs = c.other.inside in
     one_lacks call_key_cmp_total call_key_cmp-IsAntisymmetric key_of value_of
     theirs.calls.entries c.args.self.now.calls c.args.other.now.calls
-    (IsMapOf-stored theirs.calls theirs.most c.args.other.now c.other.invariant.stored c.other.view_is)
+    (IsMapOf-stored theirs.calls theirs.most c.args.other.now c.other.invariant.stored
+    c.other.view_is)
     c.has_all.result c.has_all.ensures c.if-has_all.false

@@ -13,6 +13,7 @@ returns-then-is_none c =
     let id = c.args.id.now in
     subst (λ (m : State). IsTrue (not c.is_named.result) ↔ IsUnusedIn m id) c.self.view_is
     (unused_by i.tables.live i.kept.kept id
-    (nobody_has option_copied c.get.result (fin.get i.tables.live id) refl c.get.ensures.found c.is_none.result c.is_none.ensures
+    (nobody_has option_copied c.get.result (fin.get i.tables.live id) refl c.get.ensures.found
+    c.is_none.result c.is_none.ensures
     c.if-is_none.true)
     c.as_slice.ensures.text c.is_named.result c.is_named.ensures)

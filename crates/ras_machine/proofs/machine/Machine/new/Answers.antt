@@ -14,7 +14,10 @@ returns-clause-sound c =
     record {
       tables = c.new.ensures.sound;
       counts = subst (λ (z : Tables). All (HasCounts (2 ^ 62 + 0)) z.pools)
-          (sym c.new.ensures.tables) (λ k d below. record { refusals = (c.requires.idle k d below).refusals; waits = (c.requires.idle k d below).waits });
+          (sym c.new.ensures.tables) (λ k d below. record {
+            refusals = (c.requires.idle k d below).refusals;
+            waits = (c.requires.idle k d below).waits;
+          });
       few_kept = subst (λ (most : ℕ). len kept ≤ most)
           (c.new-kept.ensures.most ∙ c.kept.ensures.same
           ∙ sym (ap (λ (z : Tables). z.config.kept) c.new.ensures.tables))

@@ -39,14 +39,16 @@ carry_out-requires-in-Naming-clause-possible g c =
 pub request_units-requires-clause-may : goal.request_units-requires-clause-may
 request_units-requires-clause-may g c =
     let z = c.args.self.now.tables in
-    (requests_units_of z c.args.now c.args.task.request c.requires.task.served c.in-Asking.unit_request
+    (requests_units_of z c.args.now c.args.task.request c.requires.task.served
+    c.in-Asking.unit_request
     (subst (IsConclusion z c.args.now c.args.task.request) c.in-Asking.is
     c.requires.task.concludes)).may
 
 pub request_units-requires-clause-leg : goal.request_units-requires-clause-leg
 request_units-requires-clause-leg g c =
     let z = c.args.self.now.tables in
-    (requests_units_of z c.args.now c.args.task.request c.requires.task.served c.in-Asking.unit_request
+    (requests_units_of z c.args.now c.args.task.request c.requires.task.served
+    c.in-Asking.unit_request
     (subst (IsConclusion z c.args.now c.args.task.request) c.in-Asking.is
     c.requires.task.concludes)).registered
 

@@ -14,5 +14,6 @@ invariant_of-self c =
     let joined = on_ok c.join.result c.unwrap.result c.unwrap.ensures c.join.ensures.ok in
     IsSoundUsage-held c.join.new.self i.pools i.limit i.call_limit
     (IsBacked-is (with_usage u _ u.pools) c.join.new.self.calls u.pools c.join.new.self.most
-    (IsBacked-join u c.self.invariant.backed c.args.key c.args.leg can) joined.rows refl joined.most)
+    (IsBacked-join u c.self.invariant.backed c.args.key c.args.leg can)
+    joined.rows refl joined.most)
     (joined.sound) (c.self.invariant.within)

@@ -18,7 +18,8 @@ take_back-requires-clause-lent c =
     (sym c.self.view_is) c.requires in
     omega (
       arith,
-      back_is_lent u c.self.invariant.backed c.args.key.now c.args.units c.args.pool c.args.back can,
+      back_is_lent u c.self.invariant.backed c.args.key.now c.args.units c.args.pool
+          c.args.back can,
       c.from.ensures,
     )
 
@@ -34,7 +35,8 @@ invariant_of-self c =
     IsSoundUsage-held c.set_units.new.self c.take_back.new.self i.limit i.call_limit
     (IsBacked-is (with_usage u _ (pools_after_return u.pools c.args.pool c.args.back))
     c.set_units.new.self.calls (c.take_back.new.self) c.set_units.new.self.most
-    (IsBacked-lower u c.self.invariant.backed c.args.key.now c.args.units c.args.pool c.args.back can)
+    (IsBacked-lower u c.self.invariant.backed c.args.key.now c.args.units c.args.pool
+    c.args.back can)
     lowered.rows
     (c.take_back.ensures.after ∙ ap (pools_after_return u.pools c.args.pool) c.from.ensures)
     lowered.most)

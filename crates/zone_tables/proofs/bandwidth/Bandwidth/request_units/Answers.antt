@@ -13,7 +13,8 @@ ask-answer-requires-clause-may g c =
     let i = c.self.inside in
     let u = usage_in i.calls i.pools i.limit i.call_limit in
     let q = c.args.request.now in
-    let may = subst (λ (l : Lending). IsUnitRequest l.usage q) (sym c.self.view_is) c.requires.may in
+    let may =
+    subst (λ (l : Lending). IsUnitRequest l.usage q) (sym c.self.view_is) c.requires.may in
     let counts = subst (λ (l : Lending). All (HasCounts (2 ^ 63)) l.usage.pools)
     (sym c.self.view_is) c.requires.counts in
     subst (MayBeAsked i.pools q.pool) (sym c.from-units.ensures)
@@ -25,7 +26,8 @@ invariant_of-self g c =
     let u = usage_in i.calls i.pools i.limit i.call_limit in
     let q = c.args.request.now in
     let answer = c.ask-answer.result in
-    let may = subst (λ (l : Lending). IsUnitRequest l.usage q) (sym c.self.view_is) c.requires.may in
+    let may =
+    subst (λ (l : Lending). IsUnitRequest l.usage q) (sym c.self.view_is) c.requires.may in
     let fits = subst (λ (n : ℕ). IsAnswer (figures_at i.pools q.pool) n answer) c.from-units.ensures
     c.ask-answer.ensures.answer in
     IsSoundUsage-held c.enter.new.calls c.note_answer.new.self i.limit i.call_limit

@@ -38,7 +38,8 @@ invariant_of-self-2 c =
     c.as_slice-aliases.ensures.items) in
     record {
       agree = subst (λ (l : Live). Agree l c.set_all.new.self.held) (sym live_is)
-          (subst (λ (h : Held). Agree (fin.insert c.args.self.now.live r.identifier r) h) (sym held_is)
+          (subst (λ (h : Held). Agree (fin.insert c.args.self.now.live r.identifier r) h)
+          (sym held_is)
           (Agree-add c.args.self.now held agree r c.requires));
       sound = (on_ok c.insert.result c.unwrap.result c.unwrap.ensures c.insert.ensures.ok).sound;
     }

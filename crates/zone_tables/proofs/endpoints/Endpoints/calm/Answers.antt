@@ -11,7 +11,8 @@ invariant_of-self c =
     let i = c.self.inside in
     record {
       agree = subst (λ (l : Live). Agree l i.aliases.held) (sym c.calm.ensures.rows)
-          (Agree-update i.registrations.live i.aliases.held c.args.id.now after_calm c.self.invariant.agree
+          (Agree-update i.registrations.live i.aliases.held c.args.id.now after_calm
+          c.self.invariant.agree
           (λ r. refl) (λ r. refl));
       sound = c.calm.ensures.sound;
     }

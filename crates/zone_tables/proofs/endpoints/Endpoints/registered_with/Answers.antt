@@ -11,7 +11,8 @@ returns-in_err-holder c =
     let none = sym c.holder.ensures ∙ ap option_copied (c.in_err-holder.was) in
     ap option_copied c.from_residual.ensures
     ∙ (sym
-    (none_registered i.registrations.live i.aliases.held c.self.invariant.agree c.args.alias.now none)
+    (none_registered i.registrations.live i.aliases.held c.self.invariant.agree
+    c.args.alias.now none)
     ∙ ap (λ (roll : Roll). registered_with roll.live c.args.alias.now) c.self.view_is)
 
 pub returns : goal.returns
@@ -19,6 +20,7 @@ returns c =
     let i = c.self.inside in
     let some = sym c.holder.ensures ∙ ap option_copied (c.in_ok-holder.was) in
     c.get.ensures.found
-    ∙ (sym (holder_registered i.registrations.live i.aliases.held c.self.invariant.agree c.args.alias.now
+    ∙ (sym (holder_registered i.registrations.live i.aliases.held c.self.invariant.agree
+    c.args.alias.now
     c.in_ok-holder.field-0.now some)
     ∙ ap (λ (roll : Roll). registered_with roll.live c.args.alias.now) c.self.view_is)

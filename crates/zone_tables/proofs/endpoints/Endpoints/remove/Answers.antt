@@ -12,7 +12,8 @@ invariant_of-self c =
     let i = c.self.inside in
     let id = c.args.id.now in
     record {
-      agree = subst (λ (l : Live). Agree l c.drop_aliases.new.aliases.held) (sym c.remove.ensures.removed.rows)
+      agree = subst (λ (l : Live). Agree l c.drop_aliases.new.aliases.held)
+          (sym c.remove.ensures.removed.rows)
           (subst (λ (h : Held). Agree (fin.remove i.registrations.live id) h)
           (sym c.drop_aliases.ensures.rows)
           (Agree-remove i.registrations.live i.aliases.held id c.self.invariant.agree));

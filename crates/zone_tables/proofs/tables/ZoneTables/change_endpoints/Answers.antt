@@ -51,8 +51,10 @@ invariant_of-self-2 c =
       endpoints = either_way IsSoundRoll c.apply.result i.endpoints c.apply.new.self
           c.apply.ensures.sound c.apply.ensures.err c.self.invariant.endpoints;
       calls = c.self.invariant.calls;
-      parts = AreParts-live i.config i.endpoints c.apply.new.self u parts c.apply.ensures.most _ refl
-          (legs-endpoint_result c.apply.result i.endpoints c.apply.new.self u.calls c.args.now change
+      parts = AreParts-live i.config i.endpoints c.apply.new.self u parts c.apply.ensures.most
+          _ refl
+          (legs-endpoint_result c.apply.result i.endpoints c.apply.new.self u.calls c.args.now
+          change
           parts.legs here.1 c.apply.ensures.live c.apply.ensures.err);
       watched = subst (λ t. AreWatched t c.apply.new.self.live u.calls c.watch.new.silences.ends)
           same c.watch.ensures;

@@ -15,7 +15,8 @@ watch-requires-clause-others c =
     let i = c.self.inside in
     let u = i.bandwidth.usage in
     let id = c.in-Some.id in
-    let same = c.times-times.ensures.same ∙ ap (λ (m : Tables). times_of m.config) (sym c.self.view_is) in
+    let same = c.times-times.ensures.same
+    ∙ ap (λ (m : Tables). times_of m.config) (sym c.self.view_is) in
     let watched = subst (λ t. AreWatched t i.endpoints.live u.calls i.silences.ends)
     (sym same) c.self.invariant.watched in
     others_watched c.times-times.result i.endpoints.live u.calls i.silences.ends watched
@@ -34,7 +35,8 @@ invariant_of-self c =
       endpoints = c.hear.ensures.sound;
       calls = c.self.invariant.calls;
       parts = AreParts-live i.config i.endpoints c.hear.new.self u parts c.hear.ensures.most _
-          c.hear.ensures.live (legs-heard i.endpoints.live u.calls c.args.now c.in-Some.id parts.legs);
+          c.hear.ensures.live (legs-heard i.endpoints.live u.calls c.args.now c.in-Some.id
+          parts.legs);
       watched = subst (λ t. AreWatched t c.hear.new.self.live u.calls c.watch.new.silences.ends)
           (c.times-times.ensures.same ∙ ap (λ (m : Tables). times_of m.config) (sym c.self.view_is))
           c.watch.ensures;

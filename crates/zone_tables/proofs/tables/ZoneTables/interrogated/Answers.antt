@@ -14,7 +14,8 @@ watch-requires-clause-others c =
     let i = c.self.inside in
     let u = i.bandwidth.usage in
     let id = c.args.id.now in
-    let same = c.times-times.ensures.same ∙ ap (λ (m : Tables). times_of m.config) (sym c.self.view_is) in
+    let same = c.times-times.ensures.same
+    ∙ ap (λ (m : Tables). times_of m.config) (sym c.self.view_is) in
     let watched = subst (λ t. AreWatched t i.endpoints.live u.calls i.silences.ends)
     (sym same) c.self.invariant.watched in
     others_watched c.times-times.result i.endpoints.live u.calls i.silences.ends watched
@@ -32,10 +33,12 @@ invariant_of-self c =
       settings = c.self.invariant.settings;
       endpoints = c.interrogated.ensures.sound;
       calls = c.self.invariant.calls;
-      parts = AreParts-live i.config i.endpoints c.interrogated.new.self u parts c.interrogated.ensures.most _
+      parts = AreParts-live i.config i.endpoints c.interrogated.new.self u parts
+          c.interrogated.ensures.most _
           c.interrogated.ensures.live
           (legs-update i.endpoints.live u.calls c.args.id.now (after_ask c.args.now) parts.legs);
-      watched = subst (λ t. AreWatched t c.interrogated.new.self.live u.calls c.watch.new.silences.ends)
+      watched = subst (λ t. AreWatched t c.interrogated.new.self.live u.calls
+          c.watch.new.silences.ends)
           (c.times-times.ensures.same ∙ ap (λ (m : Tables). times_of m.config) (sym c.self.view_is))
           c.watch.ensures;
     }

@@ -15,7 +15,8 @@ pub watch-requires-clause-others : goal.watch-requires-clause-others
 watch-requires-clause-others c =
     let i = c.self.inside in
     let u = i.bandwidth.usage in
-    let same = c.times-times.ensures.same ∙ ap (λ (m : Tables). times_of m.config) (sym c.self.view_is) in
+    let same = c.times-times.ensures.same
+    ∙ ap (λ (m : Tables). times_of m.config) (sym c.self.view_is) in
     let watched = subst (λ t. AreWatched t i.endpoints.live u.calls i.silences.ends)
     (sym same) c.self.invariant.watched in
     others_watched c.times-times.result i.endpoints.live u.calls i.silences.ends watched
@@ -42,7 +43,8 @@ invariant_of-self c =
             (λ leg other is. is) i.bandwidth.usage.calls
             c.leave_all.new.self.usage.calls left.calls parts.legs;
       };
-      watched = subst (λ t. AreWatched t i.endpoints.live c.leave_all.new.self.usage.calls c.watch.new.silences.ends)
+      watched = subst (λ t. AreWatched t i.endpoints.live c.leave_all.new.self.usage.calls
+          c.watch.new.silences.ends)
           (c.times-times.ensures.same ∙ ap (λ (m : Tables). times_of m.config) (sym c.self.view_is))
           c.watch.ensures;
     }

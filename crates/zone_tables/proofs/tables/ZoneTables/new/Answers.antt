@@ -26,7 +26,8 @@ invariant_of-result c =
       calls = c.new-bandwidth.ensures.sound;
       parts = subst (λ (u : Usage). AreParts c.args.config c.new-endpoints.result u)
           (sym c.new-bandwidth.ensures.usage)
-          (subst (λ (roll : Roll). AreParts c.args.config roll u) (sym c.new-endpoints.ensures.empty) (record {
+          (subst (λ (roll : Roll). AreParts c.args.config roll u)
+          (sym c.new-endpoints.ensures.empty) (record {
             endpoints = c.endpoints.ensures.same;
             calls = refl;
             limit = refl;
@@ -36,9 +37,11 @@ invariant_of-result c =
           }));
       watched = λ id. ap (λ (m : Ends). fin.get m id) c.new.ensures
           ∙ (fin.get-empty _ id
-          ∙ sym (ap (λ (roll : Roll). option_map (end_of (times_of c.args.config) (legs_of c.new-bandwidth.result.usage.calls id))
+          ∙ sym (ap (λ (roll : Roll). option_map
+          (end_of (times_of c.args.config) (legs_of c.new-bandwidth.result.usage.calls id))
           (fin.get roll.live id)) c.new-endpoints.ensures.empty
-          ∙ ap (option_map (end_of (times_of c.args.config) (legs_of c.new-bandwidth.result.usage.calls id))) (fin.get-empty _ id)));
+          ∙ ap (option_map (end_of (times_of c.args.config)
+          (legs_of c.new-bandwidth.result.usage.calls id))) (fin.get-empty _ id)));
     }
 
 pub returns-clause-sound : goal.returns-clause-sound

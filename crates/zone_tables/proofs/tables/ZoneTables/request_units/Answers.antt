@@ -34,7 +34,8 @@ watch-requires-clause-others g c =
     let usage = c.request_units-answer.ensures.usage
     ∙ ap (λ (u : Usage). with_usage u (calls_after_answer q answer u.calls)
     (pools_after_answer u.pools q.pool answer)) c.reserve.ensures.usage in
-    let may = subst (λ (u : Usage). IsUnitRequest u q) (sym (usage_is i.config i.endpoints old parts))
+    let may = subst (λ (u : Usage). IsUnitRequest u q)
+    (sym (usage_is i.config i.endpoints old parts))
     (subst (λ (m : Tables). IsUnitRequest (usage_of m) q) (sym c.self.view_is) c.requires.may) in
     let same = c.times-times.ensures.same
     ∙ ap (λ (m : Tables). times_of m.config) (sym c.self.view_is) in
@@ -69,11 +70,13 @@ invariant_of-self-in-Opening g c =
       endpoints = c.self.invariant.endpoints;
       calls = c.request_units-answer.ensures.sound;
       parts = subst (λ (u : Usage). AreParts i.config i.endpoints u) (sym usage)
-          (AreParts-calls i.config i.endpoints old parts (calls_after_answer q answer old.calls) pools
+          (AreParts-calls i.config i.endpoints old parts (calls_after_answer q answer old.calls)
+          pools
           (length-set old.pools q.pool (figures_after_answer (figures_at old.pools q.pool) answer))
           (legs-answer i.endpoints.live old.calls q answer parts.legs leg));
       watched = subst (λ t. AreWatched t i.endpoints.live
-          c.request_units-answer.new.self.usage.calls c.watch.new.silences.ends) same c.watch.ensures;
+          c.request_units-answer.new.self.usage.calls c.watch.new.silences.ends) same
+          c.watch.ensures;
     }
 
 pub invariant_of-self-in_default : goal.invariant_of-self-in_default
@@ -90,18 +93,21 @@ invariant_of-self-in_default g c =
     let usage = c.request_units-answer.ensures.usage
     ∙ ap (λ (u : Usage). with_usage u (calls_after_answer q answer u.calls)
     (pools_after_answer u.pools q.pool answer)) c.reserve.ensures.usage in
-    let may = subst (λ (u : Usage). IsUnitRequest u q) (sym (usage_is i.config i.endpoints old parts))
+    let may = subst (λ (u : Usage). IsUnitRequest u q)
+    (sym (usage_is i.config i.endpoints old parts))
     (subst (λ (m : Tables). IsUnitRequest (usage_of m) q) (sym c.self.view_is) c.requires.may) in
     record {
       settings = c.self.invariant.settings;
       endpoints = c.self.invariant.endpoints;
       calls = c.request_units-answer.ensures.sound;
       parts = subst (λ (u : Usage). AreParts i.config i.endpoints u) (sym usage)
-          (AreParts-calls i.config i.endpoints old parts (calls_after_answer q answer old.calls) pools
+          (AreParts-calls i.config i.endpoints old parts (calls_after_answer q answer old.calls)
+          pools
           (length-set old.pools q.pool (figures_after_answer (figures_at old.pools q.pool) answer))
           (legs-answer i.endpoints.live old.calls q answer parts.legs leg));
       watched = λ x. watched_still (times_of i.config) i.endpoints.live old.calls i.silences.ends
-          c.self.invariant.watched i.endpoints.live c.request_units-answer.new.self.usage.calls x refl
+          c.self.invariant.watched i.endpoints.live c.request_units-answer.new.self.usage.calls x
+          refl
           (ap (λ (u : Usage). legs_of u.calls x) usage
           ∙ legs_after_answer old q answer may.purpose x (λ leg opens.
           some_none (ap leg_of_purpose (sym opens ∙ c.in_default.is))));
