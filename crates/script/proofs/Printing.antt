@@ -4,7 +4,7 @@ use Rattle.std.proofs.Common.{slice_index, refl, sym, ap, ◌∙◌, append_asso
 use Rattle.std.proofs.Common.{length-take-le, arith}
 use Rattle.std.proofs.lemmas.List.{take_more, map_more}
 use Rattle.std.specs.Prelude.{encode_utf8, encode_utf8_all, map}
-use Rattle.hex.specs.Hex.{encode_with}
+use Rattle.hex.specs.Hex.{encode_upper, encode_with, upper_digits}
 use Rattle.zone_events.specs.declared.outcome.Outcome.{Outcome}
 use Rattle.script.specs.Prints.{character_of, identifier_text, outcome_line, outcome_lines}
 use Rattle.script.specs.Prints.{outcome_lines_from}
@@ -33,6 +33,10 @@ encode_with-append digits (x ∷ xs) ys =
     ap (λ (rest : List ℕ). slice_index digits (x / 16) ∷ slice_index digits (x % 16) ∷ rest)
     (encode_with-append digits xs ys)
 
+pub encode_upper-append : (xs ys : List ℕ)
+    → encode_upper (xs ++ ys) ≡ encode_upper xs ++ encode_upper ys
+encode_upper-append xs ys = encode_with-append upper_digits xs ys
+
 encode_with-one : (digits : List ℕ) (x : ℕ)
     → encode_with digits (x ∷ []) ≡ slice_index digits (x / 16) ∷ slice_index digits (x % 16) ∷ []
 unfolding encode_with
@@ -58,18 +62,25 @@ lines-append n (x ∷ xs) ys =
     ∙ sym (append_assoc (outcome_line n x) (outcome_lines_from (n + 1) xs)
     (outcome_lines_from (n + length (x ∷ xs)) ys))
 
+pub lines_push : (xs : List Outcome) (outcome : Outcome)
+    → outcome_lines (xs ++ outcome ∷ [])
+    ≡ outcome_lines xs ++ outcome_line (length xs + 1) outcome
+lines_push xs outcome =
+    let number : 1 + length xs ≡ length xs + 1 = omega arith in
+    lines-append 1 xs (outcome ∷ [])
+    ∙ ap (λ (m : ℕ). outcome_lines xs ++ (outcome_line m outcome ++ [])) number
+    ∙ ap (λ (t : List ℕ). outcome_lines xs ++ t)
+    (append-nil (outcome_line (length xs + 1) outcome))
+
 pub lines_more : (xs : List Outcome) (i : ℕ) (outcome : Outcome) → i < length xs
     → outcome ≡ get_or xs i outcome
     → outcome_lines (take (i + 1) xs) ≡ outcome_lines (take i xs) ++ outcome_line (i + 1) outcome
 lines_more xs i outcome below is =
-    let number : 1 + length (take i xs) ≡ i + 1 =
-    omega (arith, length-take-le i xs (omega (arith, below))) in
     ap outcome_lines (take_more xs i outcome below
     ∙ ap (λ (o : Outcome). take i xs ++ o ∷ []) (sym is))
-    ∙ lines-append 1 (take i xs) (outcome ∷ [])
-    ∙ ap (λ (m : ℕ). outcome_lines (take i xs) ++ (outcome_line m outcome ++ [])) number
-    ∙ ap (λ (t : List ℕ). outcome_lines (take i xs) ++ t)
-    (append-nil (outcome_line (i + 1) outcome))
+    ∙ lines_push (take i xs) outcome
+    ∙ ap (λ (n : ℕ). outcome_lines (take i xs) ++ outcome_line (n + 1) outcome)
+    (length-take-le i xs (omega (arith, below)))
 
 pub address_flat : (a b c d port dot colon : List ℕ)
     → a ++ (dot ++ (b ++ (dot ++ (c ++ (dot ++ (d ++ (colon ++ port)))))))

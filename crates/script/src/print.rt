@@ -1,17 +1,21 @@
 //! Printing outcomes.
 
-ghost use Rattle.std.specs.Prelude.{◌≡◌, ◌+◌, ◌<◌, OnOk, slice_index};
+ghost use Rattle.std.specs.Prelude.{◌≡◌, ◌+◌, ◌<◌, ◌≤◌, OnOk, length, slice_index};
 ghost use Rattle.std.specs.Io.KnownBytes.{Appends};
 ghost use Rattle.hex.specs.Hex.{encode_upper, upper_digits};
 ghost use Rattle.script.specs.Prints.{character_of, identifier_text, cause_text, item_text};
 ghost use Rattle.script.specs.Prints.{note_text, answer_text, dropped_text, address_text};
 ghost use Rattle.script.specs.Prints.{output_text, outcome_line, outcome_lines};
 
+use arrayvec::ArrayVec;
 use pools::Lend;
 use ras_core::{Datagram, DueItem, IgnoredCause, Note, Outcome};
 use ras_module::{Address, EndpointId};
 use std::io;
 use std::io::Write;
+
+/// The octets whose digits are written in one piece.
+const OCTETS_AT_ONCE: usize = 32;
 
 /// The character with this code; U+FFFD if it has none.
 fn character_of(code: u16) -> char
@@ -92,12 +96,28 @@ fn digit(number: u8) -> u8
     b"0123456789ABCDEF"[usize::from(number)]
 }
 
+/// The digits of at most 32 octets.
+fn digits_of(octets: &[u8]) -> ArrayVec<u8, 64>
+    requires { length octets.now ≤ 32 }
+    ensures { result.items ≡ encode_upper octets.now }
+{
+    let mut digits = ArrayVec::new();
+    for octet in octets {
+        digits.push(digit(*octet / 16));
+        digits.push(digit(*octet % 16));
+    }
+    digits
+}
+
 fn write_hex<W: Write>(octets: &[u8], out: &mut W) -> io::Result<()>
     ensures { OnOk result (Appends (W.contents out.old) (W.contents out.new)
         (encode_upper octets.now)) }
 {
-    for octet in octets {
-        out.write_all(&[digit(*octet / 16), digit(*octet % 16)])?;
+    let mut rest = octets;
+    while !rest.is_empty() {
+        let (some, others) = rest.split_at(rest.len().min(OCTETS_AT_ONCE));
+        out.write_all(&digits_of(some))?;
+        rest = others;
     }
     Ok(())
 }
@@ -147,7 +167,12 @@ fn write_output<W: Write>(output: &Option<Datagram>, out: &mut W) -> io::Result<
     }
 }
 
-fn write_outcome<W: Write>(number: usize, outcome: &Outcome, out: &mut W) -> io::Result<()>
+/// Writes the line of an outcome, with this number.
+pub(crate) fn write_outcome<W: Write>(
+    number: usize,
+    outcome: &Outcome,
+    out: &mut W,
+) -> io::Result<()>
     ensures { OnOk result (Appends (W.contents out.old) (W.contents out.new)
         (outcome_line number outcome.now)) }
 {

@@ -5,7 +5,7 @@ ghost use Rattle.script.specs.Runs.{IsRunAnswer, IsRunOf, IsFlushedAfter, are_po
 
 use crate::fault::RunFault;
 use crate::output::Output;
-use crate::print::write_outcomes;
+use crate::print::write_outcome;
 use crate::read::Script;
 use pools::{Pool, PoolSet};
 use ras_core::{Config, Event, NewFault, StepFault, Zone};
@@ -53,37 +53,54 @@ pub fn run_script<P: Pool, W: Write + Drop>(
         Ok(zone) => zone,
         Err(fault) => return Err(fault),
     };
-    run_zone(alloc, &mut zone, events.as_slice(), out)
+    run_zone(&mut zone, events.into_vec(), out)
 }
 
 // A zone that is dropped at each of many exits makes a function costly to prove, so what is done
-// with it stands in a function that borrows it.
+// with it stands in functions that borrow it.
 
 /// Runs events on a zone, one after the other, writes a line for each outcome, and flushes the
 /// writer.
 fn run_zone<P: Pool, W: Write + Drop>(
-    alloc: Global,
     zone: &mut Zone<P>,
-    events: &[Event],
+    events: Vec<Event>,
     out: &mut Output<W>,
 ) -> Result<(), RunFault>
-    ensures answer { IsRunOf zone.old events.now out.old.contents out.new.contents result }
+    ensures answer { IsRunOf zone.old events.items out.old.contents out.new.contents result }
     ensures flushed { IsFlushedAfter result out.new.flushed }
     ensures pools { result ≢ Err RunFault.WrongPools }
 {
-    let mut outcomes = Vec::new(alloc);
-    let ran = zone.run(events, &mut outcomes);
-    if write_outcomes(&outcomes, out).is_err() {
-        return Err(RunFault::Stream);
+    let ran = run_events(zone, events, out);
+    if let Err(RunFault::Stream) = ran {
+        return ran;
     }
     if out.flush().is_err() {
         return Err(RunFault::Stream);
     }
-    match ran {
-        Ok(()) => Ok(()),
-        Err((before, fault)) => match fault {
-            StepFault::Memory => Err(RunFault::Memory(before + 1)),
-            StepFault::Closed => Err(RunFault::Closed(before + 1)),
-        },
+    ran
+}
+
+/// Runs events on a zone, one after the other. The line of each is written before the next one is
+/// run, so that no list of outcomes is held.
+fn run_events<P: Pool, W: Write + Drop>(
+    zone: &mut Zone<P>,
+    events: Vec<Event>,
+    out: &mut Output<W>,
+) -> Result<(), RunFault>
+    ensures answer { IsRunOf zone.old events.items out.old.contents out.new.contents result }
+    ensures pools { result ≢ Err RunFault.WrongPools }
+{
+    let mut number = 0;
+    for event in events {
+        number += 1;
+        let outcome = match zone.step(event) {
+            Ok(outcome) => outcome,
+            Err(StepFault::Memory) => return Err(RunFault::Memory(number)),
+            Err(StepFault::Closed) => return Err(RunFault::Closed(number)),
+        };
+        if write_outcome(number, &outcome, out).is_err() {
+            return Err(RunFault::Stream);
+        }
     }
+    Ok(())
 }

@@ -1,28 +1,29 @@
-use Rattle.std.proofs.Common.{rules, ◌≡◌, ◌<◌, ◌/◌, ◌%◌, ◌∷◌, [], sym, subst, List, ℕ, length}
-use Rattle.std.proofs.Common.{get_or, slice_index, take}
+use Rattle.std.proofs.Common.{rules, [], ◌++◌, List, ℕ, refl, sym, ap, subst, ◌∙◌, append_assoc}
 use Rattle.std.specs.Io.KnownBytes.{Appends}
-use Rattle.hex.specs.Hex.{upper_digits, encode_with, encode_upper}
-use Rattle.std.proofs.KnownBytes.{Appends-trans}
-use Rattle.script.proofs.Printing.{encode_with_more}
+use Rattle.std.proofs.KnownBytes.{Appends-nil, Appends-trans}
+use Rattle.hex.specs.Hex.{encode_upper, encode_with}
+use Rattle.script.proofs.Printing.{encode_upper-append}
 use Rattle.script.proofs.print.write_hex.Goals as goal
 
-pub loop-octet-init : goal.loop-octet-init
+pub loop-rest-init : goal.loop-rest-init
 unfolding encode_with
-loop-octet-init g c = search rules
+loop-rest-init g c = ([], refl, Appends-nil (g.W.Write.contents c.args.out.now))
 
-pub loop-octet-preserved : goal.loop-octet-preserved
-loop-octet-preserved g c =
-    let i = c.loop-octet.octet-index in
-    let octets = c.args.octets.now in
-    let below : i < length octets = search rules in
-    let before = g.W.Write.contents c.loop-octet.out in
+pub loop-rest-preserved : goal.loop-rest-preserved
+loop-rest-preserved g c =
+    let front = c.loop-rest.invariant.0 in
+    let some = c.split_at.result.0.now in
+    let others = c.split_at.result.1.now in
+    let start = g.W.Write.contents c.args.out.now in
+    let before = g.W.Write.contents c.loop-rest.out in
     let after = g.W.Write.contents c.write_all.new.self in
-    let pair : (c.digit.result ∷ c.digit-in-loop-octet.result ∷ []) ≡ (slice_index upper_digits
-    (get_or octets i 0 / 16) ∷ slice_index upper_digits (get_or octets i 0 % 16) ∷ []) =
-    cc (c.digit.ensures, c.digit-in-loop-octet.ensures) in
-    let wrote =
-    subst (λ (t : List ℕ). Appends before after t) pair c.in_ok-write_all.ensures.bytes in
-    subst (λ (t : List ℕ). Appends (g.W.Write.contents c.args.out.now) after t)
-    (sym (encode_with_more upper_digits octets i below))
-    (Appends-trans (g.W.Write.contents c.args.out.now) before after
-    (encode_upper (take i octets)) _ c.loop-octet.invariant wrote)
+    let wrote : Appends before after (encode_upper some) =
+    search (rules, c.deref.ensures, c.digits_of.ensures, c.in_ok-write_all.ensures.bytes) in (
+      front ++ some,
+      c.loop-rest.invariant.1
+          ∙ ap (λ (t : List ℕ). front ++ t) c.split_at.ensures.by_index.0
+          ∙ sym (append_assoc front some others),
+      subst (λ (t : List ℕ). Appends start after t) (sym (encode_upper-append front some))
+          (Appends-trans start before after (encode_upper front) (encode_upper some)
+          c.loop-rest.invariant.2 wrote),
+    )
