@@ -1,6 +1,6 @@
 //! Serving a zone over UDP.
 
-ghost use Rattle.std.specs.Prelude.{◌≤◌, IfSome};
+ghost use Rattle.std.specs.Prelude.{◌≡◌, ◌≤◌, IfSome};
 ghost use Rattle.gatekeeper.specs.Serves.{AreServed, IsReportWritten, IsServiceWritten};
 ghost use Rattle.settings.specs.Ranges.{AreServeNumbers};
 ghost use Rattle.settings.specs.Settings.{AreSettings};
@@ -60,7 +60,13 @@ impl Service {
     fn of(settings: &Settings, receives: Option<u64>) -> Service
         requires { AreServeNumbers settings.now.receivers settings.now.ring settings.now.faults
             settings.now.tick settings.now.buffer }
-        ensures receivers { result.receivers ≤ 15 }
+        ensures receivers { result.receivers ≡ settings.now.receivers }
+        ensures few { result.receivers ≤ 15 }
+        ensures receives { result.receives ≡ receives }
+        ensures buffer { result.buffer ≡ settings.now.buffer }
+        ensures ring { result.plan.ring ≡ settings.now.ring }
+        ensures faults { result.plan.faults ≡ settings.now.faults }
+        ensures tick { result.plan.tick ≡ settings.now.tick }
         ensures plan { IsPlan result.plan }
     {
         Service {
