@@ -10,7 +10,7 @@ use vectors::requests::{
     RRQ_102, RRQ_109_101, URQ,
 };
 
-/// Whether each shorter prefix, up to so many octets, ends too early.
+/// Whether each shorter prefix, of less than `count` octets, ends too early.
 fn is_cut_short(alloc: Global, octets: &[u8], count: usize) -> bool {
     for end in 0..count {
         if end <= octets.len() {
@@ -100,7 +100,7 @@ fn a_length_in_more_octets_is_read(rt: HostRuntime) -> Result<(), Fail> {
 
 #[test]
 fn a_number_in_more_octets_is_read(rt: HostRuntime) -> Result<(), Fail> {
-    // a bandwidth of 2000 in four octets, where two are enough
+    // a bandwidth of 2000 in four octets, though two are enough
     let mut longer = [0; 55];
     longer[..31].copy_from_slice(&BRQ[..31]);
     longer[31..36].copy_from_slice(&[0xC0, 0x00, 0x00, 0x07, 0xD0]);

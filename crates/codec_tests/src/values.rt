@@ -44,7 +44,7 @@ const ADDRESS: Address = Address {
 
 const CALL: CallKey = CallKey { octets: [17; 16] };
 
-/// A list that has an alias so many times.
+/// A list that has an alias `count` times.
 fn aliases(alloc: Global, alias: &Alias, count: usize) -> Result<AliasList, AllocError> {
     let mut list = AliasList::new(alloc);
     for _ in 0..count {

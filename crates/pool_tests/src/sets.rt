@@ -23,7 +23,7 @@ fn fault_of<P: Pool>(pools: Vec<P>) -> Option<(PoolFault, usize, u64)> {
     }
 }
 
-/// So many idle pools, and behind them so many that have lent one unit.
+/// `idle` pools that have lent nothing, and behind them `lending` ones that have lent one unit.
 fn list_of(alloc: Global, idle: u64, lending: u64) -> Result<Vec<Boxed>, Fail> {
     let mut pools: Vec<Boxed> = Vec::new(alloc);
     for _ in 0..idle {
@@ -153,7 +153,7 @@ fn lend_and_close<P: Pool>(pools: Vec<P>) -> Option<(Figures, Option<(u64, Lend)
     Some((figures, last, set.close()))
 }
 
-/// So many pools that tell what they have met, with marks from 1 on.
+/// `count` pools that tell what they have met, with marks from 1 on.
 fn marked(alloc: Global, seen: &Arc<Seen>, count: u64) -> Result<Vec<Boxed>, Fail> {
     let mut pools: Vec<Boxed> = Vec::new(alloc);
     for mark in 1..=count {

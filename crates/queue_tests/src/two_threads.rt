@@ -50,7 +50,7 @@ fn take_waiting(rt: &impl Wait, inlet: &mut Inlet) -> Datagram
     unreachable!()
 }
 
-/// Takes so many datagrams, and tells how many of them have the number of their turn.
+/// Takes `count` datagrams, and tells how many of them have the number of their turn.
 fn take_all(rt: &impl Wait, inlet: Inlet, count: u16) -> (Inlet, u64)
     ensures { SameInlet inlet result.0 }
 {

@@ -36,7 +36,7 @@ pub fn a_repeat_gets_its_kept_reply()
 {}
 
 /// A turn is idle only if nothing is due.
-pub fn a_turn_is_idle_only_where_nothing_is_due()
+pub fn a_turn_is_idle_only_if_nothing_is_due()
     ensures { (s : State) (moment : ℕ) (outcome : Outcome) (after : State)
         → Step s (Event.Turn moment) outcome after → outcome.note ≡ Note.Idle
         → IsNothingDueIn s (max s.clock moment) }

@@ -12,7 +12,7 @@ mod zone;
 
 pub use fault::{NewFault, StepFault};
 pub use laws::{
-    a_repeat_gets_its_kept_reply, a_turn_is_idle_only_where_nothing_is_due,
+    a_repeat_gets_its_kept_reply, a_turn_is_idle_only_if_nothing_is_due,
     bandwidth_is_within_the_limit_all_along,
 };
 pub use ras_machine::{Prepared, prepare};

@@ -54,8 +54,8 @@ Ends outlet mark = ring.Finishes outlet.producer mark.finished
 abbrev pub MarksRing : Outlet → Ended → Type 0
 MarksRing outlet mark = (inlet : Inlet) → IsRing outlet inlet → IsMarkOf mark inlet
 
--- what is told of a ring with a mark: it is whole where all that was ever put was taken, and the
--- number of datagrams is told; it is unknown where something is left
+-- what is told of a ring with a mark: it is whole if all that was ever put was taken, and the
+-- number of datagrams is told; it is unknown if something is left
 abbrev pub Settles : Ended → Inlet → Settled → Type 0
 Settles mark inlet (Whole taken) =
     (datagrams_taken inlet ≡ all_datagrams mark)

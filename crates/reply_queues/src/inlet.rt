@@ -18,8 +18,8 @@ pub struct Inlet {
 /// What is known of a ring of which nothing more is taken.
 #[derive(Clone, Copy, PartialEq, Eq, Debug)]
 pub enum Settled {
-    /// All that was put was taken, in order, whole and once. So many datagrams were taken; a number
-    /// at `u64::MAX` stays there.
+    /// All that was put was taken, in order, whole and once; `taken` datagrams were. That number
+    /// stays at `u64::MAX` once it is there.
     Whole { taken: u64 },
     /// The ring has no mark, so that more could have been put, or something was left in it.
     Unknown,
@@ -32,14 +32,14 @@ impl Inlet {
     ghost use Rattle.reply_queues.specs.Rings.{datagrams_taken, datagrams_seen, all_datagrams};
     ghost use Rattle.reply_queues.specs.Rings.{SameInlet, IsMarkOf, Settles};
 
-    /// Takes the next datagram, where the ring has one. The outlet may put one at any time.
+    /// Takes the next datagram, if the ring has one. The outlet may put one at any time.
     pub fn take(&mut self) -> Option<Datagram>
         ensures ring { SameInlet self.old self.new }
         ensures taken { IfSome result
             (λ next. datagrams_taken self.new ≡ datagrams_taken self.old ++ next ∷ []) }
         ensures unchanged { IfNone result (datagrams_taken self.new ≡ datagrams_taken self.old) }
 
-        // What the inlet has seen comes next, and it looks before it answers that there is none.
+        // What the inlet has seen comes next, and it looks before it tells that there is none.
         ensures seen_next { IfSome result
             (λ next. IsPrefix (datagrams_seen self.old) (next ∷ datagrams_seen self.new)) }
         ensures given { 0 < length (datagrams_seen self.old) → IsSome result }
@@ -58,7 +58,7 @@ impl Inlet {
         ensures no_mark { IfNone mark (result ≡ Settled.Unknown) }
         ensures settled { IfSome mark (λ ended. Settles ended self result) }
 
-        // Also where something is left: what was taken is what was put first.
+        // Also if something is left: what was taken is what was put first.
         ensures in_order { IfSome mark
             (λ ended. IsPrefix (datagrams_taken self) (all_datagrams ended)) }
     {

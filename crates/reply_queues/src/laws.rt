@@ -27,7 +27,7 @@ pub fn ends_stay_together()
         SameInlet one two → SameInlet two three → SameInlet one three }
 {}
 
-/// Where a ring settles as whole by the mark of its outlet, the datagrams that were taken are those
+/// If a ring settles as whole by the mark of its outlet, the datagrams that were taken are those
 /// that were put, in order, and the number that is told is theirs.
 pub fn whole_ring()
     ensures { (outlet : Outlet) (inlet : Inlet) (mark : Ended) (taken : ℕ) →

@@ -20,7 +20,7 @@ impl Outlet {
     ghost use Rattle.std.specs.Prelude.{IsOk, OnOk, IfErr, OnErr, IfSome};
     ghost use Rattle.reply_queues.specs.Rings.{datagrams_put, free_places, SameOutlet, Ends};
 
-    /// Puts a datagram behind those that were put, or hands it back where it finds no place. The
+    /// Puts a datagram behind those that were put, or hands it back if it finds no place. The
     /// inlet may free places at any time.
     pub fn offer(&mut self, datagram: Datagram) -> Result<(), Datagram>
         ensures ring { SameOutlet self.old self.new }
@@ -28,7 +28,7 @@ impl Outlet {
             (datagrams_put self.new ≡ datagrams_put self.old ++ datagram ∷ []) }
         ensures one_place { OnOk result (free_places self.old ≤ free_places self.new + 1) }
 
-        // Where no place is found, nothing happens.
+        // If no place is found, nothing happens.
         ensures handed_back { IfErr result (λ back. back ≡ datagram) }
         ensures unchanged { OnErr result (datagrams_put self.new ≡ datagrams_put self.old) }
         ensures full { OnErr result (free_places self.new ≡ 0) }
@@ -41,7 +41,7 @@ impl Outlet {
         }
     }
 
-    /// Puts nothing more, and gives the ring's mark for that. There is none where the inlet is
+    /// Puts nothing more, and gives the ring's mark for that. There is none if the inlet is
     /// gone: nobody takes then what was put.
     pub fn end(self) -> Option<Ended>
         ensures { IfSome result (λ mark. Ends self mark) }

@@ -52,7 +52,7 @@ pool_of value = do
   table ← of_kind key.Pools (as_table value)
   pool_in table
 
--- the pools in order, where there is room for so many: the one behind them is refused once they are
+-- the pools in order, of which `room` may be there: the one behind them is refused once they are
 -- tested
 unfoldable pub pools_from : Items → ℕ → Result (List PoolEntry) Refusal
 pools_from no_items room = Ok []

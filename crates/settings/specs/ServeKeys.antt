@@ -5,7 +5,7 @@ use Rattle.settings.specs.declared.serve_key.ServeKey.TheVariants.{Receivers, Ri
 use Rattle.settings.specs.declared.serve_key.ServeKey.TheVariants.{Buffer}
 
 -- the row of a key in the table: its name, the least and the greatest number that it takes, and its
--- number where nothing is set
+-- number if nothing is set
 pub record Row : Type 0 where
   pub name : List ℕ
   pub least : ℕ

@@ -61,7 +61,7 @@ settings_in document = do
   pools ← pools_of (get_member (codes "pool") document)
   settings_with parts serve pools
 
--- what a text sets; none where it is no TOML document
+-- what a text sets; none if it is no TOML document
 abbrev pub settings_of : List ℕ → Option (Result Settings Refusal)
 settings_of text = option_map settings_in (parse_document text)
 

@@ -10,7 +10,7 @@ use thiserror::Error;
 
 /// Why a text gives no settings. Of the first five, the first that applies is answered: the keys
 /// are tested in order, those of `[zone]`, then of `[serve]`, then of each `[[pool]]`.
-/// It is shown as its number, its name, and the key or the place in the text where there is one.
+/// It is shown as its number, its name, and the key or the place in the text if there is one.
 #[derive(Clone, Copy, Debug, PartialEq, Eq, Error)]
 pub enum SettingsFault {
     /// The text is no TOML document.

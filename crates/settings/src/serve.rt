@@ -24,7 +24,7 @@ pub(crate) struct ServeNumbers {
 }
 
 impl ServeNumbers {
-    /// The numbers where nothing is set.
+    /// The numbers if nothing is set.
     fn unset() -> ServeNumbers
         ensures value { result ≡ default_numbers }
         ensures ranges { AreInRange result }

@@ -102,7 +102,7 @@ impl ServeKey {
         self.row().most
     }
 
-    /// Its number where nothing is set.
+    /// Its number if nothing is set.
     pub fn default(self) -> u64
         ensures { result ≡ default_of self }
     {

@@ -70,7 +70,7 @@ fn zone_in(alloc: Global, document: &Table) -> Result<ConfigParts, Refusal>
     }
 }
 
-/// The configuration of these parts and networks; None where the last network is there.
+/// The configuration of these parts and networks; None if the last network is there.
 fn config_with(mut parts: ConfigParts, networks: Networks) -> Option<Config>
     requires ranges { HasNumbersInRange parts }
     requires bits { list_any is_too_long networks ≡ false }

@@ -28,7 +28,7 @@ pub struct UnknownKey {
     /// Its name among all settings, as in `zone.time_to_life`; the keys of every pool begin with
     /// `pool.`.
     pub path: String,
-    /// The known key that needs the fewest changes of letters to come to it, where two or fewer do:
+    /// The known key that needs the fewest changes of letters to come to it, if two or fewer do:
     /// a hint at what was meant.
     pub nearest: Option<&'static str>,
 }
@@ -54,7 +54,7 @@ fn is_known(name: &str, path: &str) -> bool
     !has_dot(name.as_bytes()) && is_path(&SettingKey::ALL, path.as_bytes())
 }
 
-/// The known key with the fewest changes of letters to this path, where these are few.
+/// The known key with the fewest changes of letters to this path, if these are few.
 fn nearest_key(alloc: Global, path: &str) -> Result<Option<&'static str>, AllocError> {
     let mut nearest = None;
     let mut fewest = MOST_EDITS;
@@ -77,7 +77,7 @@ fn path_in(alloc: Global, beginning: &str, name: &str) -> Result<String, AllocEr
     Ok(path)
 }
 
-/// Adds a key to these, where it isn't known.
+/// Adds a key to these, if it isn't known.
 fn add_key(
     alloc: Global,
     beginning: &str,
@@ -114,7 +114,7 @@ fn add_table(
     Ok(())
 }
 
-/// Adds the unknown keys of a value, where it is a table.
+/// Adds the unknown keys of a value, if it is a table.
 fn add_value(
     alloc: Global,
     beginning: &str,
@@ -130,7 +130,7 @@ fn add_value(
     }
 }
 
-/// Adds the unknown keys of the table under this name, where there is one.
+/// Adds the unknown keys of the table under this name, if there is one.
 fn add_under(
     alloc: Global,
     document: &Table,
@@ -195,9 +195,9 @@ fn unknown_in(alloc: Global, document: &Table) -> Result<Vec<UnknownKey>, AllocE
 
 /// The keys of a text that `read_settings` passes over since they aren't known, for a warning:
 /// first those outside the tables, then those of `[zone]`, of `[serve]` and of each `[[pool]]`;
-/// within a table by the octets of their names, since a TOML table has no order. It answers Syntax
-/// where the text is no TOML document, Memory where memory is refused, and no other fault. Which
-/// known key is the nearest one is tested, and stated by no clause.
+/// within a table by the octets of their names, since a TOML table has no order. It returns Syntax
+/// if the text is no TOML document, Memory if memory is refused, and no other fault. Which known
+/// key is the nearest one is tested, and stated by no clause.
 pub fn unknown_keys(alloc: Global, text: &str) -> Result<Vec<UnknownKey>, SettingsFault>
     ensures ok { IfOk result (λ unknown.
         Some (paths_of unknown.items) ≡ option_map unknown_paths (parse_document text.now)) }

@@ -16,7 +16,7 @@ pub(crate) fn member<'a>(table: &'a Table, name: &str) -> Option<&'a Value>
     table.get(name)
 }
 
-/// This whole number, where it lies from `least` to `most`.
+/// This whole number, if it lies from `least` to `most`.
 fn whole_number(key: SettingKey, least: u64, most: u64, number: Option<i64>) -> Result<u64, Refusal>
     ensures value { result ≡ whole_number key least most number }
     ensures range { IfOk result (λ n. (least ≤ n) × (n ≤ most)) }
@@ -35,7 +35,7 @@ fn whole_number(key: SettingKey, least: u64, most: u64, number: Option<i64>) -> 
     }
 }
 
-/// The whole number that this value is, where it lies from `least` to `most`.
+/// The whole number that this value is, if it lies from `least` to `most`.
 pub(crate) fn number_in(
     key: SettingKey,
     least: u64,
@@ -66,7 +66,7 @@ pub(crate) fn required_number(
     }
 }
 
-/// The whole number that stands under a name, or the default where nothing stands there.
+/// The whole number that stands under a name, or the default if nothing stands there.
 pub(crate) fn number_or(
     table: &Table,
     name: &str,

@@ -20,7 +20,7 @@ fn leg(last: u8) -> Leg {
     }
 }
 
-/// Opens a call; None where one has its key.
+/// Opens a call; None if one has its key.
 fn open(
     calls: &mut Calls,
     key: CallKey,
@@ -34,7 +34,7 @@ fn open(
     Some(calls.open(key, pool, units, leg))
 }
 
-/// Joins a call; None where the endpoint has a leg there.
+/// Joins a call; None if the endpoint has a leg there.
 fn join(calls: &mut Calls, key: CallKey, leg: Leg) -> Option<Result<(), CallFault>> {
     if calls.leg(&key, &leg.endpoint).is_some() {
         return None;
@@ -42,7 +42,7 @@ fn join(calls: &mut Calls, key: CallKey, leg: Leg) -> Option<Result<(), CallFaul
     Some(calls.join(key, leg))
 }
 
-/// What is answered where a call was opened or joined.
+/// What is returned if a call was opened or joined.
 const DONE: Option<Result<(), CallFault>> = Some(Ok(()));
 
 const fn refused(fault: CallFault) -> Option<Result<(), CallFault>> {
@@ -262,7 +262,7 @@ fn lists_are_equal_by_their_calls(rt: HostRuntime) -> Result<(), Fail> {
     Ok(())
 }
 
-/// Whether a call is open at last: where a request for memory is refused, nothing has changed, and
+/// Whether a call is open at last: if a request for memory is refused, nothing has changed, and
 /// the same call is opened with memory.
 fn is_open_at_last(calls: &mut Calls, key: CallKey) -> bool {
     let before = calls.len();

@@ -25,7 +25,7 @@ fn registration(
     })
 }
 
-/// What is answered where a registration is added at an address that nobody has.
+/// What is returned if a registration is added at an address that nobody has.
 fn added(
     table: &mut Registrations,
     registration: Registration,
@@ -110,7 +110,7 @@ fn identifiers_count_from_one(rt: HostRuntime) -> Result<(), Fail> {
     Ok(())
 }
 
-/// Enters a registration with this identifier, where neither it nor its address is registered.
+/// Enters a registration with this identifier, if neither it nor its address is registered.
 fn is_inserted(table: &mut Registrations, alloc: Global, text: &[u16], last: u8) -> bool {
     let Some(characters) = BmpString::new(text) else {
         return false;

@@ -220,7 +220,7 @@ fn a_reply_in_place_of_another(rt: HostRuntime) -> Result<(), Fail> {
     Ok(())
 }
 
-// Its request waits, and is served again from this moment on, so many times.
+// Its request waits, and is served again from this moment on, at most `left` times.
 fn is_waiting_until(kept: &Kept, moment: u64, left: u64) -> bool {
     kept.retry(moment.saturating_sub(1)).is_none()
         && kept.retry(moment) == Some(3)
@@ -322,7 +322,7 @@ fn a_list_is_by_rising_birth(rt: HostRuntime) -> Result<(), Fail> {
     Ok(())
 }
 
-// Where a request for memory is refused, nothing has changed, and the same call is done with
+// If a request for memory is refused, nothing has changed, and the same call is done with
 // memory.
 fn is_kept_at_last(alloc: Global, kept: &mut Kept, octet: u8) -> Result<bool, Fail> {
     if let Err(fault) = kept.reserve(0) {

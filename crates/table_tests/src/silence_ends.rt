@@ -9,7 +9,7 @@ const FIRST: u8 = b'1';
 
 const SECOND: u8 = b'2';
 
-/// Enters an endpoint whose silence isn't watched; once more where memory for it was refused.
+/// Enters an endpoint whose silence isn't watched; once more if memory for it was refused.
 fn enter(table: &mut Silences, last: u8) -> Result<(), AllocError> {
     if table.reserve(1).is_err() {
         table.reserve(1)?;

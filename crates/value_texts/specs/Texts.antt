@@ -1,4 +1,4 @@
--- The values that texts write; none where a text writes no such value.
+-- The values that texts write; none if a text writes no such value.
 use Rattle.std.specs.Prelude.{ℕ, ◌&&◌, List, [], ◌∷◌, length, nat_lt, nat_le, Option, Some, None}
 use Rattle.std.specs.Prelude.{codes, option_and_then, if◌then◌else◌}
 use Rattle.std.specs.List.{list_all}

@@ -3,7 +3,7 @@
 ghost use Rattle.std.specs.Prelude.{◌≡◌, ◌<◌, ◌≤◌, ◌^◌, IfSome};
 ghost use Rattle.value_texts.specs.Texts.{number_of};
 
-/// The number that the digits of a word write, where it lies from `low` to `high`.
+/// The number that the digits of a word write, if it lies from `low` to `high`.
 pub fn number_of(low: u64, high: u64, word: &[u8]) -> Option<u64>
     requires { high < 2 ^ 56 }
     ensures value { result ≡ number_of low high word.now }

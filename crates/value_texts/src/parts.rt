@@ -5,7 +5,7 @@ ghost use Rattle.std.specs.Str.{bytes_eq};
 ghost use Rattle.value_texts.specs.Parts.{front_part, rest_part};
 
 /// What stands before the first such mark, and what stands behind it; all of the text, and nothing,
-/// where there is no such mark.
+/// if there is no such mark.
 pub fn parted(text: &[u8], mark: u8) -> (&[u8], &[u8])
     ensures front { result.0.now ≡ front_part mark text.now }
     ensures rest { result.1.now ≡ rest_part mark text.now }
