@@ -1,9 +1,12 @@
 -- What a step of a sound zone sends.
+use Rattle.std.specs.Prelude.{ℕ}
 use Rattle.zone_events.specs.declared.event.Event.{Event}
 use Rattle.zone_events.specs.declared.outcome.Outcome.{Outcome}
+use Rattle.ras_machine.specs.State.{State}
 use Rattle.ras_machine.specs.Steps.{HasFewOctets}
-use Rattle.zone_lock.specs.Held.{IsStepOfSome}
+use Rattle.zone_lock.specs.Held.{IsStepUnderLock, entry_by}
 
-pub few_of : (event : Event) (outcome : Outcome) → IsStepOfSome event outcome
+pub few_of : (opened : State) (place seat call : ℕ) (event : Event) (outcome : Outcome)
+    → IsStepUnderLock opened place (entry_by seat call event outcome)
     → HasFewOctets outcome.output
-few_of event outcome is = is.step.few
+few_of opened place seat call event outcome is = is.step.few

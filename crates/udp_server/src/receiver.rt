@@ -1,5 +1,7 @@
 //! The workers that receive datagrams.
 
+ghost use Rattle.std.specs.Prelude.{◌≡◌, IfOk};
+
 use crate::datagrams::{Datagrams, DeviceFault, MOST_RECEIVED, Received};
 use crate::gate::Gate;
 use crate::moments::Moments;
@@ -90,7 +92,9 @@ fn event_of(
     source: Source,
     octets: &[u8],
     moment: Moment,
-) -> Result<Event, AllocError> {
+) -> Result<Event, AllocError>
+    ensures { IfOk result (λ event. event ≡ Event.Datagram source octets.now moment) }
+{
     let octets = Octets::from_vec(Vec::from_slice(alloc, octets)?);
     Ok(Event::Datagram(source, octets, moment))
 }

@@ -143,7 +143,8 @@ impl<D: Hall, T: Ledger, U: Ledger, C: Moments> Worker<D, T, U, C> {
         shared: &Shared<'_, P, D, T, U, R, G>,
         event: Event,
     ) -> Result<(Prepared, Option<Vec<u8>>), AllocError>
-        ensures { IfOk result (λ ready. ForSome ready.1 (λ buffer.
+        ensures event { IfOk result (λ ready. ready.0 ≡ event) }
+        ensures room { IfOk result (λ ready. ForSome ready.1 (λ buffer.
             IsRoom buffer self.new.receipts)) }
     {
         let prepared = prepare(shared.alloc, event)?;

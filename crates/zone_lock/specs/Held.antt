@@ -1,5 +1,6 @@
 -- What stands behind a lock.
-use Rattle.std.specs.Prelude.{◌≡◌, ◌≤◌, ◌+◌, ◌*◌, ◌^◌, ◌++◌, ℕ, List, [], length, Option}
+use Rattle.std.specs.Prelude.{◌≡◌, ◌≤◌, ◌+◌, ◌*◌, ◌^◌, ◌++◌, ◌∷◌, ℕ, List, [], length, Option}
+use Rattle.std.specs.Prelude.{None, Some}
 use Rattle.std.specs.Option.{ForSome}
 use Rattle.admission.specs.Calls.{in_use}
 use Rattle.zone_config.specs.Defaults.{default_parts}
@@ -14,7 +15,7 @@ use Rattle.books.specs.declared.book.Entry.{Entry}
 use Rattle.books.specs.declared.book.Receipt.{Receipt}
 use Rattle.books.specs.declared.totals.Totals.{Totals}
 use Rattle.books.specs.Books.{BookRun}
-use Rattle.books.specs.Chapters.{FinishedValue}
+use Rattle.books.specs.Chapters.{ChapterValue, FinishedValue}
 use Rattle.books.specs.Totals.{datagrams_of, lent_of, no_totals, totals_with, turns_of}
 
 -- a state of a zone without pools
@@ -98,18 +99,47 @@ receipt_at place entry = record {
   outcome = entry.outcome;
 }
 
--- the outcome of a step of some sound state
-pub record IsStepOfSome (event : Event) (outcome : Outcome) : Type 0 where
-  pub old : Running
-  pub new : Running
-  pub sound : Sound old.state
-  pub step : RunningStep old event outcome new
+-- The records that follow say what was done with the zone of one lock, which was locked in the state
+-- `opened`, by whoever waited for that lock: what stood behind it at that moment is not known before.
 
--- The zone that was locked in this state has made as many steps as there may be.
+-- one step: its entry stands behind the others then, at this place of the whole history
+pub record IsStepUnderLock (opened : State) (place : ℕ) (entry : Entry) : Type 0 where
+  pub old : Held
+  pub new : Held
+  pub before : IsKept opened old
+  pub after : IsKept opened new
+  pub step : RunningStep old.zone entry.event entry.outcome new.zone
+  pub entries : new.entries ≡ old.entries ++ entry ∷ []
+  pub first : new.first ≡ old.first
+  pub is_at : place ≡ old.first + length old.entries
+
+-- as many steps were made as there may be
 pub record IsClosed (opened : State) : Type 0 where
   pub held : Held
   pub kept : IsKept opened held
   pub steps : held.zone.state.steps ≡ most_steps
+
+-- a chapter: the book that was there, from the state in which it began to that of the zone
+pub record IsChapterUnderLock (opened : State) (chapter : ChapterValue) : Type 0 where
+  pub held : Held
+  pub kept : IsKept opened held
+  pub first : chapter.first ≡ held.first
+  pub base : held.base ≡ Some chapter.base
+  pub entries : chapter.entries ≡ held.entries
+  pub end : chapter.end ≡ held.zone.state
+
+-- no copy was kept of the state in which the book began
+pub record IsWithoutBase (opened : State) : Type 0 where
+  pub held : Held
+  pub kept : IsKept opened held
+  pub none : held.base ≡ None
+
+-- the book that was there, with the copy of the state in which it began, if there was one
+pub record IsBookUnderLock (opened : State) (base : Option State) (entries : List Entry) : Type 0 where
+  pub held : Held
+  pub kept : IsKept opened held
+  pub base_is : base ≡ held.base
+  pub entries_are : entries ≡ held.entries
 
 -- The whole history of a zone that was locked in this state, up to what is left of it: with the
 -- entries that are left, those before them, which may have been let go, are a run of the machine to

@@ -4,7 +4,7 @@ use Rattle.std.specs.FinMap.{entries}
 use Rattle.registrations.specs.Registry.{IsListOf}
 use Rattle.admission.specs.Calls.{in_use}
 use Rattle.ras_machine.specs.State.{State}
-use Rattle.ras_machine.specs.Soundness.{Sound}
+use Rattle.zone_lock.specs.Held.{Held, IsKept}
 use Rattle.zone_lock.specs.declared.listing.Listing.{Listing}
 
 -- The endpoints that are registered in this state and the calls that are open, the bandwidth in
@@ -16,8 +16,8 @@ pub record IsListing (s : State) (l : Listing) : Type 0 where
   pub limit : l.limit ≡ s.tables.config.limit
   pub within : l.in_use ≤ l.limit
 
--- the listing is of one state, in which each leg of a call is of an endpoint that is registered
-pub record IsListingOfSome (l : Listing) : Type 0 where
-  pub state : State
-  pub sound : Sound state
-  pub listing : IsListing state l
+-- the listing is of what stood behind the lock of a zone, which was locked in this state
+pub record IsListingUnderLock (opened : State) (l : Listing) : Type 0 where
+  pub held : Held
+  pub kept : IsKept opened held
+  pub listing : IsListing held.zone.state l

@@ -68,6 +68,7 @@ pub fn cut_locked<P: Pool, D: Hall, T: Ledger, U: Ledger>(
     ensures zone { locked.new.zone ≡ locked.old.zone }
     ensures no_base { (result ≡ Err CutFault.NoBase) ↔ (locked.old.base ≡ None) }
     ensures err { OnErr result (locked.new ≡ locked.old) }
+    ensures before { IsKept D.opened locked.old }
     ensures kept { IsKept D.opened locked.new }
 {
     let Some(base) = &locked.base else {
@@ -124,6 +125,7 @@ pub fn discard_locked<P: Pool, D: Hall, T: Ledger, U: Ledger>(
     ensures base { locked.new.base ≡ None }
     ensures entries { locked.new.entries ≡ [] }
     ensures zone { locked.new.zone ≡ locked.old.zone }
+    ensures before { IsKept D.opened locked.old }
     ensures kept { IsKept D.opened locked.new }
 {
     let first = locked.first + locked.entries.len();

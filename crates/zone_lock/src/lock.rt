@@ -6,11 +6,11 @@ ghost use Rattle.std.specs.Prelude.{None};
 ghost use Rattle.ras_machine.specs.Soundness.{Sound};
 ghost use Rattle.books.specs.Books.{BookRun};
 ghost use Rattle.books.specs.Totals.{datagrams_of, lent_of, returned_by, turns_of};
-ghost use Rattle.zone_lock.specs.Held.{IsClosed, IsKept, IsLedInUse, IsStepOfSome, IsWholeHistory};
-ghost use Rattle.zone_lock.specs.Held.{entry_by};
-ghost use Rattle.zone_lock.specs.Held.{receipt_at};
+ghost use Rattle.zone_lock.specs.Held.{IsBookUnderLock, IsChapterUnderLock, IsClosed, IsKept};
+ghost use Rattle.zone_lock.specs.Held.{IsLedInUse, IsStepUnderLock, IsWholeHistory, IsWithoutBase};
+ghost use Rattle.zone_lock.specs.Held.{entry_by, receipt_at};
 ghost use Rattle.zone_lock.specs.Faults.{open_fault_number};
-ghost use Rattle.zone_lock.specs.Listings.{IsListingOfSome};
+ghost use Rattle.zone_lock.specs.Listings.{IsListingUnderLock};
 ghost use Rattle.zone_lock.specs.Seats.{IsSeatCount, seated, seated_after};
 
 use crate::cutting::{CutFault, Discarded, cut_locked, discard_locked};
@@ -155,7 +155,8 @@ impl<P: Pool, D: Hall, T: Ledger, U: Ledger> ZoneLock<P, D, T, U> {
     ) -> Result<Receipt, StepFault>
         ensures receipt { IfOk result (λ receipt. receipt ≡ receipt_at receipt.place
             (entry_by seat.old.number seat.old.calls prepared receipt.outcome)) }
-        ensures step { IfOk result (λ receipt. IsStepOfSome prepared receipt.outcome) }
+        ensures step { IfOk result (λ receipt. IsStepUnderLock D.opened receipt.place
+            (entry_by seat.old.number seat.old.calls prepared receipt.outcome)) }
         ensures seat { IfOk result (λ receipt.
             seat.new ≡ seated_after seat.old prepared receipt.outcome) }
         ensures closed { result ≡ Err StepFault.Closed → IsClosed D.opened }
@@ -169,13 +170,17 @@ impl<P: Pool, D: Hall, T: Ledger, U: Ledger> ZoneLock<P, D, T, U> {
 
     /// Waits for the lock and lists what the zone has.
     pub fn list<R: Wait>(&self, rt: &R) -> Result<Listing, AllocError>
-        ensures { IfOk result IsListingOfSome }
+        ensures { IfOk result (IsListingUnderLock D.opened) }
     {
         list_locked(&*self.inner.lock(rt))
     }
 
-    /// Waits for the lock and ends a chapter.
-    pub fn cut<R: Wait>(&self, rt: &R) -> Result<Chapter, CutFault> {
+    /// Waits for the lock and ends a chapter. It is refused as NoBase only if the state in which the
+    /// chapter would begin was let go.
+    pub fn cut<R: Wait>(&self, rt: &R) -> Result<Chapter, CutFault>
+        ensures chapter { IfOk result (IsChapterUnderLock D.opened) }
+        ensures no_base { result ≡ Err CutFault.NoBase → IsWithoutBase D.opened }
+    {
         cut_locked(&mut *self.inner.lock(rt))
     }
 
@@ -184,6 +189,7 @@ impl<P: Pool, D: Hall, T: Ledger, U: Ledger> ZoneLock<P, D, T, U> {
     /// chapter can be cut afterwards.
     pub fn discard<R: Wait>(&self, rt: &R, room: Vec<Entry>) -> Discarded
         requires { room.items ≡ [] }
+        ensures { IsBookUnderLock D.opened result.base result.entries.items }
     {
         discard_locked(&mut *self.inner.lock(rt), room)
     }

@@ -1,7 +1,7 @@
-use Rattle.zone_lock.proofs.Histories.{listing_of_some}
+use Rattle.zone_lock.proofs.Histories.{listing_under_lock}
 use Rattle.zone_lock.proofs.lock.ZoneLock.list.Goals as goal
 
 pub returns : goal.returns
 returns g c =
-    listing_of_some _ c.list_locked.result _ c.list_locked.ensures.kept.sound
+    listing_under_lock g.D.Hall.opened _ c.list_locked.result _ c.list_locked.ensures.kept
     c.list_locked.ensures.listing
