@@ -32,7 +32,7 @@ fn is_new<P: Pool>(pool: &P, spec: &PoolSpec) -> bool
 }
 
 /// Whether these are the pools that are described, in order, and were asked nothing yet.
-fn are_new<P: Pool>(pools: &[P], specs: &[PoolSpec]) -> bool
+pub(crate) fn are_new<P: Pool>(pools: &[P], specs: &[PoolSpec]) -> bool
     ensures { IsTrue result → map P.account pools.now ≡ map account_of specs.now }
 {
     if pools.len() != specs.len() {

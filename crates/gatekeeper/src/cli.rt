@@ -47,9 +47,9 @@ The script (at most 1,048,576 octets; words are parted by spaces, blank lines ar
                                pools, and makes requests wait for the next turn
   pool .. for A.B.C.D/BITS     a pool for calls that endpoints of this network open
   at MS from ADDRESS HEX       at millisecond MS a datagram comes from ADDRESS, with these octets
-  turn MS                      at millisecond MS one thing is done that is due, where anything is
+  turn MS                      at millisecond MS one thing is done that is due, if anything is
 
-Settings, with their ranges and what they are where no line sets them (ms is milliseconds):
+Settings, with their ranges and what they are if no line sets them (ms is milliseconds):
   limit         1 to 1000000000000  100000  units of all calls together
   call_limit    1 to 4294967295      20000  units of one call
   time_to_live  1 to 4294967295         60  seconds that a registration is granted, at most
@@ -94,9 +94,9 @@ Behind its number a line says what happened:
   done pool-turn               the pools made their turn
   idle                         nothing was due
 
-B counts the lines before that of the datagram whose reply is kept. Where a pool was asked, the
-line goes on with ` lent K`, ` refused` or ` wait`; where a reply that was over went, to make room
-for this one, with ` dropped B`; and where something is sent, with ` > ADDRESS HEX`.
+B counts the lines before that of the datagram whose reply is kept. If a pool was asked, the line
+goes on with ` lent K`, ` refused` or ` wait`; if a reply that was over went, to make room for this
+one, with ` dropped B`; and if something is sent, with ` > ADDRESS HEX`.
 
 Exit status: 0 done, 1 the script was refused, 2 wrong words on the command line, 3 out of
 memory, 4 a standard stream failed. Status 1, 3 and 4 come with one line on standard error:

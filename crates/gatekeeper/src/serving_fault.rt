@@ -44,12 +44,22 @@ impl RunningFault {
 }
 
 impl From<AllocError> for RunningFault {
+    ghost use Rattle.std.specs.Prelude.{◌≡◌};
+    ghost use Rattle.gatekeeper.specs.declared.serving_fault.RunningFault.TheVariants.{Memory};
+
+    ghost from_gives = { λ _ fault. fault ≡ Memory };
+
     fn from(_: AllocError) -> RunningFault {
         RunningFault::Memory
     }
 }
 
 impl From<ServeFault> for RunningFault {
+    ghost use Rattle.std.specs.Prelude.{◌≡◌};
+    ghost use Rattle.gatekeeper.specs.Serves.{running_fault_of};
+
+    ghost from_gives = { λ fault own. own ≡ running_fault_of fault };
+
     fn from(fault: ServeFault) -> RunningFault {
         match fault {
             ServeFault::Memory => RunningFault::Memory,

@@ -1,0 +1,47 @@
+//! What the server tells by its log.
+
+use crate::report::has_faults;
+use crate::settings_input::PassedOver;
+use log::{Log, info, warn};
+use pools::Pool;
+use ras_module::{Address, Name};
+use std::fmt;
+use udp_server::Report;
+
+/// A name as people read it.
+#[derive(Drop)]
+struct Shown<'a>(&'a Name);
+
+impl fmt::Display for Shown<'_> {
+    fn fmt<W: fmt::Write>(&self, f: &mut fmt::Formatter<W>) -> fmt::Result {
+        for code in self.0.as_slice() {
+            let character = char::from_u32(u32::from(*code));
+            write!(f, "{}", character.unwrap_or(char::REPLACEMENT_CHARACTER))?;
+        }
+        Ok(())
+    }
+}
+
+/// Warns of the keys that are passed over.
+pub fn warn_of<R: Log>(rt: &R, passed_over: &[PassedOver]) {
+    for key in passed_over {
+        warn!(rt; target: "settings", "{key}");
+    }
+}
+
+/// Tells which zone is served, where, and by how many receivers.
+pub fn tell_zone<R: Log>(rt: &R, name: &Name, address: Address, receivers: usize) {
+    let [a, b, c, d] = address.ip;
+    let port = address.port;
+    info!(rt; target: "serve", "serving zone {} on {a}.{b}.{c}.{d}:{port}, {receivers} receivers",
+        Shown(name));
+}
+
+/// Warns if anything that should have been done wasn't.
+pub fn warn_of_faults<P: Pool, R: Log>(rt: &R, report: &Report<P>) {
+    if has_faults(report) {
+        warn!(rt; target: "serve", dropped = report.dropped, refused = report.refused,
+            receive_faults = report.receive_faults, send_faults = report.send_faults;
+            "not everything was done");
+    }
+}

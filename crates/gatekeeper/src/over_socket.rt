@@ -1,0 +1,82 @@
+//! Serving a zone over a socket.
+
+ghost use Rattle.std.specs.Prelude.{◌≤◌, IfOk};
+ghost use Rattle.udp_server.specs.Plans.{IsPlan};
+ghost use Rattle.udp_server.specs.Served.{IsServed};
+
+use crate::service::Service;
+use crate::serving_fault::RunningFault;
+use crate::stopwatch::Stopwatch;
+use log::{Log, warn};
+use pools::Pool;
+use ras_core::Zone;
+use std::alloc::{AllocError, Global};
+use std::rt::Clock;
+use std::sync::Wait;
+use std::thread::Threads;
+use std::time::Instant;
+use udp_server::{Open, Report, serve_zone};
+use udp_socket::{BoundSocket, SocketEnd, Stop};
+
+/// Asks for the buffer that is set, and warns if less is granted.
+pub fn ask_for_buffer<R: Log>(rt: &R, socket: &BoundSocket, octets: u64) {
+    if octets == 0 {
+        return;
+    }
+    match socket.reserve_buffer(octets) {
+        Some(granted) if granted >= octets => {}
+        Some(granted) => warn!(rt; target: "serve",
+            "the system holds {granted} octets of datagrams, not the {octets} of serve.buffer"),
+        None => warn!(rt; target: "serve", "the system holds less than serve.buffer"),
+    }
+}
+
+/// `count` clocks that began at this moment.
+fn clocks_of<'a, R: Clock>(
+    rt: &'a R,
+    alloc: Global,
+    start: Option<Instant>,
+    count: usize,
+) -> Result<Vec<Stopwatch<'a, R>>, AllocError> {
+    let mut clocks = Vec::with_capacity(alloc, count)?;
+    for _clock in 0..count {
+        clocks.push_reserved(Stopwatch::new(rt, start));
+    }
+    Ok(clocks)
+}
+
+/// Ends of a socket, as many as the service has receivers.
+fn ends_of<'a, S: Stop>(
+    alloc: Global,
+    socket: &'a BoundSocket,
+    service: Service,
+    stop: &'a S,
+) -> Result<Vec<SocketEnd<'a, S>>, AllocError> {
+    let mut ends = Vec::with_capacity(alloc, service.receivers)?;
+    for _end in 0..service.receivers {
+        ends.push(socket.end(service.receives, stop))
+            .map_err(AllocError::from)?;
+    }
+    Ok(ends)
+}
+
+/// Serves a zone over a socket until its ends have stopped, or are told to.
+pub fn serve_socket<P: Pool + Send, R: Threads + Wait + Clock + Sync, S: Stop + Sync>(
+    rt: &R,
+    alloc: Global,
+    zone: Zone<P>,
+    socket: &BoundSocket,
+    service: Service,
+    stop: &S,
+) -> Result<Report<P>, RunningFault>
+    requires receivers { service.receivers ≤ 15 }
+    requires plan { IsPlan service.plan }
+    ensures served { IfOk result (λ r. IsServed zone.state r.finished r.datagrams r.turns) }
+{
+    let start = Instant::now(rt).ok();
+    let ends = ends_of(alloc, socket, service, stop)?;
+    let clocks = clocks_of(rt, alloc, start, service.receivers + 1)?;
+    let sender = socket.end(None, stop);
+    let report = serve_zone(rt, alloc, zone, ends, sender, &Open, clocks, service.plan)?;
+    Ok(report)
+}

@@ -1,0 +1,64 @@
+//! What is set for the server, and when it ends.
+
+ghost use Rattle.std.specs.Prelude.{◌≡◌, ◌≤◌, false};
+ghost use Rattle.settings.specs.Ranges.{AreServeNumbers};
+ghost use Rattle.udp_server.specs.Plans.{IsPlan};
+
+use settings::Settings;
+use udp_server::Plan;
+use udp_socket::Stop;
+
+/// With how many entries or more a chapter of the history ends. The report has no chapter, so that
+/// its entries are let go then.
+const CHAPTER: usize = 4_096;
+
+/// When the server ends: each receiving thread stops after this many receives, if a number is
+/// given, and once it is told to.
+#[derive(Drop)]
+pub struct Ending<'a, S: Stop> {
+    pub receives: Option<u64>,
+    pub stop: &'a S,
+}
+
+/// What is set for the server besides its zone: how many threads receive, how often each of them
+/// receives, if that is limited, the buffer to ask for, in octets, and the plan.
+#[derive(Clone, Copy)]
+pub struct Service {
+    pub receivers: usize,
+    pub receives: Option<u64>,
+    pub buffer: u64,
+    pub plan: Plan,
+}
+
+impl Service {
+    /// What these settings say of it. Its history is let go, so that no chapter and no receipt is
+    /// kept.
+    pub fn of(settings: &Settings, receives: Option<u64>) -> Service
+        requires { AreServeNumbers settings.now.receivers settings.now.ring settings.now.faults
+            settings.now.tick settings.now.buffer }
+        ensures receivers { result.receivers ≡ settings.now.receivers }
+        ensures few { result.receivers ≤ 15 }
+        ensures receives { result.receives ≡ receives }
+        ensures buffer { result.buffer ≡ settings.now.buffer }
+        ensures ring { result.plan.ring ≡ settings.now.ring }
+        ensures faults { result.plan.faults ≡ settings.now.faults }
+        ensures tick { result.plan.tick ≡ settings.now.tick }
+        ensures history { (result.plan.chapter ≡ 4096) × (result.plan.latest ≡ 0)
+            × (result.plan.receipts ≡ false) }
+        ensures plan { IsPlan result.plan }
+    {
+        Service {
+            receivers: settings.receivers,
+            receives,
+            buffer: settings.buffer,
+            plan: Plan {
+                ring: settings.ring,
+                faults: settings.faults,
+                tick: settings.tick,
+                chapter: CHAPTER,
+                latest: 0,
+                receipts: false,
+            },
+        }
+    }
+}
