@@ -10,10 +10,7 @@
 //! a line `settings` come settings, which it reads and prints. If there is nothing, the tables and
 //! the values have their turn.
 //!
-//! First it asks for memory once for each empty line at the head of the input, and at last once
-//! more. `rt try` refuses the request of one number in all runs of one build: with more and more
-//! empty lines each request of the trials is refused in turn, up to the one behind them, which ends
-//! the program with a status of its own. `./check` runs it so.
+//! `./try-memory` runs it once for each of its requests for memory, and has that one refused.
 #![tactic(auto)]
 
 ghost use Rattle.std.specs.Prelude.{◌≤◌, IfOk};
@@ -43,15 +40,6 @@ use std::thread::Threads;
 /// The octets that the input has at most.
 const MOST: usize = 32_768;
 
-/// The exit status if the request behind the trials is refused.
-const REFUSED_BEHIND: u8 = 3;
-
-/// Asks for memory, and gives it back. Whether it was there.
-fn is_given(alloc: Global) -> bool {
-    let mut taken: Vec<u8> = Vec::new(alloc);
-    taken.reserve(1).is_ok()
-}
-
 /// Reads the input, octet by octet, and returns how many it has. This takes no memory.
 fn read_input(reader: &mut impl Read, text: &mut [u8; MOST]) -> Result<usize, &'static str>
     ensures { IfOk result (λ length. length ≤ 32768) }
@@ -65,19 +53,6 @@ fn read_input(reader: &mut impl Read, text: &mut [u8; MOST]) -> Result<usize, &'
         }
     }
     Err("the input is too long")
-}
-
-/// Asks for memory once for each empty line at the head of the input, and returns what is behind
-/// them.
-fn ask_before(alloc: Global, text: &[u8]) -> &[u8] {
-    let lines = text
-        .iter()
-        .position(|octet| *octet != b'\n')
-        .unwrap_or(text.len());
-    for _ in 0..lines {
-        let _ = is_given(alloc);
-    }
-    &text[lines..]
 }
 
 /// The calls of the tables, and the copies of values.
@@ -111,7 +86,7 @@ fn run<R: Input + Print + Threads + Wait + Clock + Sync>(
 ) -> Result<(), &'static str> {
     let mut text = [0; MOST];
     let length = read_input(&mut rt.reader(), &mut text)?;
-    let script = ask_before(alloc, &text[..length]);
+    let script = &text[..length];
     if script.is_empty() {
         return try_parts(alloc);
     }
@@ -123,10 +98,8 @@ fn run<R: Input + Print + Threads + Wait + Clock + Sync>(
 }
 
 fn main(rt: HostRuntime) -> ExitCode {
-    let alloc = rt.alloc();
-    match run(&rt, alloc) {
-        Ok(()) if is_given(alloc) => ExitCode::SUCCESS,
-        Ok(()) => ExitCode::from(REFUSED_BEHIND),
+    match run(&rt, rt.alloc()) {
+        Ok(()) => ExitCode::SUCCESS,
         Err(trouble) => {
             let _ = eprintln!(&rt; "{trouble}");
             ExitCode::FAILURE

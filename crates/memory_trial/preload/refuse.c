@@ -1,0 +1,50 @@
+/*
+ * Refuses one of a program's requests for memory, to see what the program does then. ./try-memory
+ * loads it into the program by LD_PRELOAD.
+ *
+ * REFUSED gives the number of the request, counted from 1. When the program makes that request, an
+ * octet is written to descriptor 9, if it is open. So a caller that counts up knows that it is past
+ * the last request once nothing is written.
+ *
+ * Counted are the requests of the program itself and those that the C library makes for it, such as
+ * the one for a new thread. A program that hangs is ended by SIGALRM.
+ */
+#include <errno.h>
+#include <stdatomic.h>
+#include <stddef.h>
+#include <stdlib.h>
+#include <unistd.h>
+
+/* The C library's own functions, by the names that it gives them besides. */
+extern void *__libc_malloc(size_t octets);
+extern void *__libc_calloc(size_t count, size_t octets);
+extern void *__libc_realloc(void *place, size_t octets);
+
+static atomic_ulong made;
+static unsigned long refused;
+
+__attribute__((constructor)) static void begin(void) {
+  const char *number = getenv("REFUSED");
+  alarm(20);
+  atomic_store(&made, 0);
+  refused = number ? strtoul(number, NULL, 10) : 0;
+}
+
+static int is_refused(void) {
+  if (atomic_fetch_add(&made, 1) + 1 != refused) {
+    return 0;
+  }
+  (void)!write(9, "x", 1);
+  errno = ENOMEM;
+  return 1;
+}
+
+void *malloc(size_t octets) { return is_refused() ? NULL : __libc_malloc(octets); }
+
+void *calloc(size_t count, size_t octets) {
+  return is_refused() ? NULL : __libc_calloc(count, octets);
+}
+
+void *realloc(void *place, size_t octets) {
+  return is_refused() ? NULL : __libc_realloc(place, octets);
+}
