@@ -13,6 +13,10 @@ mod fixtures;
 #[cfg(test)]
 mod messages;
 #[cfg(test)]
+mod pools_asked;
+#[cfg(test)]
+mod pools_turned;
+#[cfg(test)]
 mod settings;
 #[cfg(test)]
 mod steps;
