@@ -30,8 +30,8 @@ abbrev pub serve_status : ServingFault → ℕ
 serve_status (OfSettings fault) = input_status fault
 serve_status (OfRunning fault) = running_status fault
 
--- why there is no report, if the server ended with this fault: the counts of what it is handed fit, so
--- that WrongCounts would be a fault of the program itself, as NotFinished is
+-- why there is no report, if the server ended with this fault: the counts of what it is handed fit,
+-- so that WrongCounts would be a fault of the program itself, as NotFinished is
 abbrev pub running_fault_of : ServeFault → RunningFault
 running_fault_of server.WrongCounts = NotFinished
 running_fault_of server.Memory = Memory

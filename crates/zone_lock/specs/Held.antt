@@ -99,8 +99,9 @@ receipt_at place entry = record {
   outcome = entry.outcome;
 }
 
--- The records that follow say what was done with the zone of one lock, which was locked in the state
--- `opened`, by whoever waited for that lock: what stood behind it at that moment is not known before.
+-- The records that follow say what was done by whoever waited for a lock, whose zone had the state
+-- `opened` when it was put behind it. What stands behind the lock at that moment isn't known
+-- before.
 
 -- one step: its entry stands behind the others then, at this place of the whole history
 pub record IsStepUnderLock (opened : State) (place : ℕ) (entry : Entry) : Type 0 where
@@ -135,7 +136,8 @@ pub record IsWithoutBase (opened : State) : Type 0 where
   pub none : held.base ≡ None
 
 -- the book that was there, with the copy of the state in which it began, if there was one
-pub record IsBookUnderLock (opened : State) (base : Option State) (entries : List Entry) : Type 0 where
+pub record IsBookUnderLock (opened : State) (base : Option State) (entries : List Entry)
+    : Type 0 where
   pub held : Held
   pub kept : IsKept opened held
   pub base_is : base ≡ held.base

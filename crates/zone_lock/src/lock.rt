@@ -175,8 +175,8 @@ impl<P: Pool, D: Hall, T: Ledger, U: Ledger> ZoneLock<P, D, T, U> {
         list_locked(&*self.inner.lock(rt))
     }
 
-    /// Waits for the lock and ends a chapter. It is refused as NoBase only if the state in which the
-    /// chapter would begin was let go.
+    /// Waits for the lock and ends a chapter. It is refused as NoBase only if the state in which
+    /// the chapter would begin was let go.
     pub fn cut<R: Wait>(&self, rt: &R) -> Result<Chapter, CutFault>
         ensures chapter { IfOk result (IsChapterUnderLock D.opened) }
         ensures no_base { result ≡ Err CutFault.NoBase → IsWithoutBase D.opened }

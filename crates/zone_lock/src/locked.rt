@@ -15,7 +15,7 @@ use crate::order::Order;
 use crate::seat::{Hall, Seat};
 use books::{Entry, Receipt, SharedSnapshot, Totals};
 use pools::Pool;
-use ras_core::{Event, Outcome, Prepared, StepFault, Zone};
+use ras_core::{Outcome, Prepared, StepFault, Zone};
 use std::alloc::AllocError;
 use std::marker::Model;
 use std::sync::ledger::Ledger;

@@ -1,6 +1,6 @@
-//! Pools that count for themselves what is called of them, and zones over two of them. The contracts
-//! say of what the set of pools counts how often a zone asks its pools, and how often they have
-//! their turn.
+//! Pools that count for themselves what is called of them, and zones over two of them. The
+//! contracts say it of what the set of pools counts: how often a zone asks its pools, and how often
+//! they have their turn.
 
 use crate::fixtures::{event_from, zone_over};
 use pools::{FixedPool, Lend, PacedPool, Pool};

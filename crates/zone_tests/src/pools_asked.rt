@@ -84,9 +84,9 @@ fn a_busy_zone_asks_no_pool(rt: HostRuntime) -> Result<(), Fail> {
 /// Whether these requests get their replies, and the second pool, of which their calls have their
 /// bandwidth, was asked as often as each line says once it is answered: for a call that opens, for
 /// more bandwidth, and for a call that is refused; and neither for discovery, registration, a sign
-/// of life and a repeat, nor for a leg in an open call, less bandwidth and an end. Units come back to
-/// it as often as the line says: for less bandwidth alone, since the call has a leg left. Meanwhile
-/// it has no turn, and the first pool meets nothing.
+/// of life and a repeat, nor for a leg in an open call, less bandwidth and an end. Units come back
+/// to it as often as the line says: for less bandwidth alone, since the call has a leg left.
+/// Meanwhile it has no turn, and the first pool meets nothing.
 fn is_asked_once(
     alloc: Global,
     zone: &mut Zone<CountingPool<FixedPool>>,
