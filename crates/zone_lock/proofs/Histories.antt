@@ -22,7 +22,6 @@ use Rattle.books.proofs.Spending.{book_is_fair, step_is_fair}
 use Rattle.ras_machine.specs.Machine.{most_steps}
 use Rattle.ras_machine.specs.Soundness.{Sound}
 use Rattle.ras_core.specs.declared.fault.StepFault.{StepFault}
-use Rattle.ras_core.specs.declared.fault.StepFault.TheVariants.{Closed}
 use Rattle.zone_lock.specs.declared.listing.Listing.{Listing}
 use Rattle.zone_lock.specs.Held.{AreCarriedOn, Held, IsInside, IsKept, IsLedInUse}
 use Rattle.zone_lock.specs.Held.{IsChapterUnderLock, IsClosed, IsStepUnderLock, IsWholeHistory}
