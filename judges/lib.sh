@@ -1,5 +1,6 @@
-# What `run` and `try-judges` share: the packages, the compiled modules and the judges. GATEKEEPER is the
-# program to judge, STORIES how many stories of requests are written, JUDGES_FOLDER a temporary folder.
+# What `run` and `try-judges` share: the packages, the compiled modules and the judges. GATEKEEPER
+# is the program to judge, STORIES how many stories of requests are written, JUDGES_FOLDER a
+# temporary folder.
 here=$(cd "$(dirname "${BASH_SOURCE[0]}")" && pwd)
 export GATEKEEPER=${GATEKEEPER:-$here/../gatekeeper}
 export STORIES=${STORIES:-40}
@@ -35,7 +36,8 @@ compile() {
   erlc -o "$JUDGES_FOLDER" "$here"/codec/*.erl
 }
 
-# The judges. Each prints what it finds, ends with `N passed, M failed`, and returns 1 if any failed.
+# The judges. Each prints what it finds, ends with `N passed, M failed`, and returns 1 if any
+# failed.
 judge_replies() { python3 -B "$here/dissector/judge.py" "$EXAMPLES" "$GATEKEEPER"; }
 judge_octets() { erlang judge_octets; }
 judge_vectors() { erlang judge_vectors; }
