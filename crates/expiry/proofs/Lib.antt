@@ -1,3 +1,2 @@
 pub mod Endpoints
-pub mod InCall
 pub mod Nothing

@@ -92,7 +92,6 @@ fn endpoint_due(
 fn item_of(registration: &Registration, calls: &Calls, now: u64, times: &Times) -> Option<DueItem>
     ensures { result ≡ item_of now times.now calls.now.calls registration.now }
 {
-    // its moments are looked at first, since the search for a leg goes through the calls
     let item = item_in_call(registration, now, times)?;
     if !is_in_call(calls, &registration.identifier) {
         return None;
@@ -101,11 +100,10 @@ fn item_of(registration: &Registration, calls: &Calls, now: u64, times: &Times) 
 }
 
 /// Whether this endpoint takes part in a call.
-#[tactic(auto, using(crate::proofs::InCall::call_found))]
 pub(crate) fn is_in_call(calls: &Calls, endpoint: &EndpointId) -> bool
     ensures { IsTrue result ↔ IsInCall calls.now.calls endpoint.now }
 {
-    calls.call_of(endpoint).is_some()
+    calls.legs_of(endpoint) > 0
 }
 
 /// What is due of this endpoint if it takes part in a call.

@@ -9,6 +9,7 @@ use Rattle.std.specs.FinMap.{FinMap, get, remove, len, entries, from_entries}
 use Rattle.keyed.specs.Places as places
 use Rattle.ras_module.specs.declared.reply.Reply.{Reply}
 use Rattle.ras_module.specs.declared.reply.Reply.TheVariants.{Rcf}
+use Rattle.ras_module.specs.contracts.reply.ReplyPartialEq.TheImpl as reply_eq
 use Rattle.ras_module.specs.declared.request.Request.{Request}
 use Rattle.kept_replies.specs.Keys.{key_cmp}
 use Rattle.kept_replies.specs.declared.key.KeptKey.{KeptKey}
@@ -63,6 +64,10 @@ pending born request reply retry left =
 abbrev pub reply_in : KeptState → Reply
 reply_in (Done reply until) = reply
 reply_in (Pending request reply retry left) = reply
+
+-- whether two replies are equal
+abbrev pub same_reply : Reply → Reply → Bool
+same_reply a b = (reply_eq.ghosts).eq a b
 
 -- the moment until which the reply is kept has come
 abbrev pub is_over_in : ℕ → KeptState → Bool

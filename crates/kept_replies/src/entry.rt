@@ -2,8 +2,9 @@
 
 ghost use Rattle.std.specs.Prelude.{◌≡◌, IfOk};
 ghost use Rattle.std.specs.Option.{option_copied};
-ghost use Rattle.kept_replies.specs.Kept.{reply_in, is_over, is_retry, named_by, identifier_in};
+ghost use Rattle.kept_replies.specs.Kept.{is_over, is_retry, named_by, identifier_in};
 
+use crate::in_progress::InProgress;
 use ras_module::{EndpointId, Reply, Request};
 use std::alloc::AllocError;
 
@@ -28,23 +29,13 @@ pub enum KeptState {
     /// moment `retry`, and at most `left` times in all; `left` is at least 1.
     Pending {
         request: Request,
-        reply: Reply,
+        reply: InProgress,
         retry: u64,
         left: u64,
     },
 }
 
 impl KeptState {
-    /// The reply, be it the last one or a RequestInProgress.
-    pub fn reply(&self) -> &Reply
-        ensures { result.now ≡ reply_in self.now }
-    {
-        match self {
-            KeptState::Done { reply, .. } => reply,
-            KeptState::Pending { reply, .. } => reply,
-        }
-    }
-
     /// An equal state.
     pub fn copy(&self) -> Result<Self, AllocError>
         ensures { IfOk result (λ copy. copy ≡ self.now) }
@@ -61,7 +52,7 @@ impl KeptState {
                 left,
             } => Ok(KeptState::Pending {
                 request: request.copy()?,
-                reply: reply.copy()?,
+                reply: reply.copy(),
                 retry: *retry,
                 left: *left,
             }),
@@ -94,7 +85,10 @@ impl KeptEntry {
     pub fn identifier(&self) -> Option<&EndpointId>
         ensures { option_copied result ≡ named_by self.now }
     {
-        identifier_in(self.state.reply())
+        match &self.state {
+            KeptState::Done { reply, .. } => identifier_in(reply),
+            KeptState::Pending { reply, .. } => reply.identifier(),
+        }
     }
 
     /// An equal entry.

@@ -7,6 +7,7 @@ mod copies;
 mod due_moments;
 mod entry;
 mod fault;
+mod in_progress;
 mod key;
 mod list;
 mod rows;
@@ -16,6 +17,7 @@ mod told_counts;
 
 pub use entry::{KeptEntry, KeptState};
 pub use fault::ReserveFault;
+pub use in_progress::InProgress;
 pub use key::KeptKey;
 pub use list::KeptList;
 pub use table::Kept;

@@ -14,6 +14,7 @@ ghost use Rattle.kept_replies.specs.inside.Stored.{IsIn};
 
 use crate::entry::{KeptEntry, KeptState};
 use crate::fault::ReserveFault;
+use crate::in_progress::InProgress;
 use crate::key::KeptKey;
 use crate::list::{KeptList, rising};
 use crate::rows::KeptRows;
@@ -243,7 +244,7 @@ impl Kept {
         key: KeptKey,
         born: u64,
         request: Request,
-        reply: Reply,
+        reply: InProgress,
         retry: u64,
         left: u64,
     )

@@ -1,9 +1,9 @@
 //! What a datagram calls for.
 
-ghost use Rattle.std.specs.Prelude.{◌≡◌, ◌≤◌, ℕ, IfOk, IfSome, None, Some, length};
+ghost use Rattle.std.specs.Prelude.{◌≡◌, ◌≤◌, ℕ, IfOk, IfSome, IsSome, None, Some, length};
 ghost use Rattle.std.specs.FinMap as fin;
 ghost use Rattle.ras_writing.specs.Replies.{encoding_of};
-ghost use Rattle.kept_replies.specs.Kept.{NonePasses, Passes, is_over};
+ghost use Rattle.kept_replies.specs.Kept.{NonePasses, Passes, is_over, reply_in};
 ghost use Rattle.ras_requests.specs.Plans.{Plan};
 ghost use Rattle.ras_requests.specs.Requests.{HasReply, plan_of};
 ghost use Rattle.ras_machine.specs.Keeping.{is_repeat};
@@ -15,7 +15,7 @@ use crate::course::{Course, Task};
 use crate::job::{Job, Occasion};
 use crate::machine::Machine;
 use crate::prepared::Message;
-use kept_replies::{KeptEntry, KeptKey};
+use kept_replies::{KeptEntry, KeptKey, KeptState};
 use ras_codec::write_reserved;
 use ras_module::{EndpointId, Octets, Reply, Request, Source};
 use ras_requests::decide;
@@ -61,7 +61,7 @@ impl Machine {
         }
         if let Some(entry) = self.kept.find(&key) {
             if self.is_repeat(now, entry) {
-                return self.repeating(key.source, entry.state.reply());
+                return self.repeating(key.source, &entry.state);
             }
             return self.serving(now, first(key, None), request);
         }
@@ -98,12 +98,16 @@ impl Machine {
         }
     }
 
-    /// A kept reply is to be sent again.
-    fn repeating(&self, to: Source, reply: &Reply) -> Result<Course, AllocError>
+    /// The reply that is kept is to be sent again.
+    fn repeating(&self, to: Source, state: &KeptState) -> Result<Course, AllocError>
         ensures { IfOk result (λ course. (now : ℕ) → CallsFor self.now now
-            (Repeating (record { to = to; bytes = encoding_of reply.now })) course) }
+            (Repeating (record { to = to; bytes = encoding_of (reply_in state.now) })) course) }
     {
-        Ok(Course::Repeating(self.datagram(to, reply)?))
+        let datagram = match state {
+            KeptState::Done { reply, .. } => self.datagram(to, reply)?,
+            KeptState::Pending { reply, .. } => self.datagram(to, &reply.reply())?,
+        };
+        Ok(Course::Repeating(datagram))
     }
 
     /// The datagram in which this reply is sent.
@@ -145,6 +149,8 @@ impl Machine {
     /// over. None, if there is a place or nothing is over.
     pub fn entry_to_drop(&self, now: Moment, key: &KeptKey) -> Option<u64>
         ensures over { IfSome result (Passes (is_over now) self.now.kept) }
+        ensures full { IsSome result → fin.len self.now.kept ≡ self.now.tables.config.kept }
+        ensures new { IsSome result → fin.get self.now.kept key.now ≡ None }
         ensures none { result ≡ None → fin.get self.now.kept key.now ≡ None
             → fin.len self.now.kept ≡ self.now.tables.config.kept
             → NonePasses (is_over now) self.now.kept }

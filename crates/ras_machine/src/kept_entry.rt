@@ -1,13 +1,13 @@
 //! What is kept of a request that was served.
 
-ghost use Rattle.std.specs.Prelude.{◌≡◌, ◌≤◌, IfSome, OnOk};
+ghost use Rattle.std.specs.Prelude.{◌≡◌, ◌≤◌, IfSome, IsTrue, OnOk};
 ghost use Rattle.kept_replies.specs.Kept.{IsConsistent, Passes, is_over};
 ghost use Rattle.ras_machine.specs.Keeping.{after_drop, dropped_for, kept_with, state_after};
-ghost use Rattle.ras_machine.specs.inside.Room.{HasRoom, IsPlaced, MayBeKept};
+ghost use Rattle.ras_machine.specs.inside.Room.{HasRoom, IsInProgress, IsPlaced, MayBeKept};
 ghost use Rattle.ras_machine.specs.Soundness.{AreBornBefore};
 
 use crate::job::{Job, Occasion};
-use kept_replies::{Kept, KeptState, ReserveFault};
+use kept_replies::{InProgress, Kept, KeptState, ReserveFault};
 use ras_module::{Reply, Request};
 use std::alloc::AllocError;
 use zone_config::Term;
@@ -33,20 +33,20 @@ pub fn reserve(kept: &mut Kept, now: u64, job: &Job) -> Result<(), AllocError>
 
 /// How far a request is that was told this reply: it waits, or its reply is kept.
 pub fn state_after(request: Request, reply: Reply, waits: bool, term: Term) -> KeptState
+    requires told { IsTrue waits → IsInProgress reply }
     ensures { result ≡ state_after request reply waits term }
 {
-    if waits {
-        KeptState::Pending {
+    match reply {
+        Reply::Rip { seq, delay } if waits => KeptState::Pending {
             request,
-            reply,
+            reply: InProgress::new(seq, delay),
             retry: term.retry,
             left: term.times,
-        }
-    } else {
-        KeptState::Done {
+        },
+        reply => KeptState::Done {
             reply,
             until: term.until,
-        }
+        },
     }
 }
 

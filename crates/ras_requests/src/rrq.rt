@@ -89,7 +89,9 @@ fn distinct(alloc: Global, aliases: &AliasList) -> Result<Option<ReplyAliases>, 
     ensures { IfOk result (λ found. MatchOption found
         (32 < length (without_doubles aliases.now)) (λ kept. kept ≡ without_doubles aliases.now)) }
 {
-    let mut kept = AliasList::new(alloc);
+    // room for no more than are kept: what is registered holds this list as long as it lives
+    let room = aliases.len().min(ReplyAliases::MOST);
+    let mut kept = AliasList::from_vec(Vec::with_capacity(alloc, room)?);
     for alias in aliases.as_slice() {
         if !has(&kept, alias) {
             if kept.len() == 32 {

@@ -1,7 +1,7 @@
 //! Copies of the tables: equal to what was copied, and apart from it. A copy for which memory is
 //! refused leaves its table as it was, and is made with memory.
 
-use crate::fixtures::{address, endpoint, no_alias, seq};
+use crate::fixtures::{address, endpoint, is_done, no_alias, seq};
 use admission::{Calls, Leg};
 use kept_replies::{Kept, KeptKey};
 use ras_module::{Address, CallKey, Octets, Reply};
@@ -177,9 +177,11 @@ fn keep(kept: &mut Kept, alloc: Global) -> Result<bool, AllocError> {
 /// Whether exactly the two replies are kept.
 fn are_kept(kept: &Kept) -> bool {
     for number in [1u8, 2] {
-        match kept.by_born(u64::from(number)) {
-            Some((_, entry)) if *entry.state.reply() == confirm(number) => {}
-            _ => return false,
+        let Some((_datagram, entry)) = kept.by_born(u64::from(number)) else {
+            return false;
+        };
+        if !is_done(entry, &confirm(number)) {
+            return false;
         }
     }
     kept.len() == 2

@@ -3,7 +3,7 @@
 use crate::fixtures::{address, endpoint, no_alias, seq};
 use admission::{Calls, Leg};
 use expiry::{DueItem, Times, due};
-use kept_replies::{Kept, KeptKey};
+use kept_replies::{InProgress, Kept, KeptKey};
 use ras_module::{CallKey, Delay, DisengageRequest, EndpointId, Octets, Reply, Request};
 use registrations::{Registration, Registrations};
 use std::alloc::Global;
@@ -82,10 +82,7 @@ fn pend(alloc: Global, kept: &mut Kept) -> Result<(), Fail> {
         endpoint: endpoint(FIRST),
         call: CALL,
     });
-    let reply = Reply::Rip {
-        seq: seq(7),
-        delay: Delay::new(1500).unwrap(),
-    };
+    let reply = InProgress::new(seq(7), Delay::new(1500).unwrap());
     kept.pend(key, 3, request, reply, 1500, 3);
     Ok(())
 }

@@ -1,7 +1,9 @@
 //! What the tables are filled with.
 
+use kept_replies::{KeptEntry, KeptState};
 use ras_module::{
-    Address, Alias, AliasList, BmpString, DialledDigits, EndpointId, ReplyAliases, RequestSeqNum,
+    Address, Alias, AliasList, BmpString, DialledDigits, EndpointId, Reply, ReplyAliases,
+    RequestSeqNum,
 };
 use std::alloc::Global;
 
@@ -28,4 +30,12 @@ pub fn no_alias(alloc: Global) -> Option<ReplyAliases> {
 
 pub fn seq(number: u16) -> RequestSeqNum {
     RequestSeqNum::new(number).unwrap_or(RequestSeqNum::new(1).unwrap())
+}
+
+/// Whether the request was answered by this reply.
+pub fn is_done(entry: &KeptEntry, answer: &Reply) -> bool {
+    match &entry.state {
+        KeptState::Done { reply, .. } => reply == answer,
+        KeptState::Pending { .. } => false,
+    }
 }

@@ -1,7 +1,7 @@
 //! Replies that are kept, and requests that wait.
 
-use crate::fixtures::{endpoint, no_alias, seq};
-use kept_replies::{Kept, KeptEntry, KeptKey, KeptList, KeptState, ReserveFault};
+use crate::fixtures::{endpoint, is_done, no_alias, seq};
+use kept_replies::{InProgress, Kept, KeptEntry, KeptKey, KeptList, KeptState, ReserveFault};
 use ras_module::{
     Address, BandwidthRequest, CallKey, Delay, Name, Octets, Reply, Request, TimeToLive,
 };
@@ -26,11 +26,8 @@ fn confirm(number: u16) -> Reply {
     Reply::Dcf { seq: seq(number) }
 }
 
-fn progress(number: u16) -> Reply {
-    Reply::Rip {
-        seq: seq(number),
-        delay: Delay::new(1500).unwrap(),
-    }
+fn progress(number: u16) -> InProgress {
+    InProgress::new(seq(number), Delay::new(1500).unwrap())
 }
 
 fn registered(alloc: Global, last: u8) -> Result<Reply, Fail> {
@@ -132,7 +129,7 @@ fn is_kept(alloc: Global, kept: &Kept, octet: u8) -> Result<bool, Fail> {
 fn is_confirm(kept: &Kept, born: u64, number: u16) -> Result<bool, Fail> {
     let (_datagram, entry) = kept.by_born(born).ok_or("it is kept")?;
     let copy = entry.copy()?;
-    Ok(*entry.state.reply() == confirm(number) && copy == *entry)
+    Ok(is_done(entry, &confirm(number)) && copy == *entry)
 }
 
 fn left_of(kept: &Kept, born: u64) -> u64 {

@@ -2,6 +2,8 @@
 use Rattle.std.specs.Prelude.{ℕ, ◌≡◌, ◌<◌, ◌≤◌, Option, None, Some, IsTrue}
 use Rattle.std.specs.Option.{IsSomeAnd}
 use Rattle.std.specs.FinMap.{get, len}
+use Rattle.ras_module.specs.declared.reply.Reply.{Reply}
+use Rattle.ras_module.specs.declared.reply.Reply.TheVariants.{Rip}
 use Rattle.kept_replies.specs.declared.entry.KeptState.{KeptState}
 use Rattle.kept_replies.specs.declared.entry.KeptState.TheVariants.{Done, Pending}
 use Rattle.kept_replies.specs.declared.key.KeptKey.{KeptKey}
@@ -32,3 +34,8 @@ IsPlaced t key (Again born left) = IsSomeAnd (get t.kept key) (λ entry. left_in
 abbrev pub MayBeKept : Occasion → KeptState → Type 0
 MayBeKept occasion (Done reply until) = Unit {0}
 MayBeKept occasion (Pending request reply retry left) = IsTrue (may_wait occasion) × (1 ≤ left)
+
+-- a request that waits was told that it is in progress (H.225.0, RequestInProgress)
+abbrev pub IsInProgress : Reply → Type 0
+IsInProgress (Rip seq delay) = Unit {0}
+IsInProgress other = ⊥

@@ -8,7 +8,8 @@ use Rattle.ras_requests.proofs.rrq.distinct.Goals.{else-not-has}
 
 pub loop-alias-init : goal.loop-alias-init
 loop-alias-init c =
-    ap (λ kept. kept_and_new kept c.as_slice-alias-items.result.now) c.new-kept.ensures
+    ap (λ kept. kept_and_new kept c.as_slice-alias-items.result.now)
+    (c.from_vec-kept.ensures ∙ c.in_ok-with_capacity.ensures.items)
     ∙ (none_kept c.as_slice-alias-items.result.now
     ∙ ap without_doubles c.as_slice-alias-items.ensures)
 
