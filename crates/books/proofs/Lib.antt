@@ -1,2 +1,4 @@
+pub mod Additions
+pub mod Courses
 pub mod Entries
 pub mod Spending

@@ -13,8 +13,9 @@ pub record ChapterValue : Type 0 where
   pub entries : List Entry
   pub end : State
 
--- What is left of a history when its zone is taken out: the zone, the state after the last chapter,
--- the entries since then, the place of the first of these, and the totals of all chapters.
+-- What is left of a history when its zone is taken out: the zone, the state from which the last
+-- entries lead to it, these entries, the place of the first of them in the whole history, and the
+-- totals of the entries before it, which were cut off as chapters or let go.
 pub record FinishedValue : Type 0 where
   pub zone : Running
   pub base : State
@@ -22,7 +23,8 @@ pub record FinishedValue : Type 0 where
   pub first : ℕ
   pub carried : Totals
 
--- the state after the last chapter: the one that was kept, or, if none was, that of the zone
+-- the state from which the last entries lead: the one that was kept, or, if none was, that of the
+-- zone
 abbrev pub base_or : Option State → State → State
 base_or (Some base) now = base
 base_or None now = now

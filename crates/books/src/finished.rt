@@ -12,9 +12,10 @@ use ras_core::Zone;
 use ras_machine::Machine;
 use std::marker::Model;
 
-/// A history that goes no further: the zone as it is left; the state after the last chapter, unless
-/// that is the state of the zone; the entries since then, which lead from that state to the zone;
-/// the place of the first of these entries in the whole history; and the totals of all chapters.
+/// A history that goes no further: the zone as it is left; its last entries; the state from which
+/// they lead to the zone, or nothing if that is the state of the zone itself; the place of the first
+/// of these entries in the whole history; and the totals of the entries before it, which were cut
+/// off as chapters or let go.
 pub struct Finished<P: Pool> {
     zone: Zone<P>,
     base: Option<SharedSnapshot>,
@@ -58,8 +59,8 @@ impl<P: Pool> Drop for Finished<P> {
 }
 
 impl<P: Pool> Finished<P> {
-    /// A history whose entries since the last chapter lead from the state after it to the zone. If
-    /// no such state is given, it is that of the zone.
+    /// A history whose last entries lead from this state to the zone. If no state is given, it is
+    /// that of the zone.
     pub fn new(
         zone: Zone<P>,
         base: Option<SharedSnapshot>,
@@ -90,8 +91,8 @@ impl<P: Pool> Finished<P> {
         &self.zone
     }
 
-    /// The state after the last chapter, or, if there was none, the one with which the history
-    /// began.
+    /// The state from which the entries lead: the one after the last entry that was cut off or let
+    /// go, or, if there was none, the one with which the history began.
     pub fn base(&self) -> &Machine
         ensures { result.now ≡ self.now.base }
     {
@@ -101,7 +102,7 @@ impl<P: Pool> Finished<P> {
         }
     }
 
-    /// The entries since the last chapter: they lead from the state after it to that of the zone.
+    /// The entries that weren't cut off or let go: they lead to the state of the zone.
     pub fn entries(&self) -> &[Entry]
         ensures entries { result.now ≡ self.now.entries }
         ensures run { BookRun self.now.base self.now.entries self.now.zone.state }
@@ -116,7 +117,7 @@ impl<P: Pool> Finished<P> {
         self.first
     }
 
-    /// The totals of all chapters.
+    /// The totals of the entries before these, which were cut off as chapters or let go.
     pub fn carried(&self) -> Totals
         ensures { result ≡ self.now.carried }
     {

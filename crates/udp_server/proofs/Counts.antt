@@ -4,7 +4,7 @@ use Rattle.books.specs.declared.book.Entry.{Entry}
 use Rattle.books.specs.declared.totals.Totals.{Totals}
 use Rattle.books.specs.Chapters.{FinishedValue}
 use Rattle.books.specs.Totals.{datagrams_of, no_totals, totals_with, turns_of}
-use Rattle.zone_lock.proofs.Histories.{all_counted}
+use Rattle.zone_lock.proofs.Counted.{all_counted}
 
 pub few_counted : (f : FinishedValue) (carried since : Totals) (es : List Entry)
     → f.carried.datagrams + f.carried.turns ≡ f.first → f.first + length f.entries ≤ 2 ^ 62

@@ -1,6 +1,6 @@
 use Rattle.std.proofs.Common.{◌≡◌}
 use Rattle.ras_core.specs.declared.fault.StepFault.TheVariants.{Closed}
-use Rattle.zone_lock.proofs.Histories.{closed_under_lock, step_told}
+use Rattle.zone_lock.proofs.UnderLock.{closed_under_lock, step_told}
 use Rattle.zone_lock.proofs.lock.ZoneLock.apply.Goals as goal
 
 pub returns-in-Ok-clause-step : goal.returns-in-Ok-clause-step

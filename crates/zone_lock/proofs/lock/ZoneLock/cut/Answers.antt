@@ -1,4 +1,4 @@
-use Rattle.zone_lock.proofs.Histories.{chapter_under_lock, without_base}
+use Rattle.zone_lock.proofs.UnderLock.{chapter_under_lock, without_base}
 use Rattle.zone_lock.proofs.lock.ZoneLock.cut.Goals as goal
 
 pub returns-clause-chapter : goal.returns-clause-chapter

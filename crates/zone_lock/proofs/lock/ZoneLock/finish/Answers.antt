@@ -3,7 +3,8 @@ use Rattle.books.specs.declared.totals.Totals.{Totals}
 use Rattle.books.specs.Chapters.{base_or}
 use Rattle.books.specs.Totals.{datagrams_of, lent_of, turns_of}
 use Rattle.zone_lock.specs.Held.{Held}
-use Rattle.zone_lock.proofs.Histories.{cut_so, left_of, rest_of, whole_of}
+use Rattle.zone_lock.proofs.Histories.{cut_so}
+use Rattle.zone_lock.proofs.Rests.{left_of, rest_of, whole_of}
 use Rattle.zone_lock.proofs.lock.ZoneLock.finish.Goals as goal
 
 pub returns-clause-datagrams : goal.returns-clause-datagrams

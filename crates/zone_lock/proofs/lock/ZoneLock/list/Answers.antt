@@ -1,4 +1,4 @@
-use Rattle.zone_lock.proofs.Histories.{listing_under_lock}
+use Rattle.zone_lock.proofs.UnderLock.{listing_under_lock}
 use Rattle.zone_lock.proofs.lock.ZoneLock.list.Goals as goal
 
 pub returns : goal.returns

@@ -1,0 +1,91 @@
+-- What is told of the zone that was locked.
+use Rattle.std.proofs.Common.{◌≡◌, ◌+◌, [], ◌∷◌, ◌++◌}
+use Rattle.std.proofs.Common.{length, ap, subst, Ok, Err, IfOk}
+use Rattle.std.specs.Prelude.{Result, None, Some, ◌↔◌}
+use Rattle.zone_events.specs.declared.event.Event.{Event}
+use Rattle.ras_machine.specs.State.{State}
+use Rattle.ras_core.specs.Runs.{RunningStep}
+use Rattle.books.specs.declared.book.Receipt.{Receipt}
+use Rattle.books.specs.Chapters.{ChapterValue}
+use Rattle.ras_machine.specs.Machine.{most_steps}
+use Rattle.ras_core.specs.declared.fault.StepFault.{StepFault}
+use Rattle.zone_lock.specs.declared.listing.Listing.{Listing}
+use Rattle.zone_lock.specs.Held.{Held, IsKept}
+use Rattle.zone_lock.specs.Held.{IsChapterUnderLock, IsClosed, IsStepUnderLock}
+use Rattle.zone_lock.specs.Held.{IsWithoutBase, entry_by, receipt_at}
+use Rattle.zone_lock.specs.Listings.{IsListing, IsListingUnderLock}
+use Rattle.zone_lock.specs.Seats.{Seated}
+
+-- a step of the zone that was locked is one of some sound zone
+pub step_under_lock : (opened : State) (r : Result Receipt StepFault) (old new : Held) (s : Seated)
+    (event : Event) → IsKept opened old → IsKept opened new
+    → IfOk r (λ receipt. RunningStep old.zone event receipt.outcome new.zone)
+    → IfOk r (λ receipt. new.entries
+    ≡ old.entries ++ entry_by s.number s.calls event receipt.outcome ∷ [])
+    → IfOk r (λ receipt. receipt ≡ receipt_at (old.first + length old.entries)
+    (entry_by s.number s.calls event receipt.outcome)) → new.first ≡ old.first
+    → IfOk r (λ receipt. IsStepUnderLock opened receipt.place
+    (entry_by s.number s.calls event receipt.outcome))
+step_under_lock opened (Ok receipt) old new s event before after step entries told first = record {
+  old = old;
+  new = new;
+  before = before;
+  after = after;
+  step = step;
+  entries = entries;
+  first = first;
+  is_at = ap (λ (x : Receipt). x.place) told;
+}
+step_under_lock opened (Err fault) old new s event before after step entries told first = tt
+
+-- the same, of the seat and the event that were handed in
+pub step_told : (opened : State) (r : Result Receipt StepFault) (old new : Held) (t s : Seated)
+    (made event : Event) → t ≡ s → made ≡ event → IsKept opened old → IsKept opened new
+    → IfOk r (λ receipt. RunningStep old.zone made receipt.outcome new.zone)
+    → IfOk r (λ receipt. new.entries
+    ≡ old.entries ++ entry_by t.number t.calls made receipt.outcome ∷ [])
+    → IfOk r (λ receipt. receipt ≡ receipt_at (old.first + length old.entries)
+    (entry_by t.number t.calls made receipt.outcome)) → new.first ≡ old.first
+    → IfOk r (λ receipt. IsStepUnderLock opened receipt.place
+    (entry_by s.number s.calls event receipt.outcome))
+step_told opened r old new t s made event same_seat same before after step entries told first =
+    subst (λ (x : Seated). IfOk r (λ receipt. IsStepUnderLock opened receipt.place
+    (entry_by x.number x.calls event receipt.outcome))) same_seat
+    (subst (λ (e : Event). IfOk r (λ receipt. IsStepUnderLock opened receipt.place
+    (entry_by t.number t.calls e receipt.outcome))) same
+    (step_under_lock opened r old new t made before after step entries told first))
+
+-- Whoever held the lock and found it closed saw that as many steps were made as there may be.
+pub closed_under_lock : (opened : State) (P : Type 0) (h : Held) → IsKept opened h
+    → (P ↔ (h.zone.state.steps ≡ most_steps)) → P → IsClosed opened
+closed_under_lock opened P h kept closed is = record {
+  held = h;
+  kept = kept;
+  steps = closed.0 is;
+}
+
+pub without_base : (opened : State) (P : Type 0) (h : Held) → IsKept opened h
+    → (P ↔ (h.base ≡ None)) → P → IsWithoutBase opened
+without_base opened P h kept none is = record { held = h; kept = kept; none = none.0 is }
+
+pub listing_under_lock : (opened : State) (E : Type 0) (r : Result Listing E) (h : Held)
+    → IsKept opened h → IfOk r (IsListing h.zone.state) → IfOk r (IsListingUnderLock opened)
+listing_under_lock opened E (Ok listing) h kept is = record { held = h; kept = kept; listing = is }
+listing_under_lock opened E (Err fault) h kept is = tt
+
+pub chapter_under_lock : (opened : State) (E : Type 0) (r : Result ChapterValue E) (h : Held)
+    → IsKept opened h → IfOk r (λ chapter. chapter ≡ record {
+      first = h.first;
+      base = chapter.base;
+      entries = h.entries;
+      end = h.zone.state;
+    }) → IfOk r (λ chapter. h.base ≡ Some chapter.base) → IfOk r (IsChapterUnderLock opened)
+chapter_under_lock opened E (Ok chapter) h kept is begun = record {
+  held = h;
+  kept = kept;
+  first = ap (λ (x : ChapterValue). x.first) is;
+  base = begun;
+  entries = ap (λ (x : ChapterValue). x.entries) is;
+  end = ap (λ (x : ChapterValue). x.end) is;
+}
+chapter_under_lock opened E (Err fault) h kept is begun = tt
