@@ -1,7 +1,7 @@
 -- The counts of the legs that are kept beside the calls, after each change of the calls.
 use Rattle.std.proofs.Common.{◌≡◌, ◌<◌, ◌≤◌, ◌^◌, ℕ, List, length, true, false, refl, sym, ◌∙◌}
 use Rattle.std.proofs.Common.{ap, Some, None, arith}
-use Rattle.std.specs.Prelude.{Bool, IsTrue, nat_eq, if◌then◌else◌}
+use Rattle.std.specs.Prelude.{Bool, IsTrue, Option, IfSome, nat_eq, if◌then◌else◌}
 use Rattle.std.specs.Option.{option_eq}
 use Rattle.std.proofs.lemmas.Bool.Decides.{Decides-eqb}
 use Rattle.std.specs.FinMap as fin
@@ -30,15 +30,22 @@ pub AreLegCounts-keeps : (old new : LegCounts) (legs : List ℕ → ℕ) → Are
 AreLegCounts-keeps old new legs s k =
     record { each = λ whole x. k.each x ∙ s.each (sym k.whole ∙ whole) x }
 
+-- what is known is how many legs the endpoint has
+pub known_legs : (kept : LegCounts) (legs : List ℕ → ℕ) → AreLegCounts kept legs → (x : List ℕ)
+    (n : ℕ) → known kept x ≡ Some n → n ≡ legs x
+known_legs kept legs s x n h = cases kept.whole refl h where
+  cases : (b : Bool) → kept.whole ≡ b → (if b then Some (count_of kept x) else None) ≡ Some n
+      → n ≡ legs x
+  cases true whole e = sym (cc e) ∙ s.each whole x
+  cases false whole e = absurd (cc e)
+
 -- an endpoint that is known to have no leg has none
 pub none_known : (kept : LegCounts) (legs : List ℕ → ℕ) → AreLegCounts kept legs → (x : List ℕ)
-    → option_eq nat_eq (known kept x) (Some 0) ≡ true → legs x ≡ 0
-none_known kept legs s x h = cases kept.whole refl h where
-  cases : (b : Bool) → kept.whole ≡ b
-      → option_eq nat_eq (if b then Some (count_of kept x) else None) (Some 0) ≡ true
-      → legs x ≡ 0
-  cases true whole e = sym (s.each whole x) ∙ (Decides-eqb (count_of kept x) 0).0 e
-  cases false whole e = absurd (cc e)
+    (found : Option ℕ) → IfSome found (λ n. known kept x ≡ Some n)
+    → option_eq nat_eq found (Some 0) ≡ true → legs x ≡ 0
+none_known kept legs s x (Some n) is h =
+    sym (known_legs kept legs s x n is) ∙ (Decides-eqb n 0).0 h
+none_known kept legs s x None is h = absurd (cc h)
 
 -- if there is no call
 pub AreLegCounts-empty : (kept : LegCounts) → AreZero kept → AreLegCounts kept (legs_of fin.empty)
@@ -117,7 +124,7 @@ module _ (calls : OpenCalls) (key : CallKey) (kept : LegCounts)
     each = λ whole x. omega (
       arith,
       g.each whole x,
-      s.each (sym g.whole ∙ whole) x,
+      s.each (g.whole whole) x,
       legs_of-leave calls key x call endpoint there has,
     );
   }

@@ -1,6 +1,6 @@
 //! How often kept RegistrationConfirms tell each identifier.
 
-ghost use Rattle.std.specs.Prelude.{◌≡◌, ◌+◌, ℕ, List, [], Some, None, IsSome, IsTrue};
+ghost use Rattle.std.specs.Prelude.{◌≡◌, ◌+◌, ℕ, List, [], Some, None, IfSome, IsSome, IsTrue};
 ghost use Rattle.std.specs.List.{list_any};
 ghost use Rattle.std.specs.Option.{option_copied, ForSome};
 ghost use Rattle.std.specs.Map.{lookup};
@@ -15,15 +15,19 @@ use crate::entry::KeptEntry;
 use crate::key::KeptKey;
 use crate::searches::is_named_in;
 use indexmap::IndexMap;
-use ras_module::EndpointId;
+use ras_module::{BmpString, EndpointId};
 use std::alloc::Global;
 use std::marker::Model;
 
-/// Identifiers by how often they are told. It is whole unless memory was refused: then rows are
-/// searched, until there is memory for it again.
+/// An identifier in a tenth of the memory of an [`EndpointId`]. Each that the gatekeeper hands out
+/// is such: its number has at most 20 digits.
+type ShortId = BmpString<20>;
+
+/// Identifiers by how often they are told. It is whole unless memory was refused, or an identifier
+/// is too long: then rows are searched, until it can be whole again.
 #[derive(Drop)]
 pub(crate) struct ToldCounts {
-    counts: IndexMap<EndpointId, usize>,
+    counts: IndexMap<ShortId, usize>,
     is_whole: bool,
 }
 
@@ -82,11 +86,21 @@ impl ToldCounts {
         requires { AreTold rows.now.entries self.now }
         ensures { result ≡ list_any (λ row. is_named_by id.now row.1) rows.now.entries }
     {
-        if self.is_whole {
-            times_of(&self.counts, id) > 0
-        } else {
-            is_named_in(rows, id)
+        match self.key_of(id) {
+            Some(key) => times_of(&self.counts, &key) > 0,
+            None => is_named_in(rows, id),
         }
+    }
+
+    /// The key of an identifier, if how often it is told can be read from the counts.
+    fn key_of(&self, id: &EndpointId) -> Option<ShortId>
+        ensures key { IfSome result (λ key. key ≡ id.now) }
+        ensures whole { IsSome result → IsTrue self.now.is_whole }
+    {
+        if !self.is_whole {
+            return None;
+        }
+        short(id)
     }
 
     /// Counts one more kept reply, which may tell an identifier. This takes no memory.
@@ -98,10 +112,14 @@ impl ToldCounts {
         let Some(id) = named else {
             return;
         };
-        let times = times_of(&self.counts, id);
+        let Some(key) = short(id) else {
+            self.is_whole = false;
+            return;
+        };
+        let times = times_of(&self.counts, &key);
         self.is_whole = self.is_whole
             && times < usize::MAX
-            && write_times(&mut self.counts, id, times + 1);
+            && write_times(&mut self.counts, &key, times + 1);
     }
 
     /// Takes a reply, which may tell an identifier, out of the counts.
@@ -115,11 +133,15 @@ impl ToldCounts {
         let Some(id) = named else {
             return;
         };
-        let times = times_of(&self.counts, id);
+        let Some(key) = short(id) else {
+            self.is_whole = false;
+            return;
+        };
+        let times = times_of(&self.counts, &key);
         if times > 1 {
-            self.is_whole = self.is_whole && write_times(&mut self.counts, id, times - 1);
+            self.is_whole = self.is_whole && write_times(&mut self.counts, &key, times - 1);
         } else {
-            self.counts.swap_remove(id);
+            self.counts.swap_remove(&key);
             self.is_whole = self.is_whole && times == 1;
         }
     }
@@ -145,14 +167,21 @@ impl ToldCounts {
     }
 }
 
-fn times_of(counts: &IndexMap<EndpointId, usize>, id: &EndpointId) -> usize
+/// The same identifier in less memory, if it is short enough.
+fn short(id: &EndpointId) -> Option<ShortId>
+    ensures { IfSome result (λ key. key ≡ id.now) }
+{
+    ShortId::new(id.as_slice())
+}
+
+fn times_of(counts: &IndexMap<ShortId, usize>, id: &ShortId) -> usize
     ensures { result ≡ count_of (get same_id counts.now id.now) }
 {
     counts.get(id).copied().unwrap_or(0)
 }
 
 // writes how often an identifier is told, and returns whether there was room for it
-fn write_times(counts: &mut IndexMap<EndpointId, usize>, id: &EndpointId, times: usize) -> bool
+fn write_times(counts: &mut IndexMap<ShortId, usize>, id: &ShortId, times: usize) -> bool
     ensures { IsTrue result → Updates same_id counts.old counts.new id.now (Some times) }
 {
     if counts.contains_key(id) {
@@ -162,7 +191,7 @@ fn write_times(counts: &mut IndexMap<EndpointId, usize>, id: &EndpointId, times:
     counts.len() < counts.capacity() && counts.insert(*id, times).is_ok()
 }
 
-fn rewrite_times(counts: &mut IndexMap<EndpointId, usize>, id: &EndpointId, times: usize)
+fn rewrite_times(counts: &mut IndexMap<ShortId, usize>, id: &ShortId, times: usize)
     requires { IsSome (get same_id counts.old id.now) }
     ensures { Updates same_id counts.old counts.new id.now (Some times) }
 {

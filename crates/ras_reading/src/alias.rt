@@ -125,14 +125,18 @@ pub fn skip_aliases(decoder: &mut Decoder<'_>, present: bool) -> Result<(), Read
     Ok(())
 }
 
-/// Adds an alias, if it is served.
-fn keep(aliases: &mut AliasList, alias: Option<Alias>) -> Result<(), AllocError>
+/// Adds an alias, if it is served. Room is made for the first one alone, since most lists have one.
+fn keep(alloc: Global, aliases: &mut AliasList, alias: Option<Alias>) -> Result<(), AllocError>
     ensures { OnOk result (aliases.new ≡ keeping aliases.old alias) }
 {
-    match alias {
-        Some(alias) => aliases.push(alias),
-        None => Ok(()),
+    let Some(alias) = alias else {
+        return Ok(());
+    };
+    if aliases.is_empty() {
+        *aliases = AliasList::from_vec(Vec::from_slice(alloc, &[alias])?);
+        return Ok(());
     }
+    aliases.push(alias)
 }
 
 /// The served aliases among this many. Memory for an alias is asked for after the alias has been
@@ -148,7 +152,7 @@ fn served_aliases(
     let mut aliases = AliasList::new(alloc);
     for _ in 0..count {
         let alias = alias_address(&mut ahead)?;
-        keep(&mut aliases, alias)?;
+        keep(alloc, &mut aliases, alias)?;
     }
     *decoder = ahead;
     Ok(aliases)

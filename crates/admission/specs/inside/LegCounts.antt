@@ -43,8 +43,8 @@ pub record Comes (old new : LegCounts) (endpoint : List ℕ) : Type 0 where
   pub each : IsTrue new.whole → (x : List ℕ)
       → count_of new x ≡ count_of old x + one_if_same endpoint x
 
--- this endpoint has one leg fewer
+-- this endpoint has one leg fewer, unless the counts are given up
 pub record Goes (old new : LegCounts) (endpoint : List ℕ) : Type 0 where
-  pub whole : new.whole ≡ old.whole
+  pub whole : IsTrue new.whole → IsTrue old.whole
   pub each : IsTrue new.whole → (x : List ℕ)
       → count_of new x + one_if_same endpoint x ≡ count_of old x

@@ -14,8 +14,7 @@ pub returns-then-eq : goal.returns-then-eq
 returns-then-eq c =
     let calls = open_of c.self.inside.calls in
     let none = none_known c.self.inside.leg_counts (legs_of calls) c.self.invariant.legs
-    c.args.endpoint.now (ap (λ w. option_eq nat_eq w (Some 0)) (sym c.of.ensures)
-    ∙ (sym c.eq.ensures ∙ c.if-eq.true)) in
+    c.args.endpoint.now c.of.result c.of.ensures.count (sym c.eq.ensures ∙ c.if-eq.true) in
     subst (λ (t : CallTable). IsInNoCall t.calls c.args.endpoint.now) c.self.view_is
     (IsInNoCall-zero calls c.args.endpoint.now none)
 
