@@ -4,7 +4,7 @@ use Rattle.std.specs.Prelude.{map, min, slice_index_or, slice_set}
 use Rattle.std.specs.List.{All, sum_by}
 use Rattle.pools.specs.declared.interface.Lend.{Lend}
 use Rattle.pools.specs.Account.{Account, IsWithinLimit, opening_account}
-use Rattle.pools.specs.Account.{account_after_answer, account_after_return}
+use Rattle.pools.specs.Account.{account_after_answer, account_after_least, account_after_return}
 
 -- a pool of a set: its account; how often the set asked it for units; and how often the set told it
 -- that time went on
@@ -37,6 +37,13 @@ member_after_answer m asked answer = record m {
   requests = one_more m.requests;
 }
 
+-- a pool was asked once, and gave this answer; a loan of fewer units than the least went back
+abbrev pub member_after_least : Member → ℕ → ℕ → Lend → Member
+member_after_least m asked least answer = record m {
+  account = account_after_least m.account asked least answer;
+  requests = one_more m.requests;
+}
+
 -- n units came back to a pool
 abbrev pub member_after_return : Member → ℕ → Member
 member_after_return m n = record m { account = account_after_return m.account n }
@@ -49,6 +56,12 @@ member_after_turn m = record m { turns = one_more m.turns }
 abbrev pub members_after_answer : List Member → ℕ → ℕ → Lend → List Member
 members_after_answer members i asked answer =
     slice_set members i (member_after_answer (member_at members i) asked answer)
+
+-- pool i was asked once, and gave this answer; a loan of fewer units than the least went back: no
+-- other pool changes
+abbrev pub members_after_least : List Member → ℕ → ℕ → ℕ → Lend → List Member
+members_after_least members i asked least answer =
+    slice_set members i (member_after_least (member_at members i) asked least answer)
 
 -- n units came back to pool i: no other pool changes
 abbrev pub members_after_return : List Member → ℕ → ℕ → List Member
