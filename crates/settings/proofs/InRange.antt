@@ -8,7 +8,7 @@ use Rattle.zone_config.specs.declared.config.ConfigParts.{ConfigParts}
 use Rattle.zone_config.specs.declared.key.Key.{Key}
 use Rattle.zone_config.specs.declared.key.Key.TheVariants.{Limit, CallLimit, TimeToLive, Endpoints}
 use Rattle.zone_config.specs.declared.key.Key.TheVariants.{Calls, Kept, Window, Silence, Delay}
-use Rattle.zone_config.specs.declared.key.Key.TheVariants.{Retries, Asks, AskWait, PoolTurn}
+use Rattle.zone_config.specs.declared.key.Key.TheVariants.{Retries, Asks, AskWait, PoolTurn, LeastGrant}
 use Rattle.zone_config.specs.declared.network.Network.{Network}
 use Rattle.zone_config.specs.Defaults.{default_parts}
 use Rattle.zone_config.specs.Keys.{takes, with_number}
@@ -34,6 +34,7 @@ beside parts Retries number = refl
 beside parts Asks number = refl
 beside parts AskWait number = refl
 beside parts PoolTurn number = refl
+beside parts LeastGrant number = refl
 
 pub stays_in_range : (parts : ConfigParts) (key : Key) (number : ℕ) → takes key number ≡ true
     → HasNumbersInRange parts → HasNumbersInRange (with_number parts key number)

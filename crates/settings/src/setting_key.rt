@@ -37,7 +37,7 @@ pub(crate) enum SettingKey {
 
 impl SettingKey {
     /// The tables and keys, in the order in which they are tested.
-    pub(crate) const ALL: [SettingKey; 28] = [
+    pub(crate) const ALL: [SettingKey; 29] = [
         SettingKey::ZoneTable,
         SettingKey::Identifier,
         SettingKey::Address,
@@ -54,6 +54,7 @@ impl SettingKey {
         SettingKey::Zone(Key::Asks),
         SettingKey::Zone(Key::AskWait),
         SettingKey::Zone(Key::PoolTurn),
+        SettingKey::Zone(Key::LeastGrant),
         SettingKey::ServeTable,
         SettingKey::Serve(ServeKey::Receivers),
         SettingKey::Serve(ServeKey::Ring),

@@ -39,6 +39,7 @@ parts_decide a b = (
       let h13 = and_parts _ _ h12.1 in
       let h14 = and_parts _ _ h13.1 in
       let h15 = and_parts _ _ h14.1 in
+      let h16 = and_parts _ _ h15.1 in
       let identifier = (texts_decide a.identifier b.identifier).0 h1.0 in
       let address = (address_decides a.address b.address).0 h2.0 in
       let limit = (Decides-eqb a.limit b.limit).0 h3.0 in
@@ -54,7 +55,8 @@ parts_decide a b = (
       let asks = (Decides-eqb a.asks b.asks).0 h13.0 in
       let ask_wait = (Decides-eqb a.ask_wait b.ask_wait).0 h14.0 in
       let pool_turn = (Decides-eqb a.pool_turn b.pool_turn).0 h15.0 in
-      let networks = (networks_decide a.networks b.networks).0 h15.1 in
+      let least_grant = (Decides-eqb a.least_grant b.least_grant).0 h16.0 in
+      let networks = (networks_decide a.networks b.networks).0 h16.1 in
       λ i. record {
         identifier = identifier i;
         address = address i;
@@ -71,6 +73,7 @@ parts_decide a b = (
         asks = asks i;
         ask_wait = ask_wait i;
         pool_turn = pool_turn i;
+        least_grant = least_grant i;
         networks = networks i;
       }),
   λ e.
@@ -89,5 +92,6 @@ parts_decide a b = (
       (and_from _ _ ((Decides-eqb a.asks b.asks).1 (ap (λ c. c.asks) e))
       (and_from _ _ ((Decides-eqb a.ask_wait b.ask_wait).1 (ap (λ c. c.ask_wait) e))
       (and_from _ _ ((Decides-eqb a.pool_turn b.pool_turn).1 (ap (λ c. c.pool_turn) e))
-      ((networks_decide a.networks b.networks).1 (ap (λ c. c.networks) e))))))))))))))))),
+      (and_from _ _ ((Decides-eqb a.least_grant b.least_grant).1 (ap (λ c. c.least_grant) e))
+      ((networks_decide a.networks b.networks).1 (ap (λ c. c.networks) e)))))))))))))))))),
 )

@@ -67,6 +67,7 @@ pub record Limits (parts : ConfigParts) : Type 0 where
   pub some_retries : 1 ≤ parts.retries
   pub asks : parts.asks ≤ 16
   pub pool_turn : parts.pool_turn ≤ 86400000
+  pub least_grant : parts.least_grant ≤ 4294967295
 
 pub limits : (parts : ConfigParts) → range_fault parts ≡ None → Limits parts
 limits parts e = record {
@@ -84,6 +85,7 @@ limits parts e = record {
   some_retries = (at_place parts 9 e (omega arith)).0;
   asks = (at_place parts 10 e (omega arith)).1;
   pool_turn = (at_place parts 12 e (omega arith)).1;
+  least_grant = (at_place parts 13 e (omega arith)).1;
 }
 
 pub is_time : (seconds : ℕ) (o : Option ℕ) → SomeIff o (0 < seconds) seconds

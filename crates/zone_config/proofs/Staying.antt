@@ -11,7 +11,7 @@ use Rattle.zone_config.specs.declared.config.ConfigParts.{ConfigParts}
 use Rattle.zone_config.specs.declared.key.Key.{Key}
 use Rattle.zone_config.specs.declared.key.Key.TheVariants.{Limit, CallLimit, TimeToLive, Endpoints}
 use Rattle.zone_config.specs.declared.key.Key.TheVariants.{Calls, Kept, Window, Silence, Delay}
-use Rattle.zone_config.specs.declared.key.Key.TheVariants.{Retries, Asks, AskWait, PoolTurn}
+use Rattle.zone_config.specs.declared.key.Key.TheVariants.{Retries, Asks, AskWait, PoolTurn, LeastGrant}
 use Rattle.zone_config.specs.declared.network.Network.{Network}
 use Rattle.zone_config.specs.Defaults.{default_parts}
 use Rattle.zone_config.specs.Keys.{all_keys, takes, with_number}
@@ -68,6 +68,7 @@ stays_inside parts Retries number inside e = one_set parts 9 Retries number insi
 stays_inside parts Asks number inside e = one_set parts 10 Asks number inside e
 stays_inside parts AskWait number inside e = one_set parts 11 AskWait number inside e
 stays_inside parts PoolTurn number inside e = one_set parts 12 PoolTurn number inside e
+stays_inside parts LeastGrant number inside e = one_set parts 13 LeastGrant number inside e
 
 -- a number that is set leaves the networks as they are
 networks_stay : (parts : ConfigParts) (key : Key) (number : ℕ)
@@ -85,6 +86,7 @@ networks_stay parts Retries number = refl
 networks_stay parts Asks number = refl
 networks_stay parts AskWait number = refl
 networks_stay parts PoolTurn number = refl
+networks_stay parts LeastGrant number = refl
 
 -- if no key is outside its range, and the networks stay, there is no fault
 same_fault : (old new : Option Key) (before after : List (Option Network)) → after ≡ before

@@ -4,7 +4,7 @@ use Rattle.ras_module.specs.declared.address.Address.{Address}
 use Rattle.zone_config.specs.declared.config.ConfigParts.{ConfigParts}
 use Rattle.zone_config.specs.declared.key.Key.TheVariants.{Limit, CallLimit, TimeToLive, Endpoints}
 use Rattle.zone_config.specs.declared.key.Key.TheVariants.{Calls, Kept, Window, Silence, Delay}
-use Rattle.zone_config.specs.declared.key.Key.TheVariants.{Retries, Asks, AskWait, PoolTurn}
+use Rattle.zone_config.specs.declared.key.Key.TheVariants.{Retries, Asks, AskWait, PoolTurn, LeastGrant}
 use Rattle.zone_config.specs.declared.network.Network.{Network}
 use Rattle.zone_config.specs.Keys.{default_of}
 
@@ -25,5 +25,6 @@ default_parts identifier address networks = record {
   asks = default_of Asks;
   ask_wait = default_of AskWait;
   pool_turn = default_of PoolTurn;
+  least_grant = default_of LeastGrant;
   networks = networks;
 }

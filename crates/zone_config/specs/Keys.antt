@@ -6,7 +6,7 @@ use Rattle.zone_config.specs.declared.config.ConfigParts.{ConfigParts}
 use Rattle.zone_config.specs.declared.key.Key.{Key}
 use Rattle.zone_config.specs.declared.key.Key.TheVariants.{Limit, CallLimit, TimeToLive, Endpoints}
 use Rattle.zone_config.specs.declared.key.Key.TheVariants.{Calls, Kept, Window, Silence, Delay}
-use Rattle.zone_config.specs.declared.key.Key.TheVariants.{Retries, Asks, AskWait, PoolTurn}
+use Rattle.zone_config.specs.declared.key.Key.TheVariants.{Retries, Asks, AskWait, PoolTurn, LeastGrant}
 
 -- the row of a key in the table: its name, the least and the greatest number that it takes, and its
 -- number if nothing is set
@@ -34,6 +34,7 @@ row_of Retries = row_with (codes "retries") 1 16 3
 row_of Asks = row_with (codes "asks") 1 16 3
 row_of AskWait = row_with (codes "ask_wait") 1 3600000 5000
 row_of PoolTurn = row_with (codes "pool_turn") 1 86400000 1000
+row_of LeastGrant = row_with (codes "least_grant") 0 4294967295 0
 
 abbrev pub name_of : Key → List ℕ
 name_of key = (row_of key).name
@@ -55,7 +56,7 @@ path_of key = codes "zone." ++ name_of key
 abbrev pub all_keys : List Key
 all_keys =
     Limit ∷ CallLimit ∷ TimeToLive ∷ Endpoints ∷ Calls ∷ Kept ∷ Window ∷ Silence ∷ Delay ∷ Retries
-    ∷ Asks ∷ AskWait ∷ PoolTurn ∷ []
+    ∷ Asks ∷ AskWait ∷ PoolTurn ∷ LeastGrant ∷ []
 
 abbrev pub has_name : List ℕ → Key → Bool
 has_name word key = bytes_eq word (name_of key)
@@ -83,6 +84,7 @@ number_in parts Retries = parts.retries
 number_in parts Asks = parts.asks
 number_in parts AskWait = parts.ask_wait
 number_in parts PoolTurn = parts.pool_turn
+number_in parts LeastGrant = parts.least_grant
 
 -- the settings with another number under this key
 abbrev pub with_number : ConfigParts → Key → ℕ → ConfigParts
@@ -99,3 +101,4 @@ with_number parts Retries number = record parts { retries = number }
 with_number parts Asks number = record parts { asks = number }
 with_number parts AskWait number = record parts { ask_wait = number }
 with_number parts PoolTurn number = record parts { pool_turn = number }
+with_number parts LeastGrant number = record parts { least_grant = number }

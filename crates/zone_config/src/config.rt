@@ -53,6 +53,8 @@ pub struct ConfigParts {
     pub ask_wait: u64,
     /// How long it is from one turn of the pools to the next.
     pub pool_turn: u64,
+    /// The least bandwidth with which a pool's loan may leave a call, if the call wants as much.
+    pub least_grant: u64,
     /// The networks of the pools, in their order. A call has its units from the first pool that has
     /// no network, or whose network holds the call signal address of the endpoint that opens the
     /// call. The last pool has none.
@@ -81,6 +83,7 @@ impl ConfigParts {
             asks: Key::Asks.default(),
             ask_wait: Key::AskWait.default(),
             pool_turn: Key::PoolTurn.default(),
+            least_grant: Key::LeastGrant.default(),
             networks,
         }
     }
@@ -106,6 +109,7 @@ impl ConfigParts {
             asks: self.asks,
             ask_wait: self.ask_wait,
             pool_turn: self.pool_turn,
+            least_grant: self.least_grant,
             networks,
         })
     }
@@ -290,5 +294,13 @@ impl Config {
         ensures few { result < 2 ^ 32 }
     {
         self.parts.call_limit as u32
+    }
+
+    /// The least bandwidth with which a pool's loan may leave a call, if the call wants as much.
+    pub fn least_grant(&self) -> u32
+        ensures same { result ≡ self.now.least_grant }
+        ensures few { result < 2 ^ 32 }
+    {
+        self.parts.least_grant as u32
     }
 }

@@ -38,6 +38,8 @@ pub enum Key {
     AskWait,
     /// How long it is from one turn of the pools to the next.
     PoolTurn,
+    /// The least bandwidth with which a pool's loan may leave a call, if the call wants as much.
+    LeastGrant,
 }
 
 /// The row of a key in the table of settings.
@@ -70,7 +72,7 @@ impl Row {
 
 impl Key {
     /// The keys, in the order in which their ranges are tested.
-    pub const ALL: [Key; 13] = [
+    pub const ALL: [Key; 14] = [
         Key::Limit,
         Key::CallLimit,
         Key::TimeToLive,
@@ -84,6 +86,7 @@ impl Key {
         Key::Asks,
         Key::AskWait,
         Key::PoolTurn,
+        Key::LeastGrant,
     ];
 
     /// Its name, its path, the least and the greatest number that it takes, and its default.
@@ -108,6 +111,7 @@ impl Key {
             Key::Asks => Row::new("asks", "zone.asks", 1, 16, 3),
             Key::AskWait => Row::new("ask_wait", "zone.ask_wait", 1, 3_600_000, 5_000),
             Key::PoolTurn => Row::new("pool_turn", "zone.pool_turn", 1, 86_400_000, 1_000),
+            Key::LeastGrant => Row::new("least_grant", "zone.least_grant", 0, 4_294_967_295, 0),
         }
     }
 
@@ -180,6 +184,7 @@ impl Key {
             Key::Asks => parts.asks,
             Key::AskWait => parts.ask_wait,
             Key::PoolTurn => parts.pool_turn,
+            Key::LeastGrant => parts.least_grant,
         }
     }
 
@@ -201,6 +206,7 @@ impl Key {
             Key::Asks => parts.asks = number,
             Key::AskWait => parts.ask_wait = number,
             Key::PoolTurn => parts.pool_turn = number,
+            Key::LeastGrant => parts.least_grant = number,
         }
     }
 }
