@@ -1,7 +1,7 @@
 -- What the course of an event adds to the bandwidth in use.
 use Rattle.std.proofs.Common.{◌≡◌, ℕ, Bool, true, false, List, refl}
 use Rattle.std.proofs.Common.{subst, Some, None, arith}
-use Rattle.std.specs.Prelude.{Option, IfSome, if◌then◌else◌, is_some}
+use Rattle.std.specs.Prelude.{Option, IfSome, if◌then◌else◌, is_some, nat_lt}
 use Rattle.std.specs.FinMap.{get}
 use Rattle.keyed.proofs.Decide.{same_some}
 use Rattle.ras_module.specs.declared.request.Request.{Request}
@@ -26,7 +26,7 @@ use Rattle.ras_machine.specs.declared.job.Job.{Job}
 use Rattle.ras_machine.specs.declared.prepared.Message.{Message}
 use Rattle.ras_machine.specs.declared.prepared.Message.TheVariants as message
 use Rattle.ras_machine.specs.Prepared.{message_in}
-use Rattle.ras_machine.specs.Keeping.{Task, answered, in_progress, may_wait}
+use Rattle.ras_machine.specs.Keeping.{Task, answered, granted, in_progress, may_wait}
 use Rattle.ras_machine.specs.Keeping.{with_answered_pool}
 use Rattle.ras_machine.specs.State.{State}
 use Rattle.ras_machine.specs.Machine as machine
@@ -125,8 +125,18 @@ module _ (s : State) (now : ℕ) where
       → Ends outcome after
   asked task ask lent refused None outcome after adds is = absurd (cc is)
   asked task ask lent refused (Some (Lent units)) outcome after adds is =
-      ends_so _ _ outcome after
-      (record { settings = (adds.0 units).settings; units_are = (adds.0 units).units_are }) is
+      by_grant (nat_lt units ask.least) is where
+        by_grant : (b : Bool) → machine.ended s now task None (Some (Lent units))
+            (with_answered_pool s.tables ask (Lent units)
+            (answered (granted lent refused (if b then None else Some units))))
+            ≡ Some (outcome, after) → Ends outcome after
+        by_grant true is = ends_so _ _ outcome after
+            (record {
+              settings = adds.1.settings;
+              units_are = omega (arith, adds.1.units_are);
+            }) is
+        by_grant false is = ends_so _ _ outcome after
+            (record { settings = (adds.0 units).settings; units_are = (adds.0 units).units_are }) is
   asked task ask lent refused (Some Refused) outcome after adds is =
       ends_so _ _ outcome after
       (record { settings = adds.1.settings; units_are = adds.1.units_are }) is

@@ -8,10 +8,10 @@ use Rattle.std.proofs.Math.ListN as seq
 use Rattle.std.proofs.Math.Seq.{map-set_same}
 use Rattle.pools.specs.declared.interface.Figures.{Figures}
 use Rattle.pools.specs.declared.interface.Lend.{Lend}
-use Rattle.pools.specs.Account.{Account, account_without_loans, figures_after_answer, is_idle}
+use Rattle.pools.specs.Account.{Account, account_without_loans, figures_after_least, is_idle}
 use Rattle.pools.specs.Account.{opening_account}
-use Rattle.pools.specs.Members.{Member, accounts_of, member_after_answer, member_after_return}
-use Rattle.pools.specs.Members.{member_at, members_after_answer, members_after_return}
+use Rattle.pools.specs.Members.{Member, accounts_of, member_after_least, member_after_return}
+use Rattle.pools.specs.Members.{member_at, members_after_least, members_after_return}
 use Rattle.pools.specs.Members.{members_after_turn, new_member}
 use Rattle.zone_tables.specs.Pools.{IsIdle, RequestedUnits, figures_after_return, figures_of}
 use Rattle.zone_tables.specs.Pools.{pools_after_answer, pools_after_return}
@@ -44,32 +44,38 @@ figures-set : (members : List Member) (i : ℕ) (m : Member)
 figures-set members i m =
     ap figures_of (map-set account members i m) ∙ map-set figures (accounts_of members) i m.account
 
-figures-answer : (members : List Member) (i asked : ℕ) (answer : Lend)
-    → figures_of (accounts_of (members_after_answer members i asked answer))
-    ≡ pools_after_answer (figures_of (accounts_of members)) i answer
-figures-answer members i asked answer =
-    figures-set members i (member_after_answer (member_at members i) asked answer)
-    ∙ ap (λ f. set (figures_of (accounts_of members)) i (figures_after_answer f answer))
+abbrev after_ask : List Member → RequestedUnits → Lend → List Member
+after_ask members ask answer = members_after_least members ask.pool ask.units ask.least answer
+
+figures-answer : (members : List Member) (ask : RequestedUnits) (answer : Lend)
+    → figures_of (accounts_of (after_ask members ask answer))
+    ≡ pools_after_answer (figures_of (accounts_of members)) ask answer
+figures-answer members ask answer =
+    let i = ask.pool in
+    figures-set members i (member_after_least (member_at members i) ask.units ask.least answer)
+    ∙ ap (λ f. set (figures_of (accounts_of members)) i (figures_after_least f ask.least answer))
     (sym (figures_there members i))
 
-tallies-answer : (members : List Member) (i asked : ℕ) (answer : Lend)
-    → tallies_of (members_after_answer members i asked answer)
-    ≡ tallies_after_answer (tallies_of members) (record { pool = i; units = asked }) answer
-tallies-answer members i asked answer =
-    map-set tally_of members i (member_after_answer (member_at members i) asked answer)
-    ∙ ap (λ t. set (tallies_of members) i (tally_after_answer t asked answer))
+tallies-answer : (members : List Member) (ask : RequestedUnits) (answer : Lend)
+    → tallies_of (after_ask members ask answer)
+    ≡ tallies_after_answer (tallies_of members) ask answer
+tallies-answer members ask answer =
+    let i = ask.pool in
+    map-set tally_of members i
+    (member_after_least (member_at members i) ask.units ask.least answer)
+    ∙ ap (λ t. set (tallies_of members) i (tally_after_answer t ask.units answer))
     (sym (tally_there members i))
 
 -- a set of pools that was asked once, or not at all
 abbrev pub answers_of : List Member → List Figures → RequestedUnits → Lend → List Member → Type 0
 answers_of old pools requested answer new =
-    new ≡ members_after_answer old requested.pool requested.units answer
+    new ≡ members_after_least old requested.pool requested.units requested.least answer
 
 pub figures-asked : (old new : List Member) (pools : List Figures) (ask : Option RequestedUnits)
     (answer : Option Lend) → IsAskedOnce answers_of old pools ask answer new
     → figures_of (accounts_of new) ≡ pools_after_ask (figures_of (accounts_of old)) ask answer
 figures-asked old new pools (Some ask) (Some answer) asked =
-    ap (λ ms. figures_of (accounts_of ms)) asked ∙ figures-answer old ask.pool ask.units answer
+    ap (λ ms. figures_of (accounts_of ms)) asked ∙ figures-answer old ask answer
 figures-asked old new pools (Some ask) None asked = absurd asked
 figures-asked old new pools None answer asked = ap (λ ms. figures_of (accounts_of ms)) asked
 
@@ -77,7 +83,7 @@ pub tallies-asked : (old new : List Member) (pools : List Figures) (ask : Option
     (answer : Option Lend) → IsAskedOnce answers_of old pools ask answer new
     → tallies_of new ≡ tallies_after_ask (tallies_of old) ask answer
 tallies-asked old new pools (Some ask) (Some answer) asked =
-    ap tallies_of asked ∙ tallies-answer old ask.pool ask.units answer
+    ap tallies_of asked ∙ tallies-answer old ask answer
 tallies-asked old new pools (Some ask) None asked = absurd asked
 tallies-asked old new pools None answer asked = ap tallies_of asked
 

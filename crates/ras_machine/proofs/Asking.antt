@@ -20,18 +20,18 @@ use Rattle.zone_events.specs.declared.outcome.Outcome.{Outcome}
 use Rattle.ras_machine.specs.State.{State}
 use Rattle.zone_tables.specs.Leaving.{AreSameButLent}
 use Rattle.zone_tables.specs.Tables.{Tables}
-use Rattle.ras_requests.specs.Plans.{Served, Plan, Asking}
-use Rattle.zone_tables.specs.Pools.{RequestedUnits, figures_at, pools_after_answer}
+use Rattle.ras_requests.specs.Plans.{Served, Plan, Asking, with_heard}
+use Rattle.zone_tables.specs.Pools.{RequestedUnits, figures_at, grant_of, pools_after_answer}
 use Rattle.ras_requests.specs.Requests.{seq_of}
-use Rattle.ras_machine.specs.Keeping.{Progress, Task, answered, answered_by}
+use Rattle.ras_machine.specs.Keeping.{Progress, Task, answered, granted}
 use Rattle.ras_machine.specs.Keeping.{dropped_for, in_progress}
 use Rattle.ras_machine.specs.Keeping.{kept_with, plan_at, state_after, waits, with_answered_pool}
 use Rattle.zone_config.specs.Terms.{term_of}
 use Rattle.ras_machine.specs.Machine.{Ending, Serving, ended, note_at, plan_ending}
 use Rattle.ras_requests.specs.Conclusions.{RequestsUnits, granted_by}
-use Rattle.zone_tables.specs.UnitRequests.{units_requested, calls_after_answer}
+use Rattle.zone_tables.specs.UnitRequests.{units_requested, calls_after_answer, calls_with_grant}
 use Rattle.ras_requests.specs.Conclusions.{refused_by}
-use Rattle.zone_tables.specs.UnitRequests.{reply_of}
+use Rattle.zone_tables.specs.UnitRequests.{reply_of, reply_with_grant}
 use Rattle.ras_machine.specs.Courses.{heard_at, Does}
 use Rattle.ras_machine.specs.Soundness.{AreBornBefore}
 use Rattle.zone_tables.specs.Soundness.{HasCounts}
@@ -64,7 +64,7 @@ module _ (s : State) (now : ℕ) (key : KeptKey) (request : Request)
   abbrev pub asked_tables : Occasion → Lend → Tables
   asked_tables occasion answer = heard_at (record s.tables {
     calls = calls_after_answer q answer s.tables.calls;
-    pools = pools_after_answer s.tables.pools q.pool answer;
+    pools = pools_after_answer s.tables.pools (units_requested q) answer;
   }) occasion now (Some id)
 
   abbrev pub asked_kept : Occasion → Bool → Reply → KeptReplies
@@ -87,11 +87,42 @@ module _ (s : State) (now : ℕ) (key : KeptKey) (request : Request)
   progress lent refused answer w =
       with_answered_pool s.tables (units_requested q) answer (if w
       then in_progress s.tables.config.delay request refused
-      else answered (answered_by lent refused answer))
+      else answered (granted lent refused (grant_of q.least answer)))
 
   abbrev came_to : Occasion → (ℕ → Served) → Served → Lend → Bool → Ending
   came_to occasion lent refused answer w =
       ended s now (asked_task occasion) None (Some answer) (progress lent refused answer w)
+
+  -- how the request is served on an occasion, if it gets units and if it gets none
+  abbrev lent_at : Occasion → ℕ → Served
+  lent_at (First dropped) units = with_heard now (Some id) (granted_by s.tables q units)
+  lent_at (Again born left) units = granted_by s.tables q units
+
+  abbrev refused_at : Occasion → Served
+  refused_at (First dropped) = with_heard now (Some id) (refused_by s.tables q)
+  refused_at (Again born left) = refused_by s.tables q
+
+  abbrev granted_answer : Occasion → Lend → Option ℕ → Ending
+  granted_answer occasion answer grant = Some (
+    asked_outcome occasion answer (reply_with_grant q grant),
+    record s {
+      tables = heard_at (record s.tables {
+        calls = calls_with_grant q grant s.tables.calls;
+        pools = pools_after_answer s.tables.pools (units_requested q) answer;
+      }) occasion now (Some id);
+      kept = asked_kept occasion false (reply_with_grant q grant);
+    },
+  )
+
+  by_grant : (occasion : Occasion) (answer : Lend) (grant : Option ℕ)
+      → ended s now (asked_task occasion) None (Some answer)
+      (with_answered_pool s.tables (units_requested q) answer
+      (answered (granted (lent_at occasion) (refused_at occasion) grant)))
+      ≡ granted_answer occasion answer grant
+  by_grant (First dropped) answer None = refl
+  by_grant (First dropped) answer (Some units) = refl
+  by_grant (Again born left) answer None = refl
+  by_grant (Again born left) answer (Some units) = refl
 
   -- a reply to a request that is answered at once, or in progress
   lent_now : (occasion : Occasion) (units : ℕ)
@@ -100,8 +131,10 @@ module _ (s : State) (now : ℕ) (key : KeptKey) (request : Request)
       (reply_of q (Lent units) false s.tables.config.delay)))
       ≡ asked_answer occasion (Lent units) false
       (reply_of q (Lent units) false s.tables.config.delay)
-  lent_now (First dropped) units = refl
-  lent_now (Again born left) units = refl
+  lent_now (First dropped) units =
+      by_grant (First dropped) (Lent units) (grant_of q.least (Lent units))
+  lent_now (Again born left) units =
+      by_grant (Again born left) (Lent units) (grant_of q.least (Lent units))
 
   refused_now : (occasion : Occasion)
       → plan_ending s now (asked_task occasion) (plan_at occasion now (Some id) asking)
@@ -155,7 +188,7 @@ module _ (s : State) (now : ℕ) (key : KeptKey) (request : Request)
   ask_is (Again born left) = refl
 
   pools_are : (occasion : Occasion) (answer : Lend)
-      → (asked_tables occasion answer).pools ≡ pools_after_answer s.tables.pools q.pool answer
+      → (asked_tables occasion answer).pools ≡ pools_after_answer s.tables.pools (units_requested q) answer
   pools_are (First dropped) answer = refl
   pools_are (Again born left) answer = refl
 
@@ -185,12 +218,12 @@ module _ (s : State) (now : ℕ) (key : KeptKey) (request : Request)
             (pools_after_ask s.tables.pools ask (Some answer)) (asked_tables occasion answer).pools)
             (sym (ask_is occasion))
             (subst (λ (pools : List Figures). AreSameButLent
-            (pools_after_answer s.tables.pools q.pool answer) pools)
+            (pools_after_answer s.tables.pools (units_requested q) answer) pools)
             (sym (pools_are occasion answer))
-            (same_after_end (pools_after_answer s.tables.pools q.pool answer) None));
+            (same_after_end (pools_after_answer s.tables.pools (units_requested q) answer) None));
         counts = λ most h. subst (λ (pools : List Figures). All (HasCounts (most + 1)) pools)
             (sym (pools_are occasion answer))
-            (All-answer most s.tables.pools q.pool answer h (asks.may).pool);
+            (All-answer most s.tables.pools (units_requested q) answer h (asks.may).pool);
         births = λ h. born_kept_with s.kept s.steps before key occasion
             (state_after request reply w (term_of s.tables.config now));
         few = few;
@@ -216,7 +249,7 @@ pub does_answered : (old : State) (now : ℕ) (job : Job) (id : List ℕ)
     → reply ≡ reply_of q answer w old.tables.config.delay → length (encoding_of reply) ≤ 20000
     → tables ≡ heard_at (record old.tables {
       calls = calls_after_answer q answer old.tables.calls;
-      pools = pools_after_answer old.tables.pools q.pool answer;
+      pools = pools_after_answer old.tables.pools (units_requested q) answer;
     }) job.occasion now (Some id)
     → kept ≡ kept_with old.kept job.key job.occasion old.steps
     (state_after request reply w (term_of old.tables.config now))

@@ -24,7 +24,7 @@ use Rattle.zone_events.specs.declared.due_item.DueItem.TheVariants.{Registration
 use Rattle.zone_events.specs.declared.due_item.DueItem.TheVariants.{Silent, Retry, KeptOver}
 use Rattle.zone_events.specs.declared.due_item.DueItem.TheVariants.{PoolTurn}
 use Rattle.zone_events.specs.declared.outcome.Outcome.{Outcome}
-use Rattle.zone_tables.specs.Pools.{RequestedUnits}
+use Rattle.zone_tables.specs.Pools.{RequestedUnits, grant_of}
 use Rattle.zone_tables.proofs.Departing.{settings_stay}
 use Rattle.ras_requests.specs.Plans.{Served, Plan, Settled, Naming, Asking}
 use Rattle.ras_requests.specs.Requests.{endpoint_of, plan_of, seq_of}
@@ -34,7 +34,7 @@ use Rattle.ras_machine.specs.declared.job.Occasion.{Occasion}
 use Rattle.ras_machine.specs.declared.job.Occasion.TheVariants.{First, Again}
 use Rattle.ras_machine.specs.State.{State}
 use Rattle.ras_machine.specs.Soundness.{AllWaitInProgress, MayRequestUnits, WaitsInProgress}
-use Rattle.ras_machine.specs.Keeping.{Progress, Task, after_drop, answered, answered_by}
+use Rattle.ras_machine.specs.Keeping.{Progress, Task, after_drop, answered, granted}
 use Rattle.ras_machine.specs.Keeping.{in_progress}
 use Rattle.ras_machine.specs.Keeping.{kept_after, kept_with, plan_at, served_again}
 use Rattle.ras_machine.specs.Keeping.{state_after, waits}
@@ -130,7 +130,7 @@ module _ (s : State) (now : ℕ) (waiting : WaitIn s) where
       → ended s now task None (Some answer) (with_answered_pool s.tables ask answer
       (if w
       then in_progress s.tables.config.delay task.request refused
-      else answered (answered_by lent refused answer)))
+      else answered (granted lent refused (grant_of ask.least answer))))
       ≡ Some (outcome, after) → WaitIn after
   asked_so task ask lent refused answer true outcome after fits is =
       let delay = s.tables.config.delay in
@@ -139,16 +139,18 @@ module _ (s : State) (now : ℕ) (waiting : WaitIn s) where
       ended_so task None (Some answer)
       (with_answered_pool s.tables ask answer (in_progress delay task.request refused))
       outcome after fits.2 told is
-  asked_so task ask lent refused (Lent units) false outcome after fits is =
-      ended_so task None (Some (Lent units))
-      (with_answered_pool s.tables ask (Lent units) (answered (lent units)))
-      outcome after (fits.1 units) tt is
-  asked_so task ask lent refused Refused false outcome after fits is =
-      ended_so task None (Some Refused)
-      (with_answered_pool s.tables ask Refused (answered refused)) outcome after fits.2 tt is
-  asked_so task ask lent refused Wait false outcome after fits is =
-      ended_so task None (Some Wait)
-      (with_answered_pool s.tables ask Wait (answered refused)) outcome after fits.2 tt is
+  asked_so task ask lent refused answer false outcome after fits is =
+      by_grant (grant_of ask.least answer) is where
+        by_grant : (grant : Option ℕ)
+            → ended s now task None (Some answer) (with_answered_pool s.tables ask answer
+            (answered (granted lent refused grant))) ≡ Some (outcome, after) → WaitIn after
+        by_grant None is =
+            ended_so task None (Some answer)
+            (with_answered_pool s.tables ask answer (answered refused)) outcome after fits.2 tt is
+        by_grant (Some units) is =
+            ended_so task None (Some answer)
+            (with_answered_pool s.tables ask answer (answered (lent units)))
+            outcome after (fits.1 units) tt is
 
   served_so : (task : Task) (plan : Plan) (choices : Choices) (outcome : Outcome) (after : State)
       → IsPlanFor s.tables (MayRequestUnits task.request) plan

@@ -22,9 +22,8 @@ use Rattle.ras_machine.specs.declared.job.Occasion.TheVariants.{First, Again}
 use Rattle.zone_config.specs.declared.term.Term.{Term}
 use Rattle.zone_tables.specs.Tables.{Tables}
 use Rattle.ras_machine.specs.State.{State}
-use Rattle.zone_tables.specs.Pools.{pools_after_answer}
 use Rattle.ras_requests.specs.Plans.{Served, Plan, hearing}
-use Rattle.zone_tables.specs.Pools.{RequestedUnits}
+use Rattle.zone_tables.specs.Pools.{RequestedUnits, grant_of, pools_after_answer}
 use Rattle.ras_requests.specs.Requests.{seq_of}
 use Rattle.zone_config.specs.Terms.{term_of}
 
@@ -82,24 +81,23 @@ waits occasion (Lent units) = false
 waits occasion Refused = false
 waits occasion Wait = may_wait occasion
 
--- units that were lent are used; else the request is refused, also if it waited for the last time
-abbrev pub answered_by : (ℕ → Served) → Served → Lend → Served
-answered_by lent refused (Lent units) = lent units
-answered_by lent refused Refused = refused
-answered_by lent refused Wait = refused
+-- the units that it gets are used; without any it is refused, also if it waited for the last time
+abbrev pub granted : (ℕ → Served) → Served → Option ℕ → Served
+granted lent refused None = refused
+granted lent refused (Some units) = lent units
 
 -- what a pool's answer makes of it
-abbrev pub by_answer : ℕ → Task → (ℕ → Served) → Served → Lend → Progress
-by_answer delay task lent refused answer =
+abbrev pub by_answer : ℕ → Task → RequestedUnits → (ℕ → Served) → Served → Lend → Progress
+by_answer delay task ask lent refused answer =
     if waits task.job.occasion answer
     then in_progress delay task.request refused
-    else answered (answered_by lent refused answer)
+    else answered (granted lent refused (grant_of ask.least answer))
 
 -- and of the pool's figures
 abbrev pub with_answered_pool : Tables → RequestedUnits → Lend → Progress → Progress
 with_answered_pool z ask answer p = record p {
   served = record p.served {
-    tables = record p.served.tables { pools = pools_after_answer z.pools ask.pool answer };
+    tables = record p.served.tables { pools = pools_after_answer z.pools ask answer };
   };
 }
 

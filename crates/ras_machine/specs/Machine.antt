@@ -196,7 +196,7 @@ abbrev pub with_answer : State → ℕ → Task → RequestedUnits → (ℕ → 
 with_answer s now task ask lent refused None = None
 with_answer s now task ask lent refused (Some answer) =
     ended s now task None (Some answer) (with_answered_pool s.tables ask answer
-    (by_answer s.tables.config.delay task lent refused answer))
+    (by_answer s.tables.config.delay task ask lent refused answer))
 
 -- a request is served with what was chosen; nothing is returned if a choice that it calls for
 -- wasn't made

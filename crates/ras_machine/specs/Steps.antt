@@ -83,7 +83,7 @@ ask_in other = None
 
 -- the figures of the pools once one was asked, if one is
 abbrev pub pools_after_ask : List Figures → Option RequestedUnits → Option Lend → List Figures
-pools_after_ask pools (Some ask) (Some answer) = pools_after_answer pools ask.pool answer
+pools_after_ask pools (Some ask) (Some answer) = pools_after_answer pools ask answer
 pools_after_ask pools (Some ask) None = pools
 pools_after_ask pools None answer = pools
 

@@ -9,29 +9,33 @@ use Rattle.admission.specs.declared.call.Call.{Call}
 use Rattle.admission.specs.Calls.{in_use}
 use Rattle.zone_tables.specs.declared.unit_request.Purpose.TheVariants.{Raising}
 use Rattle.zone_tables.specs.Tables.{Tables}
-use Rattle.ras_requests.specs.Brq.{lowering, raising, resizing, staying, units_left, wanted}
+use Rattle.ras_requests.specs.Brq.{least_units, lowering, raising, resizing, staying, units_left}
+use Rattle.ras_requests.specs.Brq.{wanted}
 use Rattle.ras_requests.specs.Plans.{Settled, Asking}
 use Rattle.ras_requests.specs.Conclusions.{RequestsUnits}
 
-module _ (z : Tables) (q : BandwidthRequest) (call : Call) (w r n : ℕ) where
+module _ (z : Tables) (q : BandwidthRequest) (call : Call) (w r n l : ℕ) where
   pub RequestsUnits-resizing : fin.get z.calls q.call ≡ Some call → call.pool < length z.pools
       → in_use z.calls ≤ z.config.limit → w ≡ wanted z q.asked → call.units < w → r ≡ units_left z
-      → 0 < r → n ≡ min (w - call.units) r
+      → 0 < r → n ≡ min (w - call.units) r → l ≡ least_units z w - call.units
       → RequestsUnits z (resizing z q call) (record {
         seq = q.seq;
         endpoint = q.endpoint;
         call = q.call;
         pool = call.pool;
         units = n;
+        least = l;
         purpose = Raising call.units;
       })
-  RequestsUnits-resizing there below within w_is more r_is some n_is =
+  RequestsUnits-resizing there below within w_is more r_is some n_is l_is =
       let wants : nat_le (wanted z q.asked) call.units ≡ false =
       grind (arith, nat_tests, w_is, more) in
       let has : (units_left z == 0) ≡ false = grind (arith, nat_tests, r_is, some) in
       let units : min (wanted z q.asked - call.units) (units_left z) ≡ n =
       ap (λ x. min (x - call.units) (units_left z)) (sym w_is)
       ∙ (ap (λ x. min (w - call.units) x) (sym r_is) ∙ sym n_is) in
+      let least : least_units z (wanted z q.asked) - call.units ≡ l =
+      ap (λ x. least_units z x - call.units) (sym w_is) ∙ sym l_is in
       record {
         may = record {
           some = omega (arith, n_is, more, some);
@@ -53,6 +57,7 @@ module _ (z : Tables) (q : BandwidthRequest) (call : Call) (w r n : ℕ) where
             (record {
               pool = call.pool;
               units = min (wanted z q.asked - call.units) (units_left z);
+              least = least_units z (wanted z q.asked) - call.units;
             })
             (raising z q call) (staying z q call)) wants
             ∙ (ap (λ (b : Bool). if b then Settled (staying z q call)
@@ -60,8 +65,9 @@ module _ (z : Tables) (q : BandwidthRequest) (call : Call) (w r n : ℕ) where
             (record {
               pool = call.pool;
               units = min (wanted z q.asked - call.units) (units_left z);
+              least = least_units z (wanted z q.asked) - call.units;
             })
             (raising z q call) (staying z q call)) has
-            ∙ ap (λ (x : ℕ). Asking (record { pool = call.pool; units = x }) (raising z q call)
-            (staying z q call)) units);
+            ∙ (λ i. Asking (record { pool = call.pool; units = units i; least = least i })
+            (raising z q call) (staying z q call)));
       }

@@ -17,7 +17,7 @@ use Rattle.admission.specs.Calls.{new_call, with_leg}
 use Rattle.zone_tables.specs.Tables.{Tables, with_calls}
 use Rattle.zone_config.specs.Networks.{pool_of}
 use Rattle.ras_requests.specs.Standing.{Standing, NoCall, NoLeg, HasLeg, standing}
-use Rattle.ras_requests.specs.Brq.{units_left, wanted}
+use Rattle.ras_requests.specs.Brq.{least_units, units_left, wanted}
 use Rattle.ras_requests.specs.Plans.{Served, Plan, Settled, Asking, unchanged}
 
 -- address translation: the endpoint that answers a call is told its own address; the one that makes
@@ -42,13 +42,17 @@ opening_call z q pool told units = record {
 }
 
 -- a new call: it has to have a place; it opens without units if it wants none; else the zone has
--- to have units left, and the pool that serves the endpoint is asked
+-- to have units left, and the pool that serves the endpoint is asked, which has to lend the least
 abbrev pub making : Tables → AdmissionRequest → ℕ → Address → Plan
 making z q pool told =
     if len z.calls == z.config.calls then Settled (denial z q ResourceUnavailable)
     else if wanted z q.asked == 0 then Settled (opening_call z q pool told 0)
     else if units_left z == 0 then Settled (denial z q RequestDenied)
-    else Asking (record { pool = pool; units = min (wanted z q.asked) (units_left z) })
+    else Asking (record {
+      pool = pool;
+      units = min (wanted z q.asked) (units_left z);
+      least = least_units z (wanted z q.asked);
+    })
     (opening_call z q pool told) (denial z q RequestDenied)
 
 -- the second endpoint joins a call, which uses no further units

@@ -24,6 +24,10 @@ units_left z = z.config.limit - in_use z.calls
 abbrev pub wanted : Tables → ℕ → ℕ
 wanted z asked = min asked z.config.call_limit
 
+-- the least units with which a pool's loan may leave a call that wants these
+abbrev pub least_units : Tables → ℕ → ℕ
+least_units z wanted = min z.config.least_grant wanted
+
 -- a call that needs no more than these units gives the others back
 abbrev pub lowering : Tables → BandwidthRequest → Call → ℕ → Served
 lowering z q call units = record {
@@ -45,8 +49,8 @@ raising z q call more = record {
 abbrev pub staying : Tables → BandwidthRequest → Call → Served
 staying z q call = unchanged z (Brj q.seq InsufficientResources call.units)
 
--- a call that needs no more than it has; one for which no units are left; and one for which
--- its pool is asked
+-- A call that needs no more than it has; one for which no units are left; and one for which
+-- its pool is asked: with what the pool lends, the call has to have the least.
 abbrev pub resizing : Tables → BandwidthRequest → Call → Plan
 resizing z q call =
     if nat_le (wanted z q.asked) call.units then Settled (lowering z q call (wanted z q.asked))
@@ -54,6 +58,7 @@ resizing z q call =
     else Asking (record {
       pool = call.pool;
       units = min (wanted z q.asked - call.units) (units_left z);
+      least = least_units z (wanted z q.asked) - call.units;
     })
     (raising z q call) (staying z q call)
 

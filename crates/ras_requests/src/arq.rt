@@ -9,7 +9,7 @@ ghost use Rattle.ras_requests.specs.Standing.{NoCall, standing_in};
 ghost use Rattle.zone_config.specs.Networks.{pool_of};
 ghost use Rattle.ras_requests.specs.Conclusions.{Concludes, Decides, IsFor};
 
-use crate::brq::{units_left, wanted};
+use crate::brq::{least_units, units_left, wanted};
 use crate::conclusion::{Conclusion, Decision};
 use admission::{Call, Leg};
 use ras_module::{Address, AdmissionRejectReason, AdmissionRequest, Reply};
@@ -86,6 +86,7 @@ fn make(
         call: q.call,
         pool,
         units: u64::from(wanted).min(left) as u32,
+        least: least_units(tables, wanted),
         purpose: Purpose::Opening(leg_told(q, told)),
     })
 }

@@ -2,7 +2,7 @@
 
 ghost use Rattle.std.specs.Prelude.{◌≡◌, ◌≤◌, ◌-◌, None, Some};
 ghost use Rattle.std.specs.FinMap as fin;
-ghost use Rattle.ras_requests.specs.Brq.{bandwidth, resizing, units_left, wanted};
+ghost use Rattle.ras_requests.specs.Brq.{bandwidth, least_units, resizing, units_left, wanted};
 ghost use Rattle.zone_tables.specs.Soundness.{SoundTables};
 ghost use Rattle.ras_requests.specs.Conclusions.{Concludes, IsFor};
 
@@ -27,6 +27,13 @@ pub(crate) fn wanted(tables: &ZoneTables, asked: u32) -> u32
     asked.min(tables.config().call_limit())
 }
 
+/// The least units with which a pool's loan may leave a call that wants these.
+pub(crate) fn least_units(tables: &ZoneTables, wanted: u32) -> u32
+    ensures { result ≡ least_units tables.now wanted }
+{
+    tables.config().least_grant().min(wanted)
+}
+
 /// A call gives units back, or its pool is asked for more.
 fn resize(tables: &ZoneTables, now: Moment, q: &BandwidthRequest, call: &Call) -> Conclusion
     requires call { fin.get tables.now.calls q.now.call ≡ Some call.now }
@@ -49,6 +56,7 @@ fn resize(tables: &ZoneTables, now: Moment, q: &BandwidthRequest, call: &Call) -
         call: q.call,
         pool: call.pool,
         units: u64::from(wanted - call.units).min(left) as u32,
+        least: least_units(tables, wanted).saturating_sub(call.units),
         purpose: Purpose::Raising(call.units),
     })
 }

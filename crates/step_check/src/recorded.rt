@@ -23,7 +23,7 @@ impl Lender for Recorded {
     ghost lends = { λ old figures requested answer new.
         Repeats old.answer (figures_at figures requested.pool) requested.units answer };
 
-    fn ask(&mut self, pools: &PoolFigures, pool: usize, units: u64) -> Lend {
+    fn ask(&mut self, pools: &PoolFigures, pool: usize, units: u64, _least: u64) -> Lend {
         repeated(pools.get(pool), units, self.answer)
     }
 }

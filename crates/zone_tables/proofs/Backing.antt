@@ -1,7 +1,7 @@
 -- Calls stay backed by the pools, within the limits, as they open, change and end.
 use Rattle.std.proofs.Common.{◌≡◌, ◌<◌, ◌≤◌, ◌+◌, ◌^◌, All, ℕ, Bool, true, false, List, length}
 use Rattle.std.proofs.Common.{refl, sym, ◌∙◌, ap, subst, arith, Some, None}
-use Rattle.std.specs.Prelude.{Option, IfOk, IsSome, Ok, Result, slice_set}
+use Rattle.std.specs.Prelude.{Option, IfOk, IsSome, Ok, Result, if◌then◌else◌, nat_lt, slice_set}
 use Rattle.std.specs.FinMap as fin
 use Rattle.std.proofs.lemmas.List.{length-set}
 use Rattle.keyed.proofs.Sums.{total-empty}
@@ -32,15 +32,16 @@ use Rattle.zone_tables.specs.declared.unit_request.Purpose.{Purpose}
 use Rattle.zone_tables.specs.declared.unit_request.Purpose.TheVariants.{Opening, Raising}
 use Rattle.zone_tables.specs.Pools.{AreWithinLimits, IsIdle, MayBeAsked, figures_at}
 use Rattle.zone_tables.specs.Pools.{figures_after_return}
-use Rattle.zone_tables.specs.Pools.{pools_after_answer}
+use Rattle.zone_tables.specs.Pools.{grant_of, pools_after_answer}
 use Rattle.zone_tables.specs.Pools.{pools_after_return, pools_after_end}
 use Rattle.zone_tables.specs.Parts.{Lending, Usage, IsBacked, IsSoundUsage, with_usage}
 use Rattle.zone_tables.specs.UnitRequests.{IsEnterable, IsGrantable, IsPurpose}
-use Rattle.zone_tables.specs.UnitRequests.{IsUnitRequest, granted_calls, calls_after_answer}
+use Rattle.zone_tables.specs.UnitRequests.{IsUnitRequest, calls_after_answer, calls_with_grant}
+use Rattle.zone_tables.specs.UnitRequests.{granted_calls, units_requested}
 use Rattle.zone_tables.specs.Changes.{IsOpenable, IsJoinable, IsLowerable}
 use Rattle.zone_tables.specs.Soundness.{HasCounts}
 use Rattle.zone_tables.proofs.Answered.{if_ok, is_there}
-use Rattle.zone_tables.proofs.Lending.{lent-opened, lent-opened_empty, lent-joined, lent-refused}
+use Rattle.zone_tables.proofs.Lending.{lent-same, lent-opened, lent-opened_empty, lent-joined, lent-refused}
 use Rattle.zone_tables.proofs.Lending.{lent-waiting, lent-part, lent-raised, lent-lowered}
 use Rattle.zone_tables.proofs.Lending.{lent-left}
 
@@ -154,7 +155,7 @@ module _ (u : Usage) (b : IsBacked u) (q : UnitRequest) (may : IsUnitRequest u q
   lent_for : (n : ℕ) → IsAnswer (figures_at u.pools q.pool) q.units (Lent n) → (p : Purpose)
       → IsPurpose u q p
       → IsBacked (with_usage u (granted_calls q p n u.calls)
-      (pools_after_answer u.pools q.pool (Lent n)))
+      (slice_set u.pools q.pool (figures_after_answer (figures_at u.pools q.pool) (Lent n))))
   lent_for n fits (Opening leg) can = record {
     small = b.small;
     lent = lent-opened u.pools u.calls q.call b.lent q.pool n leg can.0.absent may.pool;
@@ -168,9 +169,11 @@ module _ (u : Usage) (b : IsBacked u) (q : UnitRequest) (may : IsUnitRequest u q
   }
   lent_for n fits (Raising had) can =
       subst (λ h. IsBacked (with_usage u (update u.calls q.call (with_units (h + n)))
-      (pools_after_answer u.pools q.pool (Lent n)))) can.units_are
+      (slice_set u.pools q.pool (figures_after_answer (figures_at u.pools q.pool) (Lent n)))))
+      can.units_are
       (subst (λ p. IsBacked (with_usage u (update u.calls q.call (with_units (can.call.units + n)))
-      (pools_after_answer u.pools p (Lent n)))) can.pool_is (record {
+      (slice_set u.pools p (figures_after_answer (figures_at u.pools p) (Lent n)))))
+      can.pool_is (record {
         small = b.small;
         lent = lent-raised u.pools u.calls q.call b.lent can.call can.there
             (b.pools q.call can.call can.there) n;
@@ -229,8 +232,21 @@ module _ (u : Usage) (b : IsBacked u) (q : UnitRequest) (may : IsUnitRequest u q
 
   pub IsBacked-answer : (answer : Lend) → IsAnswer (figures_at u.pools q.pool) q.units answer
       → IsBacked (with_usage u (calls_after_answer q answer u.calls)
-      (pools_after_answer u.pools q.pool answer))
-  IsBacked-answer (Lent n) fits = lent_for n fits q.purpose may.purpose
+      (pools_after_answer u.pools (units_requested q) answer))
+  IsBacked-answer (Lent n) fits = by_test (nat_lt n q.least) where
+    by_test : (b : Bool)
+        → IsBacked (with_usage u (calls_with_grant q (if b then None else Some n) u.calls)
+        (slice_set u.pools q.pool (if b
+        then figures_at u.pools q.pool
+        else figures_after_answer (figures_at u.pools q.pool) (Lent n))))
+    by_test true = record {
+      small = b.small;
+      lent = lent-same u.pools u.calls q.call b.lent q.pool may.pool;
+      pools = kept_length u.calls u.pools q.pool (figures_at u.pools q.pool) b.pools;
+      call_limit = b.call_limit;
+      limit = b.limit;
+    }
+    by_test false = lent_for n fits q.purpose may.purpose
   IsBacked-answer Refused fits = record {
     small = b.small;
     lent = lent-refused u.pools u.calls q.call b.lent q.pool may.pool;

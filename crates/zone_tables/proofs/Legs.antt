@@ -36,7 +36,9 @@ use Rattle.zone_tables.specs.Soundness.{HaveEndpoints}
 use Rattle.zone_tables.specs.Changes.{IsCallChange, IsFree, IsRegistered}
 use Rattle.zone_tables.specs.Changes.{after_endpoint_change}
 use Rattle.zone_tables.specs.Changes.{calls_after, leg_added, pools_after}
-use Rattle.zone_tables.specs.UnitRequests.{calls_after_answer, granted_calls, leg_of_purpose}
+use Rattle.zone_tables.specs.UnitRequests.{calls_after_answer, calls_with_grant, granted_calls}
+use Rattle.zone_tables.specs.UnitRequests.{leg_of_purpose}
+use Rattle.zone_tables.specs.Pools.{grant_of}
 use Rattle.zone_tables.proofs.Backing.{call_with_leg, length-after_end}
 
 -- each endpoint that was registered still is
@@ -140,15 +142,17 @@ legs-calls live u (Leaving key endpoint) have can is =
 pub legs-answer : (live : Live) (calls : OpenCalls) (q : UnitRequest) (answer : Lend)
     → HaveEndpoints live calls → IfSome (leg_of_purpose q.purpose) (IsRegistered live)
     → HaveEndpoints live (calls_after_answer q answer calls)
-legs-answer live calls q (Lent units) have is = by_purpose q.purpose is where
-  by_purpose : (p : Purpose) → IfSome (leg_of_purpose p) (IsRegistered live)
+legs-answer live calls q answer have is = by_grant (grant_of q.least answer) where
+  by_purpose : (units : ℕ) (p : Purpose) → IfSome (leg_of_purpose p) (IsRegistered live)
       → HaveEndpoints live (granted_calls q p units calls)
-  by_purpose (purpose.Opening leg) is =
+  by_purpose units (purpose.Opening leg) is =
       EachLeg-open (IsRegistered live) calls q.call have q.pool units leg is
-  by_purpose (purpose.Raising had) is =
+  by_purpose units (purpose.Raising had) is =
       EachLeg-set_units (IsRegistered live) calls q.call have (had + units)
-legs-answer live calls q Refused have is = have
-legs-answer live calls q Wait have is = have
+
+  by_grant : (grant : Option ℕ) → HaveEndpoints live (calls_with_grant q grant calls)
+  by_grant None = have
+  by_grant (Some units) = by_purpose units q.purpose is
 
 -- the number of pools stays
 pub length-pools_after : (change : CallChange) (calls : OpenCalls) (pools : List Figures)

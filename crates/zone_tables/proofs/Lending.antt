@@ -19,7 +19,7 @@ use Rattle.admission.proofs.Soundness.{in_use_of-left, in_use_of-ended, total-pa
 use Rattle.pools.specs.declared.interface.Figures.{Figures}
 use Rattle.pools.specs.declared.interface.Lend.TheVariants.{Lent, Refused, Wait}
 use Rattle.pools.specs.Account.{figures_after_answer}
-use Rattle.zone_tables.specs.Pools.{figures_at, pools_after_answer, pools_after_return}
+use Rattle.zone_tables.specs.Pools.{figures_at, pools_after_return}
 use Rattle.zone_tables.specs.Pools.{pools_after_end, figures_after_return}
 use Rattle.zone_tables.specs.Soundness.{IsLentTo}
 use Rattle.zone_tables.proofs.OnePool.{figures_here, figures_elsewhere}
@@ -59,7 +59,7 @@ IsLentTo-calls pools calls new lent same p below = lent p below ∙ sym (same p)
 module _ (pools : List Figures) (calls : OpenCalls) (key : CallKey)
     (lent : IsLentTo pools calls) where
   pub lent-opened : (i units : ℕ) (leg : Leg) → fin.get calls key ≡ None → i < length pools
-      → IsLentTo (pools_after_answer pools i (Lent units))
+      → IsLentTo (slice_set pools i (figures_after_answer (figures_at pools i) (Lent units)))
       (fin.insert calls key (new_call i units leg))
   lent-opened i units leg absent below =
       IsLentTo-set pools calls (fin.insert calls key (new_call i units leg)) i
@@ -88,15 +88,23 @@ module _ (pools : List Figures) (calls : OpenCalls) (key : CallKey)
       IsLentTo-calls pools calls (update calls key (with_leg leg)) lent
       (λ p. in_use_of-join calls key p call leg there)
 
+  -- a loan that went back
+  pub lent-same : (i : ℕ) → i < length pools
+      → IsLentTo (slice_set pools i (figures_at pools i)) calls
+  lent-same i below =
+      IsLentTo-set pools calls calls i (figures_at pools i) lent below
+      (lent i below) (λ p differ. refl)
+
   -- an answer that is no loan
   pub lent-refused : (i : ℕ) → i < length pools
-      → IsLentTo (pools_after_answer pools i Refused) calls
+      → IsLentTo (slice_set pools i (figures_after_answer (figures_at pools i) Refused)) calls
   lent-refused i below =
       IsLentTo-set pools calls calls i
       (figures_after_answer (figures_at pools i) Refused) lent below
       (lent i below) (λ p differ. refl)
 
-  pub lent-waiting : (i : ℕ) → i < length pools → IsLentTo (pools_after_answer pools i Wait) calls
+  pub lent-waiting : (i : ℕ) → i < length pools
+      → IsLentTo (slice_set pools i (figures_after_answer (figures_at pools i) Wait)) calls
   lent-waiting i below =
       IsLentTo-set pools calls calls i (figures_after_answer (figures_at pools i) Wait) lent below
       (lent i below) (λ p differ. refl)
@@ -134,7 +142,8 @@ module _ (pools : List Figures) (calls : OpenCalls) (key : CallKey)
         )
 
     pub lent-raised : (more : ℕ)
-        → IsLentTo (pools_after_answer pools call.pool (Lent more))
+        → IsLentTo (slice_set pools call.pool
+        (figures_after_answer (figures_at pools call.pool) (Lent more)))
         (update calls key (with_units (call.units + more)))
     lent-raised more =
         IsLentTo-set pools calls (update calls key (with_units (call.units + more))) call.pool

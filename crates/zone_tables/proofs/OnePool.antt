@@ -1,14 +1,17 @@
 -- The figures of pools, as one of them changes.
-use Rattle.std.proofs.Common.{◌≡◌, ◌≢◌, ◌<◌, ◌≤◌, ◌+◌, ℕ, List, length}
+use Rattle.std.proofs.Common.{◌≡◌, ◌≢◌, ◌<◌, ◌≤◌, ◌+◌, ℕ, Bool, true, false, List, length}
 use Rattle.std.proofs.Common.{get_or, set, All, arith}
+use Rattle.std.specs.Prelude.{if◌then◌else◌}
 use Rattle.std.proofs.lemmas.List.{get_or-set_other}
 use Rattle.std.proofs.lemmas.List.Elements.{All-set}
 use Rattle.std.proofs.lemmas.Grind.{get_or-set_at}
 use Rattle.pools.specs.declared.interface.Figures.{Figures}
 use Rattle.pools.specs.declared.interface.Lend.{Lend}
 use Rattle.pools.specs.declared.interface.Lend.TheVariants.{Lent, Refused, Wait}
-use Rattle.pools.specs.Account.{IsAnswer, opening_account, figures_after_answer}
-use Rattle.zone_tables.specs.Pools.{AreWithinLimits, figures_at, pools_after_answer}
+use Rattle.pools.specs.Account.{IsAnswer, figures_after_answer, figures_after_least}
+use Rattle.pools.specs.Account.{is_too_small, opening_account}
+use Rattle.zone_tables.specs.Pools.{AreWithinLimits, RequestedUnits, figures_at}
+use Rattle.zone_tables.specs.Pools.{pools_after_answer}
 use Rattle.zone_tables.specs.Pools.{figures_after_return, pools_after_return}
 use Rattle.zone_tables.specs.Soundness.{HasCounts}
 
@@ -45,13 +48,25 @@ counts-answer most f Wait h = record {
   waits = omega (arith, h.waits);
 }
 
+-- a loan that is too small goes back
+either : (P : Figures → Type 0) (f g : Figures) (b : Bool) → P f → P g → P (if b then f else g)
+either P f g true hf hg = hf
+either P f g false hf hg = hg
+
+pub after_least : (P : Figures → Type 0) (f : Figures) (least : ℕ) (answer : Lend) → P f
+    → P (figures_after_answer f answer) → P (figures_after_least f least answer)
+after_least P f least answer = either P f (figures_after_answer f answer) (is_too_small least answer)
+
 -- an answer counts at most one refusal and one wait
-pub All-answer : (most : ℕ) (pools : List Figures) (i : ℕ) (answer : Lend)
-    → All (HasCounts most) pools → i < length pools
-    → All (HasCounts (most + 1)) (pools_after_answer pools i answer)
-All-answer most pools i answer h below =
-    All-set (HasCounts (most + 1)) pools i (figures_after_answer (figures_at pools i) answer)
-    (counts-answer most (figures_at pools i) answer (h i (opening_account 0).figures below))
+pub All-answer : (most : ℕ) (pools : List Figures) (ask : RequestedUnits) (answer : Lend)
+    → All (HasCounts most) pools → ask.pool < length pools
+    → All (HasCounts (most + 1)) (pools_after_answer pools ask answer)
+All-answer most pools ask answer h below =
+    let f = figures_at pools ask.pool in
+    let here : HasCounts most f = h ask.pool (opening_account 0).figures below in
+    All-set (HasCounts (most + 1)) pools ask.pool (figures_after_least f ask.least answer)
+    (after_least (HasCounts (most + 1)) f ask.least answer (HasCounts-more most f here)
+    (counts-answer most f answer here))
     (All-more most pools h)
 
 -- no limit is passed by an answer that may be given, nor by units that come back
@@ -62,13 +77,17 @@ answer_within f units (Lent n) fits within = fits.2
 answer_within f units Refused fits within = within
 answer_within f units Wait fits within = within
 
-pub AreWithinLimits-answer : (pools : List Figures) (i units : ℕ) (answer : Lend)
-    → AreWithinLimits pools → i < length pools → IsAnswer (figures_at pools i) units answer
-    → AreWithinLimits (pools_after_answer pools i answer)
-AreWithinLimits-answer pools i units answer h below fits =
-    All-set (λ (f : Figures). f.lent ≤ f.limit) pools i
-    (figures_after_answer (figures_at pools i) answer)
-    (answer_within (figures_at pools i) units answer fits (h i (opening_account 0).figures below)) h
+pub AreWithinLimits-answer : (pools : List Figures) (ask : RequestedUnits) (answer : Lend)
+    → AreWithinLimits pools → ask.pool < length pools
+    → IsAnswer (figures_at pools ask.pool) ask.units answer
+    → AreWithinLimits (pools_after_answer pools ask answer)
+AreWithinLimits-answer pools ask answer h below fits =
+    let f = figures_at pools ask.pool in
+    let here : f.lent ≤ f.limit = h ask.pool (opening_account 0).figures below in
+    All-set (λ (f : Figures). f.lent ≤ f.limit) pools ask.pool
+    (figures_after_least f ask.least answer)
+    (after_least (λ (f : Figures). f.lent ≤ f.limit) f ask.least answer here
+    (answer_within f ask.units answer fits here)) h
 
 pub AreWithinLimits-return : (pools : List Figures) (i n : ℕ) → AreWithinLimits pools
     → i < length pools → AreWithinLimits (pools_after_return pools i n)

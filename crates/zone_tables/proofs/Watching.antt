@@ -34,7 +34,9 @@ use Rattle.pools.specs.declared.interface.Lend.TheVariants.{Lent, Refused, Wait}
 use Rattle.zone_tables.specs.declared.unit_request.UnitRequest.{UnitRequest}
 use Rattle.zone_tables.specs.declared.unit_request.Purpose.{Purpose}
 use Rattle.zone_tables.specs.declared.unit_request.Purpose.TheVariants as purpose
-use Rattle.zone_tables.specs.UnitRequests.{IsPurpose, calls_after_answer, granted_calls}
+use Rattle.zone_tables.specs.UnitRequests.{IsPurpose, calls_after_answer, calls_with_grant}
+use Rattle.zone_tables.specs.UnitRequests.{granted_calls}
+use Rattle.zone_tables.specs.Pools.{grant_of}
 use Rattle.zone_tables.specs.Changes.{IsCallChange, after_endpoint_change, calls_after}
 use Rattle.zone_tables.specs.Parts.{Usage}
 use Rattle.zone_tables.specs.inside.Watched.{AreOthersWatched, AreWatched, IsWatched}
@@ -92,19 +94,22 @@ legs_of_others u (Leaving key endpoint) can q differ =
 pub legs_after_answer : (u : Usage) (q : UnitRequest) (answer : Lend) → IsPurpose u q q.purpose
     → (x : List ℕ) → ((leg : Leg) → q.purpose ≡ purpose.Opening leg → leg.endpoint ≢ x)
     → legs_of (calls_after_answer q answer u.calls) x ≡ legs_of u.calls x
-legs_after_answer u q (Lent units) can x other = by_purpose q.purpose refl can where
-  by_purpose : (p : Purpose) → q.purpose ≡ p → IsPurpose u q p
+legs_after_answer u q answer can x other = by_grant (grant_of q.least answer) where
+  by_purpose : (units : ℕ) (p : Purpose) → q.purpose ≡ p → IsPurpose u q p
       → legs_of (granted_calls q p units u.calls) x ≡ legs_of u.calls x
-  by_purpose (purpose.Opening leg) is can =
+  by_purpose units (purpose.Opening leg) is can =
       omega (
         arith,
         legs_of-open u.calls q.call x q.pool units leg can.0.absent,
         one_if_other leg.endpoint x (other leg is),
       )
-  by_purpose (purpose.Raising had) is can =
+  by_purpose units (purpose.Raising had) is can =
       legs_of-set_units u.calls q.call x can.call (had + units) can.there
-legs_after_answer u q Refused can x other = refl
-legs_after_answer u q Wait can x other = refl
+
+  by_grant : (grant : Option ℕ)
+      → legs_of (calls_with_grant q grant u.calls) x ≡ legs_of u.calls x
+  by_grant None = refl
+  by_grant (Some units) = by_purpose units q.purpose refl can
 
 -- a change of the endpoints changes one registration
 pub live_of_others : (live : Live) (now : ℕ) (change : EndpointChange) (q : List ℕ)

@@ -1,9 +1,11 @@
 -- The figures of a zone's pools.
 use Rattle.std.specs.Prelude.{ℕ, ◌≡◌, ◌≤◌, ◌<◌, ◌-◌, ◌^◌, List, All, length, map}
-use Rattle.std.specs.Prelude.{slice_index_or, slice_set, Option, None, Some}
+use Rattle.std.specs.Prelude.{slice_index_or, slice_set, Option, None, Some, nat_lt}
+use Rattle.std.specs.Prelude.{if◌then◌else◌}
 use Rattle.pools.specs.declared.interface.Figures.{Figures}
 use Rattle.pools.specs.declared.interface.Lend.{Lend}
-use Rattle.pools.specs.Account.{Account, opening_account, figures_after_answer}
+use Rattle.pools.specs.declared.interface.Lend.TheVariants.{Lent, Refused, Wait}
+use Rattle.pools.specs.Account.{Account, opening_account, figures_after_least}
 
 -- the figures of each account
 abbrev pub figures_of : List Account → List Figures
@@ -23,10 +25,23 @@ pub record IsIdle (f : Figures) : Type 0 where
 abbrev pub figures_at : List Figures → ℕ → Figures
 figures_at pools pool = slice_index_or pools pool (opening_account 0).figures
 
--- a pool gave this answer: no other pool changes
-abbrev pub pools_after_answer : List Figures → ℕ → Lend → List Figures
-pools_after_answer pools pool answer =
-    slice_set pools pool (figures_after_answer (figures_at pools pool) answer)
+-- the units that are requested of a pool, and the least that are of use
+pub record RequestedUnits : Type 0 where
+  pub pool : ℕ
+  pub units : ℕ
+  pub least : ℕ
+
+-- A pool gave this answer to a request: no other pool changes. A loan of fewer units than the least
+-- goes back in the same step.
+abbrev pub pools_after_answer : List Figures → RequestedUnits → Lend → List Figures
+pools_after_answer pools ask answer =
+    slice_set pools ask.pool (figures_after_least (figures_at pools ask.pool) ask.least answer)
+
+-- the units that a request gets by an answer: those of a loan, unless they are fewer than the least
+abbrev pub grant_of : ℕ → Lend → Option ℕ
+grant_of least (Lent units) = if nat_lt units least then None else Some units
+grant_of least Refused = None
+grant_of least Wait = None
 
 abbrev pub figures_after_return : Figures → ℕ → Figures
 figures_after_return f n = record f { lent = f.lent - n }
@@ -40,11 +55,6 @@ pools_after_return pools pool n =
 abbrev pub pools_after_end : List Figures → Option (ℕ × ℕ) → List Figures
 pools_after_end pools None = pools
 pools_after_end pools (Some freed) = pools_after_return pools freed.0 freed.1
-
--- the units that are requested of a pool
-pub record RequestedUnits : Type 0 where
-  pub pool : ℕ
-  pub units : ℕ
 
 -- Units may be requested of a pool: from one to the most that a BandWidth of H.225.0 names, while
 -- there is room to count one more refusal and one more wait.

@@ -15,15 +15,15 @@ use Rattle.zone_tables.specs.declared.unit_request.Purpose.TheVariants as purpos
 use Rattle.zone_tables.specs.declared.unit_request.UnitRequest.{UnitRequest}
 use Rattle.pools.specs.declared.interface.Lend.{Lend}
 use Rattle.pools.specs.declared.interface.Lend.TheVariants.{Lent, Refused, Wait}
-use Rattle.zone_tables.specs.Pools.{RequestedUnits}
+use Rattle.zone_tables.specs.Pools.{RequestedUnits, grant_of}
 use Rattle.zone_tables.specs.Parts.{Usage}
 use Rattle.zone_tables.specs.Changes.{IsOpenable}
 
--- the units that a request is for, and their pool
+-- the units that a request is for, the least that are of use to it, and their pool
 abbrev pub units_requested : UnitRequest → RequestedUnits
-units_requested q = record { pool = q.pool; units = q.units }
+units_requested q = record { pool = q.pool; units = q.units; least = q.least }
 
--- the reply if these units were lent, and the calls then
+-- the reply if the request gets these units, and the calls then
 abbrev pub granted_reply : UnitRequest → Purpose → ℕ → Reply
 granted_reply q (purpose.Opening leg) units = Acf q.seq units leg.told
 granted_reply q (purpose.Raising had) units = Bcf q.seq (had + units)
@@ -32,7 +32,7 @@ abbrev pub granted_calls : UnitRequest → Purpose → ℕ → OpenCalls → Ope
 granted_calls q (purpose.Opening leg) units calls = insert calls q.call (new_call q.pool units leg)
 granted_calls q (purpose.Raising had) units calls = update calls q.call (with_units (had + units))
 
--- the reply if no units were lent
+-- the reply if it gets none
 abbrev pub refused_reply : UnitRequest → Purpose → Reply
 refused_reply q (purpose.Opening leg) = Arj q.seq RequestDenied
 refused_reply q (purpose.Raising had) = Brj q.seq InsufficientResources had
@@ -43,10 +43,12 @@ IsBandWidth (purpose.Opening leg) units = Unit {0}
 IsBandWidth (purpose.Raising had) units = had + units < 2 ^ 32
 
 -- the calls after an answer
+abbrev pub calls_with_grant : UnitRequest → Option ℕ → OpenCalls → OpenCalls
+calls_with_grant q None calls = calls
+calls_with_grant q (Some units) calls = granted_calls q q.purpose units calls
+
 abbrev pub calls_after_answer : UnitRequest → Lend → OpenCalls → OpenCalls
-calls_after_answer q (Lent units) calls = granted_calls q q.purpose units calls
-calls_after_answer q Refused calls = calls
-calls_after_answer q Wait calls = calls
+calls_after_answer q answer calls = calls_with_grant q (grant_of q.least answer) calls
 
 -- a call may be lent more by its pool
 pub record IsRaisable (u : Usage) (q : UnitRequest) (had : ℕ) : Type 0 where
@@ -84,10 +86,12 @@ leg_of_purpose (purpose.Opening leg) = Some leg
 leg_of_purpose (purpose.Raising had) = None
 
 -- the reply after a pool's answer, if the request no longer waits: a wait then counts as a refusal
+abbrev pub reply_with_grant : UnitRequest → Option ℕ → Reply
+reply_with_grant q None = refused_reply q q.purpose
+reply_with_grant q (Some units) = granted_reply q q.purpose units
+
 abbrev pub reply_after : UnitRequest → Lend → Reply
-reply_after q (Lent units) = granted_reply q q.purpose units
-reply_after q Refused = refused_reply q q.purpose
-reply_after q Wait = refused_reply q q.purpose
+reply_after q answer = reply_with_grant q (grant_of q.least answer)
 
 -- the same, or a RequestInProgress
 abbrev pub reply_of : UnitRequest → Lend → Bool → ℕ → Reply

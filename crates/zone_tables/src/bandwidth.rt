@@ -248,8 +248,8 @@ impl Bandwidth {
         }
     }
 
-    /// Requests units of a pool, once, for a call. If units are lent, the call opens with them, or
-    /// gets them if it is open. This takes no memory.
+    /// Requests units of a pool, once, for a call. If enough units are lent, the call opens with
+    /// them, or gets them if it is open. This takes no memory.
     pub fn request_units<L: Lender>(&mut self, request: &UnitRequest, lender: &mut L) -> Lend
         requires figures { L.lends_for lender.old self.old.usage.pools }
         requires room { 0 < self.old.room }
@@ -259,28 +259,29 @@ impl Bandwidth {
             request.now.units result }
         ensures usage { self.new.usage ≡ with_usage self.old.usage
             (calls_after_answer request.now result self.old.usage.calls)
-            (pools_after_answer self.old.usage.pools request.now.pool result) }
+            (pools_after_answer self.old.usage.pools (units_requested request.now) result) }
         ensures lends { L.lends lender.old self.old.usage.pools (units_requested request.now) result
             lender.new }
         ensures sound { IsSoundUsage self.new.usage }
     {
         let units = u64::from(request.units);
-        let answer = lender.ask(&self.pools, request.pool, units);
-        self.pools.note_answer(request.pool, units, answer);
+        let least = u64::from(request.least);
+        let answer = lender.ask(&self.pools, request.pool, units, least);
+        self.pools.note_answer(request.pool, units, least, answer);
         enter(&mut self.calls, request, answer);
         answer
     }
 }
 
-/// Enters a pool's answer into the calls. If units were lent, a call opens with them, or gets them
-/// if it is open.
+/// Enters a pool's answer into the calls. If the request gets units by it, a call opens with them,
+/// or gets them if it is open.
 fn enter(calls: &mut Calls, request: &UnitRequest, answer: Lend)
     requires { IsEnterable calls.old request.now answer }
     ensures calls { calls.new.calls ≡ calls_after_answer request.now answer calls.old.calls }
     ensures most { calls.new.most ≡ calls.old.most }
     ensures sound { IsConsistent calls.old → IsConsistent calls.new }
 {
-    let Lend::Lent(units) = answer else {
+    let Some(units) = request.grant(answer) else {
         return;
     };
     match request.purpose {

@@ -2,7 +2,7 @@
 
 ghost use Rattle.std.specs.Prelude.{◌↔◌, IsTrue};
 ghost use Rattle.std.specs.Prelude.{◌≡◌, ◌≤◌, ◌<◌, ◌^◌, length, slice_set};
-ghost use Rattle.pools.specs.Account.{IsAnswer, figures_after_answer};
+ghost use Rattle.pools.specs.Account.{IsAnswer, figures_after_least};
 ghost use Rattle.pools.specs.Members.{accounts_of};
 ghost use Rattle.zone_tables.specs.Pools.{AreWithinLimits, MayBeAsked, figures_at, figures_of};
 ghost use Rattle.zone_tables.specs.Pools.{pools_after_answer, pools_after_return};
@@ -66,15 +66,16 @@ impl PoolFigures {
         self.items.as_slice()[i]
     }
 
-    /// Notes that pool i gave this answer to a request for units. `i` has to be below `len`. No
-    /// other figures change.
-    pub fn note_answer(&mut self, i: usize, units: u64, answer: Lend)
+    /// Notes that pool i gave this answer to a request for units. A loan of fewer units than `least`
+    /// has gone back. `i` has to be below `len`. No other figures change.
+    pub fn note_answer(&mut self, i: usize, units: u64, least: u64, answer: Lend)
         requires asked { MayBeAsked self.old i units }
         requires answer { IsAnswer (figures_at self.old i) units answer }
-        ensures after { self.new ≡ pools_after_answer self.old i answer }
+        ensures after { self.new ≡ pools_after_answer self.old
+            (record { pool = i; units = units; least = least }) answer }
         ensures within { AreWithinLimits self.new }
     {
-        let figures = after_answer(self.get(i), units, answer);
+        let figures = after_answer(self.get(i), units, least, answer);
         put(&mut self.items, i, figures);
     }
 
@@ -107,15 +108,16 @@ fn put(items: &mut ArrayVec<Figures, 16>, i: usize, figures: Figures)
     items.as_mut_slice()[i] = figures;
 }
 
-/// The figures of a pool that gave this answer.
-fn after_answer(figures: Figures, units: u64, answer: Lend) -> Figures
+/// The figures of a pool that gave this answer. A loan of fewer units than `least` has gone back.
+fn after_answer(figures: Figures, units: u64, least: u64, answer: Lend) -> Figures
     requires answer { IsAnswer figures units answer }
     requires refusals { figures.refusals < 2 ^ 63 }
     requires waits { figures.waits < 2 ^ 63 }
-    ensures { result ≡ figures_after_answer figures answer }
+    ensures { result ≡ figures_after_least figures least answer }
 {
     let mut after = figures;
     match answer {
+        Lend::Lent(n) if n < least => (),
         Lend::Lent(n) => after.lent += n,
         Lend::Refused => after.refusals += 1,
         Lend::Wait => after.waits += 1,

@@ -349,8 +349,8 @@ impl ZoneTables {
         }
     }
 
-    /// Requests units of a pool, once, for a call. If units are lent, the call opens with them, or
-    /// gets them if it is open. The memory is there before the pool is asked.
+    /// Requests units of a pool, once, for a call. If enough units are lent, the call opens with
+    /// them, or gets them if it is open. The memory is there before the pool is asked.
     pub fn request_units<L: Lender>(
         &mut self,
         request: &UnitRequest,
@@ -364,7 +364,7 @@ impl ZoneTables {
             request.now.units) }
         ensures tables { IfOk result (λ answer. self.new ≡ record self.old {
           calls = calls_after_answer request.now answer self.old.calls;
-          pools = pools_after_answer self.old.pools request.now.pool answer;
+          pools = pools_after_answer self.old.pools (units_requested request.now) answer;
         }) }
         ensures lends { IfOk result (λ answer. L.lends lender.old self.old.pools
             (units_requested request.now) answer lender.new) }

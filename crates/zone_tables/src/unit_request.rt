@@ -3,6 +3,7 @@
 ghost use Rattle.std.specs.Prelude.{◌≡◌};
 ghost use Rattle.zone_tables.specs.UnitRequests.{granted_reply, refused_reply, reply_of};
 ghost use Rattle.zone_tables.specs.UnitRequests.{IsAnswered, IsBandWidth};
+ghost use Rattle.zone_tables.specs.Pools.{grant_of};
 
 use admission::Leg;
 use pools::Lend;
@@ -27,11 +28,25 @@ pub struct UnitRequest {
     pub call: CallKey,
     pub pool: usize,
     pub units: u32,
+    /// The least units that are of use: a loan of fewer goes back.
+    pub least: u32,
     pub purpose: Purpose,
 }
 
 impl UnitRequest {
-    /// The reply if these units were lent.
+    /// The units that the request gets by a pool's answer: those that were lent, unless they are
+    /// fewer than the least.
+    pub fn grant(&self, answer: Lend) -> Option<u64>
+        ensures { result ≡ grant_of self.now.least answer }
+    {
+        match answer {
+            Lend::Lent(units) if units < u64::from(self.least) => None,
+            Lend::Lent(units) => Some(units),
+            Lend::Refused | Lend::Wait => None,
+        }
+    }
+
+    /// The reply if the request gets these units.
     pub fn granted(&self, units: u32) -> Reply
         requires { IsBandWidth self.now.purpose units }
         ensures { result ≡ granted_reply self.now self.now.purpose units }
@@ -49,7 +64,7 @@ impl UnitRequest {
         }
     }
 
-    /// The reply if no units were lent.
+    /// The reply if it gets none.
     pub fn refused(&self) -> Reply
         ensures { result ≡ refused_reply self.now self.now.purpose }
     {
@@ -79,9 +94,9 @@ impl UnitRequest {
                 delay,
             };
         }
-        match answer {
-            Lend::Lent(units) => self.granted(units as u32),
-            Lend::Refused | Lend::Wait => self.refused(),
+        match self.grant(answer) {
+            Some(units) => self.granted(units as u32),
+            None => self.refused(),
         }
     }
 }

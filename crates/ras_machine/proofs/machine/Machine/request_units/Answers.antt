@@ -12,7 +12,7 @@ use Rattle.ras_machine.specs.Keeping.{dropped_for, kept_with, plan_at, state_aft
 use Rattle.zone_config.specs.Terms.{term_of}
 use Rattle.ras_machine.specs.Machine.{Serving, note_at}
 use Rattle.ras_requests.specs.Conclusions.{RequestsUnits}
-use Rattle.zone_tables.specs.UnitRequests.{calls_after_answer, reply_of}
+use Rattle.zone_tables.specs.UnitRequests.{calls_after_answer, reply_of, units_requested}
 use Rattle.ras_machine.specs.Courses.{heard_at, Does}
 use Rattle.ras_machine.specs.Soundness.{AreBornBefore}
 use Rattle.ras_machine.specs.Steps.{IsTimely}
@@ -61,7 +61,7 @@ returns-clause-does g c plan asks =
     let kept = c.keep.new.kept.kept in
     let asked : Tables = record i.tables {
       calls = calls_after_answer q answer i.tables.calls;
-      pools = pools_after_answer i.tables.pools q.pool answer;
+      pools = pools_after_answer i.tables.pools (units_requested q) answer;
     } in
     let asked_is : c.request_units.new.self ≡ asked = c.in_ok-answer.ensures.tables in
     let tables_is : tables ≡ heard_at asked job.occasion now (Some id) =

@@ -1,5 +1,5 @@
-use Rattle.std.proofs.Common.{◌^◌, ℕ, All, sym, subst}
-use Rattle.zone_tables.specs.UnitRequests.{IsUnitRequest, calls_after_answer}
+use Rattle.std.proofs.Common.{◌≡◌, ◌∙◌, ◌^◌, ℕ, All, sym, subst}
+use Rattle.zone_tables.specs.UnitRequests.{IsUnitRequest, calls_after_answer, units_requested}
 use Rattle.pools.specs.Account.{IsAnswer}
 use Rattle.zone_tables.specs.Soundness.{HasCounts}
 use Rattle.zone_tables.specs.Parts.{Lending, with_usage}
@@ -30,12 +30,19 @@ invariant_of-self g c =
     subst (λ (l : Lending). IsUnitRequest l.usage q) (sym c.self.view_is) c.requires.may in
     let fits = subst (λ (n : ℕ). IsAnswer (figures_at i.pools q.pool) n answer) c.from-units.ensures
     c.ask-answer.ensures.answer in
+    let after : c.note_answer.new.self ≡ pools_after_answer u.pools (units_requested q) answer =
+    c.note_answer.ensures.after
+    ∙ (λ j. pools_after_answer u.pools (record {
+      pool = q.pool;
+      units = c.from-units.ensures j;
+      least = c.from-least.ensures j;
+    }) answer) in
     IsSoundUsage-held c.enter.new.calls c.note_answer.new.self i.limit i.call_limit
     (IsBacked-is (with_usage u (calls_after_answer q answer u.calls)
-    (pools_after_answer u.pools q.pool answer))
+    (pools_after_answer u.pools (units_requested q) answer))
     c.enter.new.calls.calls c.note_answer.new.self c.enter.new.calls.most
     (IsBacked-answer u c.self.invariant.backed q may answer fits)
-    c.enter.ensures.calls c.note_answer.ensures.after c.enter.ensures.most)
+    c.enter.ensures.calls after c.enter.ensures.most)
     (c.enter.ensures.sound (record {
       each = c.self.invariant.each;
       few = c.self.invariant.few;

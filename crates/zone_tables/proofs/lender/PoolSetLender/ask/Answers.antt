@@ -5,8 +5,8 @@ use Rattle.zone_tables.specs.Pools.{figures_at}
 use Rattle.zone_tables.proofs.Members.{figures_there}
 use Rattle.zone_tables.proofs.lender.PoolSetLender.ask.Goals as goal
 
-pub lend-requires-clause-may : goal.lend-requires-clause-may
-lend-requires-clause-may g c =
+pub lend_least-requires-clause-may : goal.lend_least-requires-clause-may
+lend_least-requires-clause-may g c =
     let may = c.requires.may in
     let here = sym (figures_there c.args.self.now c.args.pool)
     ∙ ap (λ fs. figures_at fs c.args.pool) c.requires.figures in
@@ -21,4 +21,4 @@ pub returns-clause-answer : goal.returns-clause-answer
 returns-clause-answer g c =
     let here = sym (figures_there c.args.self.now c.args.pool)
     ∙ ap (λ fs. figures_at fs c.args.pool) c.requires.figures in
-    subst (λ (f : Figures). IsAnswer f c.args.units c.lend.result) here c.lend.ensures.answer
+    subst (λ (f : Figures). IsAnswer f c.args.units c.lend_least.result.0) here c.lend_least.ensures.answer

@@ -4,7 +4,7 @@ use Rattle.std.proofs.lemmas.List.{length-set}
 use Rattle.admission.specs.Calls.{legs_of}
 use Rattle.admission.specs.declared.leg.Leg.{Leg}
 use Rattle.keyed.proofs.Decide.{same_some, some_none}
-use Rattle.pools.specs.Account.{figures_after_answer}
+use Rattle.pools.specs.Account.{figures_after_least}
 use Rattle.zone_tables.specs.Parts.{AreParts, AreSoundParts, Usage, usage_of, with_usage}
 use Rattle.zone_tables.specs.Pools.{figures_at, pools_after_answer}
 use Rattle.zone_tables.specs.Changes.{IsRegistered}
@@ -12,6 +12,7 @@ use Rattle.zone_tables.specs.Silence.{times_of}
 use Rattle.zone_tables.specs.inside.Watched.{AreWatched}
 use Rattle.zone_tables.specs.Tables.{Tables}
 use Rattle.zone_tables.specs.UnitRequests.{IsUnitRequest, calls_after_answer, leg_of_purpose}
+use Rattle.zone_tables.specs.UnitRequests.{units_requested}
 use Rattle.zone_tables.proofs.Legs.{AreParts-calls, legs-answer, usage_is}
 use Rattle.zone_tables.proofs.SoundParts.{SoundTables-parts}
 use Rattle.zone_tables.proofs.Watching.{legs_after_answer, others_watched, watched_still}
@@ -33,7 +34,7 @@ watch-requires-clause-others g c =
     let answer = c.request_units-answer.result in
     let usage = c.request_units-answer.ensures.usage
     ∙ ap (λ (u : Usage). with_usage u (calls_after_answer q answer u.calls)
-    (pools_after_answer u.pools q.pool answer)) c.reserve.ensures.usage in
+    (pools_after_answer u.pools (units_requested q) answer)) c.reserve.ensures.usage in
     let may = subst (λ (u : Usage). IsUnitRequest u q)
     (sym (usage_is i.config i.endpoints old parts))
     (subst (λ (m : Tables). IsUnitRequest (usage_of m) q) (sym c.self.view_is) c.requires.may) in
@@ -59,10 +60,10 @@ invariant_of-self-in-Opening g c =
     let leg =
     subst (λ (m : Tables). IfSome (leg_of_purpose q.purpose) (IsRegistered m.live))
     (sym c.self.view_is) c.requires.leg in
-    let pools = pools_after_answer old.pools q.pool answer in
+    let pools = pools_after_answer old.pools (units_requested q) answer in
     let usage = c.request_units-answer.ensures.usage
     ∙ ap (λ (u : Usage). with_usage u (calls_after_answer q answer u.calls)
-    (pools_after_answer u.pools q.pool answer)) c.reserve.ensures.usage in
+    (pools_after_answer u.pools (units_requested q) answer)) c.reserve.ensures.usage in
     let same = c.times-times.ensures.same
     ∙ ap (λ (m : Tables). times_of m.config) (sym c.self.view_is) in
     record {
@@ -72,7 +73,8 @@ invariant_of-self-in-Opening g c =
       parts = subst (λ (u : Usage). AreParts i.config i.endpoints u) (sym usage)
           (AreParts-calls i.config i.endpoints old parts (calls_after_answer q answer old.calls)
           pools
-          (length-set old.pools q.pool (figures_after_answer (figures_at old.pools q.pool) answer))
+          (length-set old.pools q.pool
+          (figures_after_least (figures_at old.pools q.pool) q.least answer))
           (legs-answer i.endpoints.live old.calls q answer parts.legs leg));
       watched = subst (λ t. AreWatched t i.endpoints.live
           c.request_units-answer.new.self.usage.calls c.watch.new.silences.ends) same
@@ -89,10 +91,10 @@ invariant_of-self-in_default g c =
     let leg =
     subst (λ (m : Tables). IfSome (leg_of_purpose q.purpose) (IsRegistered m.live))
     (sym c.self.view_is) c.requires.leg in
-    let pools = pools_after_answer old.pools q.pool answer in
+    let pools = pools_after_answer old.pools (units_requested q) answer in
     let usage = c.request_units-answer.ensures.usage
     ∙ ap (λ (u : Usage). with_usage u (calls_after_answer q answer u.calls)
-    (pools_after_answer u.pools q.pool answer)) c.reserve.ensures.usage in
+    (pools_after_answer u.pools (units_requested q) answer)) c.reserve.ensures.usage in
     let may = subst (λ (u : Usage). IsUnitRequest u q)
     (sym (usage_is i.config i.endpoints old parts))
     (subst (λ (m : Tables). IsUnitRequest (usage_of m) q) (sym c.self.view_is) c.requires.may) in
@@ -103,7 +105,8 @@ invariant_of-self-in_default g c =
       parts = subst (λ (u : Usage). AreParts i.config i.endpoints u) (sym usage)
           (AreParts-calls i.config i.endpoints old parts (calls_after_answer q answer old.calls)
           pools
-          (length-set old.pools q.pool (figures_after_answer (figures_at old.pools q.pool) answer))
+          (length-set old.pools q.pool
+          (figures_after_least (figures_at old.pools q.pool) q.least answer))
           (legs-answer i.endpoints.live old.calls q answer parts.legs leg));
       watched = λ x. watched_still (times_of i.config) i.endpoints.live old.calls i.silences.ends
           c.self.invariant.watched i.endpoints.live c.request_units-answer.new.self.usage.calls x
