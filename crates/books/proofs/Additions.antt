@@ -38,7 +38,7 @@ use Rattle.ras_requests.specs.Rrq.{entering, full_registration, has_moved, keep_
 use Rattle.ras_requests.specs.Rrq.{registration, unless_held}
 use Rattle.ras_requests.specs.Urq.{departure, leaving}
 use Rattle.ras_requests.specs.Arq.{admission_of, destination, leg_told, making}
-use Rattle.ras_requests.specs.Brq.{bandwidth_of, lowering, raising, resizing, staying}
+use Rattle.ras_requests.specs.Brq.{bandwidth_of, least_units, lowering, raising, resizing, staying}
 use Rattle.ras_requests.specs.Brq.{units_left, wanted}
 use Rattle.ras_requests.specs.Drq.{disengagement_of}
 use Rattle.ras_requests.specs.Standing.{standing, standing_in}
@@ -205,8 +205,8 @@ module _ (z : Tables) where
       → AddsBy z (if units_left z == 0 then Settled (staying z q call)
       else Asking (record {
         pool = call.pool;
-        units = min (wanted z q.asked - call.units)
-            (units_left z);
+        units = min (wanted z q.asked - call.units) (units_left z);
+        least = least_units z (wanted z q.asked) - call.units;
       })
       (raising z q call) (staying z q call))
   raises q call is =
@@ -233,8 +233,8 @@ module _ (z : Tables) where
         else if units_left z == 0 then Settled (staying z q call)
         else Asking (record {
           pool = call.pool;
-          units = min (wanted z q.asked - call.units)
-              (units_left z);
+          units = min (wanted z q.asked - call.units) (units_left z);
+          least = least_units z (wanted z q.asked) - call.units;
         })
         (raising z q call) (staying z q call))
     by_test true few = lowers q call is (at_most (wanted z q.asked) call.units few)
