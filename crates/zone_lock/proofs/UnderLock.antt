@@ -11,7 +11,8 @@ use Rattle.ras_machine.specs.Machine.{most_steps}
 use Rattle.ras_core.specs.declared.fault.StepFault.{StepFault}
 use Rattle.zone_lock.specs.declared.listing.Listing.{Listing}
 use Rattle.zone_lock.specs.Held.{Held, IsKept}
-use Rattle.zone_lock.specs.Held.{IsChapterUnderLock, IsClosed, IsStepUnderLock}
+use Rattle.zone_lock.specs.Held.{IsChapterUnderLock, IsClosed, IsOpen}
+use Rattle.zone_lock.specs.Held.{IsStepUnderLock}
 use Rattle.zone_lock.specs.Held.{IsWithoutBase, entry_by, receipt_at}
 use Rattle.zone_lock.specs.Listings.{IsListing, IsListingUnderLock}
 use Rattle.zone_lock.specs.Seats.{Seated}
@@ -62,6 +63,15 @@ closed_under_lock opened P h kept closed is = record {
   held = h;
   kept = kept;
   steps = closed.0 is;
+}
+
+-- Whoever held the lock and found it open saw that fewer were.
+pub open_under_lock : (opened : State) (P : Type 0) (h : Held) → IsKept opened h
+    → (P ↔ (h.zone.state.steps ≡ most_steps)) → (P → ⊥) → IsOpen opened
+open_under_lock opened P h kept closed is_not = record {
+  held = h;
+  kept = kept;
+  steps = λ most. is_not (closed.1 most);
 }
 
 pub without_base : (opened : State) (P : Type 0) (h : Held) → IsKept opened h

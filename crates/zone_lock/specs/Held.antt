@@ -1,5 +1,5 @@
 -- What stands behind a lock.
-use Rattle.std.specs.Prelude.{◌≡◌, ◌≤◌, ◌+◌, ◌*◌, ◌^◌, ◌++◌, ◌∷◌, ℕ, List, [], length, Option}
+use Rattle.std.specs.Prelude.{◌≡◌, ◌≢◌, ◌≤◌, ◌+◌, ◌*◌, ◌^◌, ◌++◌, ◌∷◌, ℕ, List, [], length, Option}
 use Rattle.std.specs.Prelude.{None, Some}
 use Rattle.std.specs.Option.{ForSome}
 use Rattle.admission.specs.Calls.{in_use}
@@ -120,6 +120,12 @@ pub record IsClosed (opened : State) : Type 0 where
   pub kept : IsKept opened held
   pub steps : held.zone.state.steps ≡ most_steps
 
+-- or fewer
+pub record IsOpen (opened : State) : Type 0 where
+  pub held : Held
+  pub kept : IsKept opened held
+  pub steps : held.zone.state.steps ≢ most_steps
+
 -- a chapter: the book that was there, from the state in which it began to that of the zone
 pub record IsChapterUnderLock (opened : State) (chapter : ChapterValue) : Type 0 where
   pub held : Held
@@ -142,6 +148,28 @@ pub record IsBookUnderLock (opened : State) (base : Option State) (entries : Lis
   pub kept : IsKept opened held
   pub base_is : base ≡ held.base
   pub entries_are : entries ≡ held.entries
+
+-- What is left of what stood behind a lock. If a copy is kept of the state in which its entries
+-- begin, it is all of them, from that state on. Otherwise the entries have been let go: nothing is
+-- left but the zone and its state, with the place of the next entry.
+abbrev pub IsLeftFrom : Held → Option State → FinishedValue → Type 0
+IsLeftFrom h (Some base) f = f ≡ record {
+  zone = h.zone;
+  base = base;
+  entries = h.entries;
+  first = h.first;
+  carried = h.carried;
+}
+IsLeftFrom h None f = f ≡ record {
+  zone = h.zone;
+  base = h.zone.state;
+  entries = [];
+  first = h.first + length h.entries;
+  carried = f.carried;
+}
+
+abbrev pub IsLeft : Held → FinishedValue → Type 0
+IsLeft h f = IsLeftFrom h h.base f
 
 -- The whole history of a zone that was locked in this state, up to what is left of it: with the
 -- entries that are left, those before them, which may have been let go, are a run of the machine to

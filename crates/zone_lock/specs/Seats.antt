@@ -1,5 +1,5 @@
 -- Seats, and what a step does to its seat.
-use Rattle.std.specs.Prelude.{◌≤◌, ◌+◌, ℕ}
+use Rattle.std.specs.Prelude.{◌≡◌, ◌≤◌, ◌+◌, ℕ}
 use Rattle.zone_events.specs.declared.event.Event.{Event}
 use Rattle.zone_events.specs.declared.outcome.Outcome.{Outcome}
 use Rattle.books.specs.Totals.{datagrams_in, turns_in, units_lent}
@@ -36,3 +36,9 @@ seated_after seat event outcome = record {
 pub record IsSeatCount (seats : ℕ) : Type 0 where
   pub some : 1 ≤ seats
   pub most : seats ≤ 16
+
+-- each ledger has a part for each seat
+pub record HavePartForEach (seats of_datagrams of_turns of_lent : ℕ) : Type 0 where
+  pub datagrams : of_datagrams ≡ seats
+  pub turns : of_turns ≡ seats
+  pub lent : of_lent ≡ seats

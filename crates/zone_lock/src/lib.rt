@@ -5,6 +5,7 @@
 #![tactic(auto)]
 
 mod cutting;
+mod ending;
 mod ledgers;
 mod listing;
 mod lock;
@@ -13,6 +14,7 @@ mod order;
 mod seat;
 
 pub use cutting::{CutFault, Discarded, cut_locked, discard_locked};
+pub use ending::finish_locked;
 pub use listing::Listing;
 pub use lock::{Blanks, OpenFault, ZoneLock};
 pub use locked::{Locked, apply_locked, list_locked};

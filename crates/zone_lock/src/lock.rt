@@ -2,18 +2,19 @@
 
 ghost use Rattle.std.specs.Prelude.{◌≡◌, ◌≢◌, ◌≤◌, ◌+◌, ◌<◌, ℕ, Some, slice_get, sum_by, vec_len};
 ghost use Rattle.std.specs.Prelude.{◌^◌, length, IfOk, IfErr, OnOk, OnErr, vec_capacity, ◌⊎◌, []};
-ghost use Rattle.std.specs.Prelude.{None};
 ghost use Rattle.ras_machine.specs.Soundness.{Sound};
 ghost use Rattle.books.specs.Books.{BookRun};
 ghost use Rattle.books.specs.Totals.{datagrams_of, lent_of, returned_by, turns_of};
-ghost use Rattle.zone_lock.specs.Held.{IsBookUnderLock, IsChapterUnderLock, IsClosed, IsKept};
-ghost use Rattle.zone_lock.specs.Held.{IsLedInUse, IsStepUnderLock, IsWholeHistory, IsWithoutBase};
+ghost use Rattle.zone_lock.specs.Held.{IsBookUnderLock, IsChapterUnderLock, IsClosed};
+ghost use Rattle.zone_lock.specs.Held.{IsLedInUse, IsOpen, IsStepUnderLock, IsWholeHistory};
+ghost use Rattle.zone_lock.specs.Held.{IsWithoutBase};
 ghost use Rattle.zone_lock.specs.Held.{entry_by, receipt_at};
 ghost use Rattle.zone_lock.specs.Faults.{open_fault_number};
 ghost use Rattle.zone_lock.specs.Listings.{IsListingUnderLock};
 ghost use Rattle.zone_lock.specs.Seats.{IsSeatCount, seated, seated_after};
 
 use crate::cutting::{CutFault, Discarded, cut_locked, discard_locked};
+use crate::ending::finish_locked;
 use crate::ledgers::Ledgers;
 use crate::listing::Listing;
 use crate::locked::{Locked, fault_without_order, list_locked, make_step};
@@ -160,6 +161,7 @@ impl<P: Pool, D: Hall, T: Ledger, U: Ledger> ZoneLock<P, D, T, U> {
         ensures seat { IfOk result (λ receipt.
             seat.new ≡ seated_after seat.old prepared receipt.outcome) }
         ensures closed { result ≡ Err StepFault.Closed → IsClosed D.opened }
+        ensures memory { result ≡ Err StepFault.Memory → IsOpen D.opened }
         ensures err { OnErr result (seat.new ≡ seat.old) }
     {
         match Order::new(self.alloc, prepared, seat) {
@@ -201,7 +203,6 @@ impl<P: Pool, D: Hall, T: Ledger, U: Ledger> ZoneLock<P, D, T, U> {
         self,
         seats: Vec<Seat<D, T, U>>,
     ) -> Result<Finished<P>, (Self, Vec<Seat<D, T, U>>)>
-        requires { (D.parts ≡ D.all) × (T.parts ≡ D.all) × (U.parts ≡ D.all) }
         ensures all { OnOk result (vec_len seats ≡ D.all) }
         ensures history { IfOk result (IsWholeHistory D.opened) }
         ensures run { IfOk result (λ f. BookRun f.base f.entries f.zone.state) }
@@ -232,41 +233,32 @@ impl<P: Pool, D: Hall, T: Ledger, U: Ledger> ZoneLock<P, D, T, U> {
             seats: _,
             inner,
         } = self;
-        let Locked {
-            first,
-            carried,
-            so_far: _,
-            opened_units: _,
-            base,
-            entries,
-            zone,
-            ledgers,
-        } = settled(inner.into_inner());
-        let Ledgers {
-            mut datagrams,
-            mut turns,
-            mut lent,
-        } = ledgers;
-        let (mut my_datagrams, mut my_turns, mut my_lent) = merged(seats);
-        datagrams.audit(&mut my_datagrams);
-        turns.audit(&mut my_turns);
-        lent.audit(&mut my_lent);
-        Ok(Finished::new(zone, base, entries, first, carried))
+        let mut locked = inner.into_inner();
+        audit_all(&mut locked, seats);
+        Ok(finish_locked(locked))
     }
 }
 
-/// What stood behind a lock. If no copy of the state in which its entries begin is kept, they are
-/// let go, and it begins in the state of the zone.
-fn settled<P: Pool, D: Hall, T: Ledger, U: Ledger>(locked: Locked<P, D, T, U>) -> Locked<P, D, T, U>
-    ensures kept { IsKept D.opened result }
-    ensures begun { result.base ≡ None → result.entries ≡ [] }
+/// Changes nothing: the seats of a lock have together made what the totals of its history say.
+fn audit_all<P: Pool, D: Hall, T: Ledger, U: Ledger>(
+    locked: &mut Locked<P, D, T, U>,
+    seats: Vec<Seat<D, T, U>>,
+)
+    requires some { 0 < vec_len seats }
+    requires all { (D.parts ≡ vec_len seats) × (T.parts ≡ vec_len seats)
+        × (U.parts ≡ vec_len seats) }
+    ensures datagrams { locked.old.carried.datagrams + datagrams_of locked.old.entries
+        ≡ sum_by (λ s. s.datagrams) seats.items }
+    ensures turns { locked.old.carried.turns + turns_of locked.old.entries
+        ≡ sum_by (λ s. s.turns) seats.items }
+    ensures lent { locked.old.carried.lent + lent_of locked.old.entries
+        ≡ sum_by (λ s. s.lent) seats.items }
+    ensures same { locked.new ≡ locked.old }
 {
-    let mut locked = locked;
-    if locked.base.is_none() {
-        let room = Vec::new(*locked.entries.allocator());
-        let _ = discard_locked(&mut locked, room);
-    }
-    locked
+    let (mut my_datagrams, mut my_turns, mut my_lent) = merged(seats);
+    locked.ledgers.datagrams.audit(&mut my_datagrams);
+    locked.ledgers.turns.audit(&mut my_turns);
+    locked.ledgers.lent.audit(&mut my_lent);
 }
 
 /// The state of a zone, which is the base of its history.

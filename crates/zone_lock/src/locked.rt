@@ -40,6 +40,7 @@ impl<P: Pool, D: Hall, T: Ledger, U: Ledger> Model for Locked<P, D, T, U> {
     ghost use Rattle.std.specs.Coded.{codes};
     ghost use Rattle.std.specs.FinMap as map;
     ghost use Rattle.zone_lock.specs.Held.{Held, IsInside};
+    ghost use Rattle.zone_lock.specs.Seats.{HavePartForEach};
 
     ghost Value = { Held };
 
@@ -60,7 +61,8 @@ impl<P: Pool, D: Hall, T: Ledger, U: Ledger> Model for Locked<P, D, T, U> {
       entries = l.entries.items;
       zone = l.zone;
     }) l.so_far l.opened_units
-        l.ledgers.datagrams.total l.ledgers.turns.total l.ledgers.lent.total };
+        l.ledgers.datagrams.total l.ledgers.turns.total l.ledgers.lent.total
+        × HavePartForEach D.all D.parts T.parts U.parts };
 }
 
 /// Makes one step of the locked zone, which is the last entry afterwards, or changes nothing. It is

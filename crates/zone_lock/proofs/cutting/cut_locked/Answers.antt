@@ -14,9 +14,11 @@ invariant_of-locked g c =
     ap (λ (h : Held). h.zone) c.locked-2.view_is
     ∙ (gone.zone ∙ sym (ap (λ (h : Held). h.zone) c.locked.view_is)) in
     let next : c.in_ok-end.next ≡ l.zone.state =
-    c.in_ok-end.ensures.both.1 ∙ sym (ap (λ (z : Running). z.state) zone) in
-    inside_based g.D.Hall.opened (cut_so l.first l.carried l.base l.entries.items l.zone) l.so_far
-    l.opened_units _ _ _ (Some c.in_ok-end.next) c.locked-2.invariant none (ap Some next)
+    c.in_ok-end.ensures.both.1 ∙ sym (ap (λ (z : Running). z.state) zone) in (
+      inside_based g.D.Hall.opened (cut_so l.first l.carried l.base l.entries.items l.zone) l.so_far
+          l.opened_units _ _ _ (Some c.in_ok-end.next) c.locked-2.invariant.0 none (ap Some next),
+      c.locked-2.invariant.1,
+    )
 
 pub returns-clause-kept : goal.returns-clause-kept
-returns-clause-kept g c = (invariant_of-locked g c).kept
+returns-clause-kept g c = (invariant_of-locked g c).0.kept

@@ -17,23 +17,25 @@ invariant_of-locked g c =
       returned = l.opened_units + l.so_far.lent - c.in_use.result;
     } in
     let h = cut_so l.first l.carried l.base l.entries.items l.zone in
-    let cut = inside_cut g.D.Hall.opened h l.so_far carried l.opened_units _ _ _ c.locked.invariant
+    let cut = inside_cut g.D.Hall.opened h l.so_far carried l.opened_units _ _ _ c.locked.invariant.0
     refl refl refl (ap (λ (n : ℕ). l.opened_units + l.so_far.lent - n) c.in_use.ensures.sum) in
     let base_is = c.replace-base.ensures.after in
     let entries_are = ap (λ v. v.items) c.replace-entries.ensures.after ∙ c.requires in
-    let first_is = ap (λ (n : ℕ). l.first + n) (c.len.ensures ∙ l.entries.ok.0) in
-    subst (λ (n : ℕ). IsInside g.D.Hall.opened
-    (cut_so n carried c.replace-base.new.dest c.replace-entries.new.dest.items l.zone) carried
-    l.opened_units l.ledgers.datagrams.total l.ledgers.turns.total l.ledgers.lent.total)
-    (sym first_is)
-    (subst (λ (s : Option State). IsInside g.D.Hall.opened
-    (cut_so (l.first + length l.entries.items) carried s c.replace-entries.new.dest.items l.zone)
-    carried l.opened_units l.ledgers.datagrams.total l.ledgers.turns.total l.ledgers.lent.total)
-    (sym base_is)
-    (subst (λ (es : List Entry). IsInside g.D.Hall.opened
-    (cut_so (l.first + length l.entries.items) carried _ es l.zone) carried
-    l.opened_units l.ledgers.datagrams.total l.ledgers.turns.total l.ledgers.lent.total)
-    (sym entries_are) cut))
+    let first_is = ap (λ (n : ℕ). l.first + n) (c.len.ensures ∙ l.entries.ok.0) in (
+      subst (λ (n : ℕ). IsInside g.D.Hall.opened
+          (cut_so n carried c.replace-base.new.dest c.replace-entries.new.dest.items l.zone) carried
+          l.opened_units l.ledgers.datagrams.total l.ledgers.turns.total l.ledgers.lent.total)
+          (sym first_is)
+          (subst (λ (s : Option State). IsInside g.D.Hall.opened
+          (cut_so (l.first + length l.entries.items) carried s c.replace-entries.new.dest.items l.zone)
+          carried l.opened_units l.ledgers.datagrams.total l.ledgers.turns.total l.ledgers.lent.total)
+          (sym base_is)
+          (subst (λ (es : List Entry). IsInside g.D.Hall.opened
+          (cut_so (l.first + length l.entries.items) carried _ es l.zone) carried
+          l.opened_units l.ledgers.datagrams.total l.ledgers.turns.total l.ledgers.lent.total)
+          (sym entries_are) cut)),
+      c.locked.invariant.1,
+    )
 
 pub returns-clause-kept : goal.returns-clause-kept
-returns-clause-kept g c = (invariant_of-locked g c).kept
+returns-clause-kept g c = (invariant_of-locked g c).0.kept

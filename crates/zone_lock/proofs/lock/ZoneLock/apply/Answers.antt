@@ -1,6 +1,6 @@
 use Rattle.std.proofs.Common.{◌≡◌}
-use Rattle.ras_core.specs.declared.fault.StepFault.TheVariants.{Closed}
-use Rattle.zone_lock.proofs.UnderLock.{closed_under_lock, step_told}
+use Rattle.ras_core.specs.declared.fault.StepFault.TheVariants.{Closed, Memory}
+use Rattle.zone_lock.proofs.UnderLock.{closed_under_lock, open_under_lock, step_told}
 use Rattle.zone_lock.proofs.lock.ZoneLock.apply.Goals as goal
 
 pub returns-in-Ok-clause-step : goal.returns-in-Ok-clause-step
@@ -18,3 +18,14 @@ returns-in-Err-clause-closed g c is =
     let same : c.fault_without_order.result ≡ Closed = cc is in
     closed_under_lock _ _ _ c.fault_without_order.ensures.kept
     c.fault_without_order.ensures.closed same
+
+pub returns-in-Ok-clause-memory : goal.returns-in-Ok-clause-memory
+returns-in-Ok-clause-memory g c is =
+    open_under_lock _ _ _ c.make_step.ensures.before c.make_step.ensures.closed
+    (λ closed. cc (is, closed))
+
+pub returns-in-Err-clause-memory : goal.returns-in-Err-clause-memory
+returns-in-Err-clause-memory g c is =
+    let same : c.fault_without_order.result ≡ Memory = cc is in
+    open_under_lock _ _ _ c.fault_without_order.ensures.kept
+    c.fault_without_order.ensures.closed (λ closed. cc (same, closed))
