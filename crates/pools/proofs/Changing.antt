@@ -11,7 +11,7 @@ use Rattle.pools.specs.Account.{Account, IsWithinLimit, IsAnswer, is_idle, openi
 use Rattle.pools.specs.Account.{account_after_answer}
 use Rattle.pools.specs.Members.{Member, IsPoolSet, accounts_of, member_after_turn, member_at}
 use Rattle.pools.specs.Members.{members_after_answer, members_after_return, members_after_turn}
-use Rattle.pools.specs.Members.{new_member}
+use Rattle.pools.specs.Members.{member_without_loans, new_member}
 use Rattle.pools.specs.inside.Counted.{AreCounted, counted, members_of}
 
 abbrev pub no_counts : Counts
@@ -185,3 +185,17 @@ pool_set-turn members s = record {
   within_limits = All-map (λ (m : Member). IsWithinLimit m.account) member_after_turn members
       s.within_limits;
 }
+
+-- nothing changes if a member that has nothing lent gives all back
+pub nothing_to_return :
+    (members : List Member) (i : ℕ) → (member_at members i).account.figures.lent ≡ 0 →
+    members ≡ set members i (member_without_loans (member_at members i))
+nothing_to_return members i none =
+    let same : member_without_loans (member_at members i) ≡ member_at members i =
+    ap (λ (n : ℕ). record (member_at members i) {
+      account = record (member_at members i).account {
+        figures = record (member_at members i).account.figures { lent = n };
+      };
+    }) (sym none) in
+    sym (ap (λ (m : Member). set members i m) same
+    ∙ set-get_or members i (new_member (opening_account 0)))

@@ -5,6 +5,7 @@ use Rattle.std.specs.List.{All, sum_by}
 use Rattle.pools.specs.declared.interface.Lend.{Lend}
 use Rattle.pools.specs.Account.{Account, IsWithinLimit, opening_account}
 use Rattle.pools.specs.Account.{account_after_answer, account_after_least, account_after_return}
+use Rattle.pools.specs.Account.{account_without_loans}
 
 -- a pool of a set: its account; how often the set asked it for units; and how often the set told it
 -- that time went on
@@ -47,6 +48,10 @@ member_after_least m asked least answer = record m {
 -- n units came back to a pool
 abbrev pub member_after_return : Member → ℕ → Member
 member_after_return m n = record m { account = account_after_return m.account n }
+
+-- all units came back to a pool
+abbrev pub member_without_loans : Member → Member
+member_without_loans m = record m { account = account_without_loans m.account }
 
 -- a pool was told once that time went on
 abbrev pub member_after_turn : Member → Member

@@ -2,11 +2,12 @@
 ghost use Rattle.std.specs.Prelude.{◌≡◌, ◌≤◌, ◌<◌, length, map, slice_set};
 ghost use Rattle.pools.specs.Account.{MayAsk, IsAnswer};
 ghost use Rattle.pools.specs.Members.{accounts_of, member_after_turn};
-ghost use Rattle.pools.specs.Members.{member_at, new_member, one_more};
+ghost use Rattle.pools.specs.Members.{member_at, member_without_loans, new_member, one_more};
 ghost use Rattle.pools.specs.Members.{members_after_answer, members_after_return};
 
 use crate::interface::{Lend, Pool};
 use std::marker::Model;
+use std::mem;
 
 /// The most pools that a set has.
 pub const MOST_POOLS: usize = 16;
@@ -20,7 +21,7 @@ struct Counts {
 
 /// The pools of a set, each with its counts. The fields are private to this file: a set can change
 /// a pool only by `ask`, `take_back` and `turn`. Each of these calls the pool once, and `ask` and
-/// `turn` count that call.
+/// `turn` count that call. It can get at a pool only by `exchange` and `into_pools`.
 pub struct Members<P: Pool> {
     pools: Vec<P>,
     counts: [Counts; MOST_POOLS],
@@ -104,6 +105,17 @@ impl<P: Pool> Members<P> {
         self.pools[i].take_back(n);
     }
 
+    /// Gives back to pool i all that it has lent. The pool is called only if that is something.
+    pub fn return_loans(&mut self, i: usize)
+        requires { i < length self.old }
+        ensures { self.new ≡ slice_set self.old i (member_without_loans (member_at self.old i)) }
+    {
+        let n = self.pool(i).lent();
+        if n > 0 {
+            self.take_back(i, n);
+        }
+    }
+
     /// Tells pool i that time went on.
     pub fn turn(&mut self, i: usize)
         requires { i < length self.old }
@@ -112,6 +124,23 @@ impl<P: Pool> Members<P> {
         let _ = &self.pools;
         self.counts[i].turns = one_more(self.counts[i].turns);
         self.pools[i].turn();
+    }
+
+    /// Puts a pool in the place of pool i, which has nothing lent, and returns that one. The new one
+    /// was asked for units this often, and was told of no time.
+    pub fn exchange(&mut self, i: usize, fresh: P, requests: u64) -> P
+        requires pool { i < length self.old }
+        requires repaid { (member_at self.old i).account.figures.lent ≡ 0 }
+        ensures old { P.account result ≡ (member_at self.old i).account }
+        ensures after { self.new ≡ slice_set self.old i (record {
+          account = P.account fresh;
+          requests = requests;
+          turns = 0;
+        }) }
+    {
+        let _ = &self.pools;
+        self.counts[i] = Counts { requests, turns: 0 };
+        mem::replace(&mut self.pools[i], fresh)
     }
 
     /// The pools, without their counts.
