@@ -8,7 +8,7 @@ use Rattle.pools.specs.declared.interface.Lend.{Lend}
 use Rattle.pools.specs.declared.interface.Lend.TheVariants.{Lent, Refused, Wait}
 use Rattle.pools.specs.declared.members.Counts.{Counts}
 use Rattle.pools.specs.Account.{Account, IsWithinLimit, IsAnswer, is_idle, opening_account}
-use Rattle.pools.specs.Account.{account_after_answer}
+use Rattle.pools.specs.Account.{account_after_answer, account_without_loans}
 use Rattle.pools.specs.Members.{Member, IsPoolSet, accounts_of, member_after_turn, member_at}
 use Rattle.pools.specs.Members.{members_after_answer, members_after_return, members_after_turn}
 use Rattle.pools.specs.Members.{member_without_loans, new_member}
@@ -199,3 +199,19 @@ nothing_to_return members i none =
     }) (sym none) in
     sym (ap (λ (m : Member). set members i m) same
     ∙ set-get_or members i (new_member (opening_account 0)))
+
+-- members that gave all back have nothing lent
+pub all_repaid :
+    (members : List Member) →
+    All (λ (m : Member). m.account.figures.lent ≡ 0) (map member_without_loans members)
+all_repaid members =
+    All-map (λ (m : Member). m.account.figures.lent ≡ 0) member_without_loans members
+    (λ k d h. refl)
+
+-- and their accounts are those of before without loans
+pub accounts_of-without_loans :
+    (members : List Member) →
+    accounts_of (map member_without_loans members) ≡ map account_without_loans (accounts_of members)
+accounts_of-without_loans [] = refl
+accounts_of-without_loans (m ∷ members) =
+    ap (λ accounts. account_without_loans m.account ∷ accounts) (accounts_of-without_loans members)

@@ -1,5 +1,5 @@
 //! The pools of a set, which count what is called of them.
-ghost use Rattle.std.specs.Prelude.{◌≡◌, ◌≤◌, ◌<◌, length, map, slice_set};
+ghost use Rattle.std.specs.Prelude.{◌≡◌, ◌≤◌, ◌<◌, length, map, slice_set, All};
 ghost use Rattle.pools.specs.Account.{MayAsk, IsAnswer};
 ghost use Rattle.pools.specs.Members.{accounts_of, member_after_turn};
 ghost use Rattle.pools.specs.Members.{member_at, member_without_loans, new_member, one_more};
@@ -21,7 +21,8 @@ struct Counts {
 
 /// The pools of a set, each with its counts. The fields are private to this file: a set can change
 /// a pool only by `ask`, `take_back` and `turn`. Each of these calls the pool once, and `ask` and
-/// `turn` count that call. It can get at a pool only by `exchange` and `into_pools`.
+/// `turn` count that call. A pool leaves only by `exchange` and `into_pools`, and has nothing lent
+/// then. `Members` isn't `Drop`, so that no pool is dropped with it.
 pub struct Members<P: Pool> {
     pools: Vec<P>,
     counts: [Counts; MOST_POOLS],
@@ -143,8 +144,9 @@ impl<P: Pool> Members<P> {
         mem::replace(&mut self.pools[i], fresh)
     }
 
-    /// The pools, without their counts.
+    /// The pools, which have nothing lent, without their counts.
     pub fn into_pools(self) -> Vec<P>
+        requires { All (λ m. m.account.figures.lent ≡ 0) self }
         ensures { map P.account result.items ≡ accounts_of self }
     {
         let Members { pools, counts: _ } = self;
