@@ -6,9 +6,13 @@
 #[cfg(test)]
 mod kinds;
 #[cfg(test)]
+mod least;
+#[cfg(test)]
 mod marked;
 #[cfg(test)]
 mod own_pool;
+#[cfg(test)]
+mod replacing;
 #[cfg(test)]
 mod sets;
 #[cfg(test)]

@@ -8,6 +8,9 @@ use std::sync::atomic::{AtomicU64, Ordering};
 #[derive(Drop)]
 pub struct Seen {
     pub lends: AtomicU64,
+    pub asked: AtomicU64,
+    pub asked_last: AtomicU64,
+    pub take_backs: AtomicU64,
     pub turns: AtomicU64,
     pub turned_last: AtomicU64,
     pub drops: AtomicU64,
@@ -18,6 +21,9 @@ impl Seen {
     pub fn new() -> Seen {
         Seen {
             lends: AtomicU64::new(0),
+            asked: AtomicU64::new(0),
+            asked_last: AtomicU64::new(0),
+            take_backs: AtomicU64::new(0),
             turns: AtomicU64::new(0),
             turned_last: AtomicU64::new(0),
             drops: AtomicU64::new(0),
@@ -37,8 +43,12 @@ pub struct MarkedPool {
 impl MarkedPool {
     /// A pool of 100 units.
     pub fn new(mark: u64, seen: Arc<Seen>) -> MarkedPool {
+        MarkedPool::with_limit(100, mark, seen)
+    }
+
+    pub fn with_limit(limit: u64, mark: u64, seen: Arc<Seen>) -> MarkedPool {
         MarkedPool {
-            pool: FixedPool::new(100),
+            pool: FixedPool::new(limit),
             mark,
             seen,
         }
@@ -70,10 +80,13 @@ impl Pool for MarkedPool {
 
     fn lend(&mut self, asked: u64) -> Lend {
         self.seen.lends.fetch_add(1, Ordering::SeqCst);
+        self.seen.asked.fetch_add(asked, Ordering::SeqCst);
+        self.seen.asked_last.store(asked, Ordering::SeqCst);
         self.pool.lend(asked)
     }
 
     fn take_back(&mut self, n: u64) {
+        self.seen.take_backs.fetch_add(1, Ordering::SeqCst);
         self.pool.take_back(n);
     }
 

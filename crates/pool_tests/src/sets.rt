@@ -7,7 +7,7 @@ use std::sync::Arc;
 use std::sync::atomic::Ordering;
 use std::test::Fail;
 
-type Boxed = Box<dyn Pool + Send>;
+pub type Boxed = Box<dyn Pool + Send>;
 
 /// The fault of a list of pools, with how many pools came back and what they have lent.
 fn fault_of<P: Pool>(pools: Vec<P>) -> Option<(PoolFault, usize, u64)> {
@@ -71,8 +71,8 @@ fn faults_have_numbers_and_messages(rt: HostRuntime) -> Result<(), Fail> {
 }
 
 /// Asks a pool of a set that was asked little.
-fn ask<P: Pool>(set: &mut PoolSet<P>, i: usize, asked: u64) -> Option<Lend> {
-    if i >= set.len() || asked == 0 || asked > 1_000_000 {
+pub fn ask<P: Pool>(set: &mut PoolSet<P>, i: usize, asked: u64) -> Option<Lend> {
+    if i >= set.len() || asked == 0 || asked > 4_294_967_295 {
         return None;
     }
     let figures = set.figures(i);
@@ -92,7 +92,7 @@ fn give_back<P: Pool>(set: &mut PoolSet<P>, i: usize, n: u64) -> Option<u64> {
 }
 
 /// The figures of a pool of a set, and its last request with the answer.
-fn shown<P: Pool>(set: &PoolSet<P>, i: usize) -> Option<(Figures, Option<(u64, Lend)>)> {
+pub fn shown<P: Pool>(set: &PoolSet<P>, i: usize) -> Option<(Figures, Option<(u64, Lend)>)> {
     if i < set.len() {
         Some((set.figures(i), set.last(i)))
     } else {
@@ -154,7 +154,7 @@ fn lend_and_close<P: Pool>(pools: Vec<P>) -> Option<(Figures, Option<(u64, Lend)
 }
 
 /// `count` pools that tell what they have met, with marks from 1 on.
-fn marked(alloc: Global, seen: &Arc<Seen>, count: u64) -> Result<Vec<Boxed>, Fail> {
+pub fn marked(alloc: Global, seen: &Arc<Seen>, count: u64) -> Result<Vec<Boxed>, Fail> {
     let mut pools: Vec<Boxed> = Vec::new(alloc);
     for mark in 1..=count {
         let pool = MarkedPool::new(mark, Arc::clone(seen)?);
@@ -182,7 +182,7 @@ fn dropped_set_asks_once_and_drops_pools_with_nothing_lent(rt: HostRuntime) -> R
 }
 
 /// How often a set says that it asked a pool, and how often it told it that time went on.
-fn counted<P: Pool>(set: &PoolSet<P>, i: usize) -> Option<(u64, u64)> {
+pub fn counted<P: Pool>(set: &PoolSet<P>, i: usize) -> Option<(u64, u64)> {
     if i < set.len() {
         Some((set.requests(i), set.turns(i)))
     } else {
@@ -284,5 +284,34 @@ fn closed_set_hands_back_the_same_boxes_with_nothing_lent(rt: HostRuntime) -> Re
     assert!(rt; are_in_order);
     assert_eq!(rt; drops, 3);
     assert_eq!(rt; lent_at_drop, 0);
+    Ok(())
+}
+
+/// Lends from the first and the third of three pools, and closes the set or drops it.
+fn lend_twice_and_end<P: Pool>(pools: Vec<P>, is_closed: bool) -> Option<(Lend, Lend)> {
+    let Ok(mut set) = PoolSet::new(pools) else {
+        return None;
+    };
+    let first = ask(&mut set, 0, 70)?;
+    let third = ask(&mut set, 2, 50)?;
+    if is_closed {
+        drop(set.close());
+    }
+    Some((first, third))
+}
+
+#[test]
+fn loans_go_back_by_one_call_of_each_pool_that_has_some(rt: HostRuntime) -> Result<(), Fail> {
+    for is_closed in [true, false] {
+        let seen = Arc::new(rt.alloc(), Seen::new())?;
+        let pools = marked(rt.alloc(), &seen, 3)?;
+        let lent = lend_twice_and_end(pools, is_closed);
+        let take_backs = seen.take_backs.load(Ordering::SeqCst);
+        let drops = seen.drops.load(Ordering::SeqCst);
+        let lent_at_drop = seen.lent_at_drop.load(Ordering::SeqCst);
+        drop(seen);
+        assert_eq!(rt; lent, Some((Lend::Lent(70), Lend::Lent(50))));
+        assert_eq!(rt; (take_backs, drops, lent_at_drop), (2, 3, 0));
+    }
     Ok(())
 }
