@@ -63,6 +63,7 @@ Settings, with their ranges and what they are if no line sets them (ms is millis
   asks          1 to 16                  3  how often a silent endpoint is asked for a sign of life
   ask_wait      1 to 3600000          5000  ms that it has for each answer
   pool_turn     1 to 86400000         1000  ms from one turn of the pools to the next
+  least_grant   0 to 4294967295          0  units that a loan leaves a call, if it wants as many
 
 NAME has 1 to 128 characters. LIMIT is at most 1000000000000; STEP and BURST are 1 to 4294967295;
 MS is below 9007199254740992, and one that is below an earlier one counts as that. HEX has two
@@ -96,7 +97,9 @@ Behind its number a line says what happened:
 
 B counts the lines before that of the datagram whose reply is kept. If a pool was asked, the line
 goes on with ` lent K`, ` refused` or ` wait`; if a reply that was over went, to make room for this
-one, with ` dropped B`; and if something is sent, with ` > ADDRESS HEX`.
+one, with ` dropped B`; and if something is sent, with ` > ADDRESS HEX`. A loan that leaves a call
+less than least_grant and less than it wants goes back at once: the line has ` lent K`, and what
+is sent is a reject.
 
 Exit status: 0 done, 1 the script was refused, 2 wrong words on the command line, 3 out of
 memory, 4 a standard stream failed. Status 1, 3 and 4 come with one line on standard error:

@@ -7,7 +7,7 @@ use zone_config::{ConfigParts, Key, Networks};
 
 /// For each key its name, its path, the least and the greatest number that it takes, and its
 /// default.
-const ROWS: [(Key, &str, &str, u64, u64, u64); 13] = [
+const ROWS: [(Key, &str, &str, u64, u64, u64); 14] = [
     (
         Key::Limit,
         "limit",
@@ -70,6 +70,14 @@ const ROWS: [(Key, &str, &str, u64, u64, u64); 13] = [
         86_400_000,
         1_000,
     ),
+    (
+        Key::LeastGrant,
+        "least_grant",
+        "zone.least_grant",
+        0,
+        4_294_967_295,
+        0,
+    ),
 ];
 
 #[test]
@@ -99,7 +107,7 @@ fn each_key_takes_the_numbers_of_its_range(rt: HostRuntime) {
         assert!(rt; key.takes(least), "{name}");
         assert!(rt; key.takes(default), "{name}");
         assert!(rt; key.takes(most), "{name}");
-        assert!(rt; !key.takes(0), "{name}");
+        assert!(rt; least == 0 || !key.takes(0), "{name}");
         assert!(rt; !key.takes(key.most() + 1), "{name}");
         assert!(rt; !key.takes(u64::MAX), "{name}");
     }
@@ -126,13 +134,13 @@ fn are_defaults(parts: &ConfigParts) -> bool {
     true
 }
 
-/// Whether the settings have the numbers 1 to 13, in the order of the table.
+/// Whether the settings have the numbers 1 to 14, in the order of the table.
 fn are_counted(parts: &ConfigParts) -> bool {
     (parts.limit, parts.call_limit, parts.time_to_live) == (1, 2, 3)
         && (parts.endpoints, parts.calls, parts.kept) == (4, 5, 6)
         && (parts.window, parts.silence, parts.delay) == (7, 8, 9)
         && (parts.retries, parts.asks) == (10, 11)
-        && (parts.ask_wait, parts.pool_turn) == (12, 13)
+        && (parts.ask_wait, parts.pool_turn, parts.least_grant) == (12, 13, 14)
 }
 
 /// Whether a number that is set under a key is the one that is read, and is that of its setting.
@@ -151,6 +159,7 @@ fn are_set(parts: &mut ConfigParts) -> bool {
         (Key::Asks, 11),
         (Key::AskWait, 12),
         (Key::PoolTurn, 13),
+        (Key::LeastGrant, 14),
     ] {
         key.set(parts, number);
         if key.get(parts) != number {

@@ -265,7 +265,8 @@ fn events_are_read(rt: HostRuntime) -> Result<(), Fail> {
 fn each_setting_has_its_key(rt: HostRuntime) -> Result<(), Fail> {
     let text: &[u8] = b"zone gk 10.0.0.1:1719\nset limit 1\nset call_limit 2\nset time_to_live 3\n\
         set endpoints 4\nset calls 5\nset kept 6\nset window 7\nset silence 8\nset delay 9\n\
-        set retries 10\nset asks 11\nset ask_wait 12\nset pool_turn 13\n";
+        set retries 10\nset asks 11\nset ask_wait 12\nset pool_turn 13\n\
+        set least_grant 14\n";
     let script = read_script(rt.alloc(), &mut Input::new(text))?;
     let parts = script.config.parts();
     let calls = (parts.limit, parts.call_limit, parts.calls, parts.endpoints);
@@ -273,7 +274,10 @@ fn each_setting_has_its_key(rt: HostRuntime) -> Result<(), Fail> {
     let times = (parts.time_to_live, parts.window, parts.silence, parts.delay);
     assert_eq!(rt; times, (3, 7, 8, 9));
     assert_eq!(rt; (parts.kept, parts.retries, parts.asks), (6, 10, 11));
-    assert_eq!(rt; (parts.ask_wait, parts.pool_turn), (12, 13));
+    assert_eq!(rt;
+        (parts.ask_wait, parts.pool_turn, parts.least_grant),
+        (12, 13, 14)
+    );
     Ok(())
 }
 

@@ -54,7 +54,7 @@ fn the_example_sets_each_number_to_its_default(rt: HostRuntime) -> Result<(), Fa
         Err(_) => false,
     };
     assert!(rt; passed);
-    assert_eq!(rt; keys_written(), 19);
+    assert_eq!(rt; keys_written(), 20);
     Ok(())
 }
 
@@ -88,7 +88,7 @@ endpoints = 1000
 # How many calls there may be: 1 to 20000.
 calls = 1000
 
-# How many replies are kept, to be sent again where a request is repeated: 1 to 65536.
+# How many replies are kept, to be sent again if a request is repeated: 1 to 65536.
 kept = 4096
 
 # For how long a reply is kept: 1 to 3600000 milliseconds.
@@ -111,6 +111,10 @@ ask_wait = 5000
 
 # How long it is from one turn of the pools to the next: 1 to 86400000 milliseconds.
 pool_turn = 1000
+
+# The least bandwidth that a pool's loan may leave a call, or what the call wants if that is less: a
+# smaller loan goes back, and the request is rejected. 0 to 4294967295 units; 0 takes any loan.
+least_grant = 0
 
 [serve]
 # How many threads receive datagrams: 1 to 15.

@@ -42,6 +42,7 @@ zone.retries = 3  # the default
 zone.asks = 3  # the default
 zone.ask_wait = 5000  # the default
 zone.pool_turn = 1000  # the default
+zone.least_grant = 0  # the default
 serve.receivers = 4  # the default
 serve.ring = 4096
 serve.faults = 16  # the default

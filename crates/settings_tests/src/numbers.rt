@@ -10,7 +10,7 @@ use zone_config::Key;
 type Row = (&'static str, &'static str, u64, u64, u64);
 
 /// The numbers of the zone.
-const ZONE: [Row; 13] = [
+const ZONE: [Row; 14] = [
     ("limit", "zone.limit", 1, 1_000_000_000_000, 100_000),
     ("call_limit", "zone.call_limit", 1, 4_294_967_295, 20_000),
     ("time_to_live", "zone.time_to_live", 1, 4_294_967_295, 60),
@@ -24,6 +24,7 @@ const ZONE: [Row; 13] = [
     ("asks", "zone.asks", 1, 16, 3),
     ("ask_wait", "zone.ask_wait", 1, 3_600_000, 5_000),
     ("pool_turn", "zone.pool_turn", 1, 86_400_000, 1_000),
+    ("least_grant", "zone.least_grant", 0, 4_294_967_295, 0),
 ];
 
 /// The numbers of the server.

@@ -18,21 +18,26 @@ fn is_judged(parts: ConfigParts, key: &str) -> bool {
 #[test]
 fn a_key_out_of_its_range_is_named(rt: HostRuntime) -> Result<(), Fail> {
     let cases = [
-        (1, 1, 1, 1, ""),
-        (1_000_000_000_000, 20_000, 16, 86_400_000, ""),
-        (1_000_000_000_001, 20_001, 17, 86_400_001, "zone.limit"),
-        (0, 1, 1, 1, "zone.limit"),
-        (1, 20_001, 17, 86_400_001, "zone.calls"),
-        (1, 1, 17, 0, "zone.asks"),
-        (1, 1, 1, 0, "zone.pool_turn"),
+        (1, 1, 1, 1, 0, ""),
+        (1_000_000_000_000, 20_000, 16, 86_400_000, 4_294_967_295, ""),
+        (1_000_000_000_001, 20_001, 17, 86_400_001, 0, "zone.limit"),
+        (0, 1, 1, 1, 0, "zone.limit"),
+        (1, 20_001, 17, 86_400_001, 0, "zone.calls"),
+        (1, 1, 17, 0, 0, "zone.asks"),
+        (1, 1, 1, 0, 4_294_967_296, "zone.pool_turn"),
+        (1, 1, 1, 1, 4_294_967_296, "zone.least_grant"),
     ];
-    for (limit, calls, asks, pool_turn, key) in cases {
+    for (limit, calls, asks, pool_turn, least_grant, key) in cases {
         let mut parts = parts(rt.alloc())?;
         parts.limit = limit;
         parts.calls = calls;
         parts.asks = asks;
         parts.pool_turn = pool_turn;
-        assert!(rt; is_judged(parts, key), "{limit} {calls} {asks} {pool_turn}");
+        parts.least_grant = least_grant;
+        assert!(rt;
+            is_judged(parts, key),
+            "{limit} {calls} {asks} {pool_turn} {least_grant}"
+        );
     }
     assert_eq!(rt; ConfigFault::OutOfRange("zone.limit").number(), 1);
     Ok(())
