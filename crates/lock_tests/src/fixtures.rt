@@ -21,12 +21,19 @@ const ENDPOINT: Source = Address {
 
 /// A zone of 3,000 units, of which a call may have 2,000, over a pool of 2,500.
 pub fn zone(alloc: Global) -> Option<Zone<FixedPool>> {
+    zone_of(alloc, 3_000, 0)
+}
+
+/// A zone of so many units, of which a call may have 2,000, with this least grant, over a pool of
+/// 2,500.
+pub fn zone_of(alloc: Global, limit: u64, least_grant: u64) -> Option<Zone<FixedPool>> {
     let identifier = Name::new(&[103, 107])?;
     let mut networks = Vec::new(alloc);
     networks.push(None).ok()?;
     let mut parts = ConfigParts::new(identifier, GATEKEEPER, Networks::from_vec(networks));
-    parts.limit = 3_000;
+    parts.limit = limit;
     parts.call_limit = 2_000;
+    parts.least_grant = least_grant;
     let Ok(config) = Config::new(parts) else {
         return None;
     };

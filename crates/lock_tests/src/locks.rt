@@ -4,7 +4,8 @@ ghost use Rattle.std.specs.Prelude.{◌≡◌};
 
 use crate::chapters::has_chapters;
 use crate::discarding::has_discarded;
-use crate::fixtures::zone;
+use crate::fixtures::{zone, zone_of};
+use crate::least_grant::has_returned_loan;
 use crate::seats::{are_listed, are_seated, is_short_of_a_seat};
 use crate::threads::are_all_entered;
 use pools::FixedPool;
@@ -26,6 +27,7 @@ pub enum Deed {
     Chapters,
     Discarding,
     Threads,
+    ReturnedLoan,
 }
 
 /// Whether a lock of this many seats over a zone of its own passes what is done with it: false if
@@ -36,7 +38,10 @@ pub fn passes<R: Threads + Wait + Sync>(
     seats: usize,
     deed: Deed,
 ) -> Option<bool> {
-    let zone = zone(alloc)?;
+    let zone = match deed {
+        Deed::ReturnedLoan => zone_of(alloc, 2_000, 1_000)?,
+        _ => zone(alloc)?,
+    };
     let blanks = Blanks::new(seats);
     open_and_do::<Brand, Brand, Brand, R>(rt, alloc, zone, seats, blanks, deed)
 }
@@ -72,6 +77,7 @@ fn open_and_do<
             Deed::Chapters => has_chapters(rt, alloc, lock, seats),
             Deed::Discarding => has_discarded(rt, alloc, lock, seats),
             Deed::Threads => are_all_entered(rt, alloc, lock, seats),
+            Deed::ReturnedLoan => has_returned_loan(rt, alloc, lock, seats),
         },
         Err((_, OpenFault::BadSeats)) => Some(false),
         Err((_, OpenFault::Memory)) => None,

@@ -20,12 +20,19 @@ pub const ENDPOINT: Source = Address {
 
 /// A zone of 3,000 units, of which a call may have 2,000, over a pool of 2,500.
 pub fn zone(alloc: Global) -> Result<Zone<FixedPool>, Fail> {
+    zone_of(alloc, 3_000, 0)
+}
+
+/// A zone of so many units, of which a call may have 2,000, with this least grant, over a pool of
+/// 2,500.
+pub fn zone_of(alloc: Global, limit: u64, least_grant: u64) -> Result<Zone<FixedPool>, Fail> {
     let identifier = Name::new(&[103, 107]).ok_or("a name")?;
     let mut networks = Vec::new(alloc);
     networks.push(None)?;
     let mut parts = ConfigParts::new(identifier, GATEKEEPER, Networks::from_vec(networks));
-    parts.limit = 3_000;
+    parts.limit = limit;
     parts.call_limit = 2_000;
+    parts.least_grant = least_grant;
     let Ok(config) = Config::new(parts) else {
         return Err(Fail::from("the settings are in their ranges"));
     };
@@ -55,7 +62,7 @@ fn record(book: &mut Book, zone: &mut Zone<FixedPool>, event: Event) -> Result<(
     Ok(())
 }
 
-fn datagram(alloc: Global, bytes: &[u8], milliseconds: u64) -> Result<Event, Fail> {
+pub fn datagram(alloc: Global, bytes: &[u8], milliseconds: u64) -> Result<Event, Fail> {
     let moment = Moment::new(milliseconds).ok_or("a moment")?;
     let bytes = Octets::from_vec(bytes.to_vec(alloc)?);
     Ok(Event::Datagram(ENDPOINT, bytes, moment))

@@ -7,4 +7,6 @@ mod changes;
 #[cfg(test)]
 mod fixtures;
 #[cfg(test)]
+mod least_grant;
+#[cfg(test)]
 mod recorded;
