@@ -11,12 +11,14 @@ use std::sync::Arc;
 use std::sync::atomic::{AtomicU64, Ordering};
 use std::test::Fail;
 
-/// How often a pool was asked, how often it had its turn, and how often units came back to it.
+/// How often a pool was asked, how often it had its turn, how often units came back to it, and how
+/// many it has lent.
 #[derive(Drop)]
 pub struct Met {
     lends: AtomicU64,
     turns: AtomicU64,
     returns: AtomicU64,
+    lent: AtomicU64,
 }
 
 impl Met {
@@ -25,6 +27,7 @@ impl Met {
             lends: AtomicU64::new(0),
             turns: AtomicU64::new(0),
             returns: AtomicU64::new(0),
+            lent: AtomicU64::new(0),
         }
     }
 
@@ -37,6 +40,11 @@ impl Met {
     pub fn got_back(&self, returns: u64) -> bool {
         self.returns.load(Ordering::SeqCst) == returns
     }
+
+    /// Whether this many units of the pool are lent.
+    pub fn has_lent(&self, units: u64) -> bool {
+        self.lent.load(Ordering::SeqCst) == units
+    }
 }
 
 /// A pool that counts what is called of it.
@@ -44,6 +52,14 @@ impl Met {
 pub struct CountingPool<P: Pool> {
     pool: P,
     met: Arc<Met>,
+}
+
+impl<P: Pool> CountingPool<P> {
+    /// The pool, which counts there what is called of it.
+    pub fn new(pool: P, met: &Arc<Met>) -> Result<CountingPool<P>, Fail> {
+        let met = Arc::clone(met)?;
+        Ok(CountingPool { pool, met })
+    }
 }
 
 impl<P: Pool> Pool for CountingPool<P> {
@@ -71,12 +87,15 @@ impl<P: Pool> Pool for CountingPool<P> {
 
     fn lend(&mut self, asked: u64) -> Lend {
         self.met.lends.fetch_add(1, Ordering::SeqCst);
-        self.pool.lend(asked)
+        let answer = self.pool.lend(asked);
+        self.met.lent.store(self.pool.lent(), Ordering::SeqCst);
+        answer
     }
 
     fn take_back(&mut self, n: u64) {
         self.met.returns.fetch_add(1, Ordering::SeqCst);
         self.pool.take_back(n);
+        self.met.lent.store(self.pool.lent(), Ordering::SeqCst);
     }
 
     fn turn(&mut self) {
@@ -112,14 +131,8 @@ pub fn fixed_zone(
     first: &Arc<Met>,
     second: &Arc<Met>,
 ) -> Result<Zone<CountingPool<FixedPool>>, Fail> {
-    let first = CountingPool {
-        pool: FixedPool::new(limit),
-        met: Arc::clone(first)?,
-    };
-    let second = CountingPool {
-        pool: FixedPool::new(limit),
-        met: Arc::clone(second)?,
-    };
+    let first = CountingPool::new(FixedPool::new(limit), first)?;
+    let second = CountingPool::new(FixedPool::new(limit), second)?;
     counted_zone(alloc, parts, first, second)
 }
 
@@ -130,14 +143,8 @@ pub fn paced_zone(
     first: &Arc<Met>,
     second: &Arc<Met>,
 ) -> Result<Zone<CountingPool<PacedPool>>, Fail> {
-    let first = CountingPool {
-        pool: PacedPool::new(2_500, 1_280),
-        met: Arc::clone(first)?,
-    };
-    let second = CountingPool {
-        pool: PacedPool::new(2_500, 1_280),
-        met: Arc::clone(second)?,
-    };
+    let first = CountingPool::new(PacedPool::new(2_500, 1_280), first)?;
+    let second = CountingPool::new(PacedPool::new(2_500, 1_280), second)?;
     counted_zone(alloc, parts, first, second)
 }
 

@@ -46,6 +46,15 @@ pub fn zone_over<P: Pool>(
 ) -> Result<Zone<P>, Fail> {
     parts.limit = 3_000;
     parts.call_limit = 2_000;
+    zone_with(alloc, parts, pools)
+}
+
+/// A zone with these settings over these pools.
+pub fn zone_with<P: Pool>(
+    alloc: Global,
+    parts: ConfigParts,
+    pools: Vec<P>,
+) -> Result<Zone<P>, Fail> {
     let Ok(set) = PoolSet::new(pools) else {
         return Err(Fail::from("1 to 16 idle pools"));
     };
