@@ -11,6 +11,8 @@ mod endpoints;
 #[cfg(test)]
 mod fixtures;
 #[cfg(test)]
+mod in_use;
+#[cfg(test)]
 mod least_grant;
 #[cfg(test)]
 mod messages;
