@@ -7,6 +7,7 @@ use crate::clocks::clocks;
 use crate::fixtures::{ENDPOINT, PLAN, zone};
 use book_audit::audit;
 use pools::{FixedPool, Pool};
+use ras_core::Note;
 use std::alloc::Global;
 use std::rt::Clock;
 use std::sync::Wait;
@@ -15,8 +16,9 @@ use std::thread;
 use std::thread::Threads;
 use std::time::Duration;
 use udp_server::{Datagrams, DeviceFault, Gate, Open, Received, Report, Stage, serve_zone};
+use vectors::replies::GCF;
 use vectors::requests::{GRQ, GRQ_OF_XX};
-use zone_events::Datagram;
+use zone_events::{Datagram, Event};
 
 /// A number of a call that none has.
 const NEVER: u64 = u64::MAX;
@@ -25,12 +27,14 @@ const NEVER: u64 = u64::MAX;
 const PATIENCE: usize = 10_000;
 
 /// What is known of an end: which of its calls fails, counted from 0, how many it was asked for and
-/// how many of them have failed, and whether it has told that it stopped.
+/// how many of them have failed, how many confirms it has sent to the endpoint that discovers, and
+/// whether it has told that it stopped.
 #[derive(Drop)]
 struct Record {
     fails_at: u64,
     calls: AtomicU64,
     failed: AtomicU64,
+    confirms: AtomicU64,
     has_stopped: AtomicBool,
 }
 
@@ -40,6 +44,7 @@ impl Record {
             fails_at,
             calls: AtomicU64::new(0),
             failed: AtomicU64::new(0),
+            confirms: AtomicU64::new(0),
             has_stopped: AtomicBool::new(false),
         }
     }
@@ -51,6 +56,17 @@ impl Record {
 
     fn failed(&self) -> u64 {
         self.failed.load(Ordering::SeqCst)
+    }
+
+    /// Counts what is sent, if it is the confirm of a discovery, to the endpoint that asks.
+    fn note_sent(&self, datagram: &Datagram) {
+        if datagram.to == ENDPOINT && datagram.bytes.as_slice() == GCF.as_slice() {
+            self.confirms.fetch_add(1, Ordering::SeqCst);
+        }
+    }
+
+    fn confirms(&self) -> u64 {
+        self.confirms.load(Ordering::SeqCst)
     }
 }
 
@@ -115,10 +131,11 @@ impl Datagrams for Failing<'_> {
         Ok(Received::Datagram(ENDPOINT, octets))
     }
 
-    fn send(&mut self, _datagram: &Datagram) -> Result<(), DeviceFault> {
+    fn send(&mut self, datagram: &Datagram) -> Result<(), DeviceFault> {
         if self.record.fails() {
             return Err(self.fault());
         }
+        self.record.note_sent(datagram);
         Ok(())
     }
 
@@ -248,21 +265,35 @@ fn a_failed_receive_loses_no_datagram(rt: HostRuntime) {
     assert!(rt; counts == Some((2, 2, 0, 0, 1, 0)));
 }
 
-/// The counts of a run in which the first send fails, and its request comes again.
-fn resent<R: Threads + Wait + Clock + Sync>(
-    rt: &R,
-    alloc: Global,
-) -> Option<(u64, u64, u64, u64, u64, u64)> {
+/// The notes of the first two entries of datagrams.
+fn first_notes<P: Pool>(report: &Report<P>) -> (Option<Note>, Option<Note>) {
+    let mut notes = (None, None);
+    for entry in report.finished.entries() {
+        let is_datagram = matches!(&entry.event, Event::Datagram(_, _, _));
+        notes = match notes {
+            (None, _) if is_datagram => (Some(entry.outcome.note), None),
+            (Some(first), None) if is_datagram => (Some(first), Some(entry.outcome.note)),
+            _ => notes,
+        };
+    }
+    notes
+}
+
+/// Whether, in a run in which the first send fails and its request comes again, the confirm is sent
+/// once, by the reply that was kept.
+fn is_resent<R: Threads + Wait + Clock + Sync>(rt: &R, alloc: Global) -> Option<bool> {
     const TWICE: [Discovery; 2] = [Discovery::Confirmed, Discovery::Confirmed];
     let (receiver, sender) = (Record::new(NEVER), Record::new(0));
     let report = served(rt, alloc, &receiver, &sender, &TWICE)?;
-    Some(counts(&report))
+    let is_counted = counts(&report) == (2, 1, 0, 0, 0, 1);
+    let are_noted = first_notes(&report) == (Some(Note::Served), Some(Note::Kept));
+    Some(is_counted && are_noted && sender.confirms() == 1)
 }
 
 #[test]
 fn a_repeat_is_answered_after_a_failed_send(rt: HostRuntime) {
-    let counts = resent(&rt, rt.alloc());
-    assert!(rt; counts == Some((2, 1, 0, 0, 0, 1)));
+    let passed = is_resent(&rt, rt.alloc());
+    assert!(rt; passed == Some(true));
 }
 
 /// A gate that holds the first worker before its step until an end has stopped.
