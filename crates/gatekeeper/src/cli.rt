@@ -118,8 +118,8 @@ examples/gatekeeper.toml has every key, with its meaning, its range and its defa
 
 const CHECK_HELP: &str = "\
 Settings are UTF-8, of at most 1,048,576 octets. They are refused as a whole, with one line on
-standard error, if they are no TOML document (`settings: 1 Syntax`, with the line and the
-column), or by the first key that fails:
+standard error, if they are no TOML document (`settings: 1 Syntax`, behind a line of the log with
+the line, the column and the reason), or by the first key that fails:
   settings: 2 Missing KEY      the key is required, and isn't there
   settings: 3 WrongKind KEY    it is of another kind, as a text in place of a number
   settings: 4 OutOfRange KEY   it is out of its range, or is no address, network or kind of pool
@@ -138,8 +138,8 @@ docs/OPERATING.md leads from the settings to a first call:
 
 const SERVE_HELP: &str = "\
 Settings are UTF-8, of at most 1,048,576 octets. They are refused as a whole, with one line on
-standard error, if they are no TOML document (`settings: 1 Syntax`, with the line and the
-column), or by the first key that fails:
+standard error, if they are no TOML document (`settings: 1 Syntax`, behind a line of the log with
+the line, the column and the reason), or by the first key that fails:
   settings: 2 Missing KEY      the key is required, and isn't there
   settings: 3 WrongKind KEY    it is of another kind, as a text in place of a number
   settings: 4 OutOfRange KEY   it is out of its range, or is no address, network or kind of pool
@@ -152,7 +152,8 @@ were dropped, since too many of them waited; how many steps were refused for wan
 and how many receives and sends failed.
 
 Exit status: 0 done, 1 the settings were refused, 2 wrong words on the command line, 3 out of
-memory, 4 the address can't be bound, or a standard stream failed.";
+memory, 4 the address can't be bound (`bind failed`, behind a line of the log with the cause), or
+a standard stream failed.";
 
 fn replay_command<'a>(alloc: Global) -> Command<'a> {
     Command::new(alloc, "replay")

@@ -23,6 +23,7 @@ mod stopwatch;
 
 use cli::{Choice, chosen};
 use log::Log;
+use notices::tell_place;
 use replay::{ReplayFault, replay};
 use script::Output;
 use serve::serve;
@@ -106,7 +107,7 @@ fn refuse(rt: &impl Eprint, fault: &ReplayFault) -> u8
 
 /// Checks the settings on standard input, and prints them, with a warning for each key that is
 /// passed over.
-fn check_input<R: Input + Print + Eprint>(rt: &R, alloc: Global) -> u8 {
+fn check_input<R: Input + Print + Eprint + Log>(rt: &R, alloc: Global) -> u8 {
     let Ok(buffer) = BufWriter::new(alloc, io::writer(rt)) else {
         return out_of_memory(rt);
     };
@@ -122,10 +123,11 @@ fn check_input<R: Input + Print + Eprint>(rt: &R, alloc: Global) -> u8 {
     }
 }
 
-/// Tells in one line on standard error why settings aren't read.
-fn refuse_settings(rt: &impl Eprint, fault: &InputFault) -> u8
+/// Tells in one line on standard error why settings aren't read, behind what the log tells of it.
+fn refuse_settings<R: Eprint + Log>(rt: &R, fault: &InputFault) -> u8
     ensures { result ≡ input_status fault.now }
 {
+    tell_place(rt, fault);
     let _ = eprintln!(rt; "{fault}");
     fault.status()
 }

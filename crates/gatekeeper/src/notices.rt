@@ -1,12 +1,14 @@
 //! What the server tells by its log.
 
 use crate::report::has_faults;
-use crate::settings_input::PassedOver;
-use log::{Log, info, warn};
+use crate::settings_input::{InputFault, PassedOver};
+use log::{Log, error, info, warn};
 use pools::Pool;
 use ras_module::{Address, Name};
+use settings::SettingsFault;
 use std::fmt;
 use udp_server::Report;
+use udp_socket::BindFault;
 
 /// A name as people read it.
 #[derive(Drop)]
@@ -27,6 +29,25 @@ pub fn warn_of<R: Log>(rt: &R, passed_over: &[PassedOver]) {
     for key in passed_over {
         warn!(rt; target: "settings", "{key}");
     }
+}
+
+/// Tells where settings aren't read, and why, if they are no text or no TOML document. Any other
+/// fault is told in full by the line that ends the program.
+pub fn tell_place<R: Log>(rt: &R, fault: &InputFault) {
+    match fault {
+        InputFault::NotText(line) => error!(rt; target: "settings", "line {line}: no UTF-8"),
+        InputFault::Refused(SettingsFault::Syntax(place)) => {
+            error!(rt; target: "settings", "{place}");
+        }
+        _ => {}
+    }
+}
+
+/// Tells why the address of the zone isn't bound.
+pub fn tell_cause<R: Log>(rt: &R, address: Address, fault: BindFault) {
+    let [a, b, c, d] = address.ip;
+    let port = address.port;
+    error!(rt; target: "serve", "{a}.{b}.{c}.{d}:{port} can't be bound: {}", fault.cause());
 }
 
 /// Tells which zone is served, where, and by how many receivers.

@@ -7,7 +7,7 @@ ghost use Rattle.settings.specs.Settings.{AreSettings};
 ghost use Rattle.udp_server.specs.Served.{IsServed};
 
 use crate::boxed_pools::{are_new, pools_of};
-use crate::notices::{tell_zone, warn_of, warn_of_faults};
+use crate::notices::{tell_cause, tell_place, tell_zone, warn_of, warn_of_faults};
 use crate::over_socket::{ask_for_buffer, serve_socket};
 use crate::report::print_report;
 use crate::service::{Ending, Service};
@@ -65,7 +65,10 @@ fn serve_pools<P: Pool + Send, R: Threads + Wait + Clock + Net + Log + Sync, S: 
     let zone = zone_of(alloc, config, pools)?;
     let socket = match bind_zone(rt, address) {
         Ok(socket) => socket,
-        Err(fault) => return Err(RunningFault::Bind(fault)),
+        Err(fault) => {
+            tell_cause(rt, address, fault);
+            return Err(RunningFault::Bind(fault));
+        }
     };
     ask_for_buffer(rt, &socket, service.buffer);
     tell_zone(rt, &name, address, service.receivers);
@@ -131,7 +134,7 @@ fn serve_settings<R: Threads + Wait + Clock + Net + Log + Sync, S: Stop + Sync, 
 
 /// Reads settings, and serves their zone. Each receiving thread stops after this many receives, if
 /// a number is given, and once it is told to. Then the report is printed. If there is none, nothing
-/// is written.
+/// is written, and the log tells what a person has to know besides the fault.
 pub fn serve<
     I: Read + Drop,
     R: Threads + Wait + Clock + Net + Log + Sync,
@@ -153,7 +156,10 @@ pub fn serve<
         passed_over,
     } = match read_input(alloc, input) {
         Ok(read) => read,
-        Err(fault) => return Err(ServingFault::Settings(fault)),
+        Err(fault) => {
+            tell_place(rt, &fault);
+            return Err(ServingFault::Settings(fault));
+        }
     };
     warn_of(rt, &passed_over);
     let ending = Ending { receives, stop };

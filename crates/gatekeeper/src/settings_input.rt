@@ -25,7 +25,7 @@ pub enum InputFault {
     #[error("input too long")]
     TooLong,
     /// It isn't UTF-8, from this line on.
-    #[error("settings: 1 Syntax line {0}: no UTF-8")]
+    #[error("settings: 1 Syntax")]
     NotText(usize),
     /// It gives no settings.
     #[error("settings: {0}")]

@@ -10,11 +10,11 @@ use thiserror::Error;
 
 /// Why a text gives no settings. Of the first five, the first that applies is answered: the keys
 /// are tested in order, those of `[zone]`, then of `[serve]`, then of each `[[pool]]`.
-/// It is shown as its number, its name, and the key or the place in the text if there is one.
+/// It is shown as its number, its name, and the key if there is one.
 #[derive(Clone, Copy, Debug, PartialEq, Eq, Error)]
 pub enum SettingsFault {
     /// The text is no TOML document.
-    #[error("1 Syntax {0}")]
+    #[error("1 Syntax")]
     Syntax(SyntaxError),
     /// This key is required, and isn't there.
     #[error("2 Missing {0}")]
@@ -49,7 +49,7 @@ impl SettingsFault {
     }
 }
 
-/// Where and why a text is no TOML document.
+/// Where and why a text is no TOML document. It is shown as the line, the column and the reason.
 #[derive(Clone, Copy, Debug, PartialEq, Eq)]
 pub struct SyntaxError {
     /// The line at which the text is refused, from 1.

@@ -333,25 +333,33 @@ fn identifiers_have_at_most_128_characters(rt: HostRuntime) -> Result<(), Fail> 
 
 /// Texts that are no TOML document, with the line and the column that are told.
 const NO_DOCUMENTS: [(&str, &str); 4] = [
-    ("[zone", "1 Syntax line 1, column 6: "),
-    ("[zone]\nidentifier = gk\n", "1 Syntax line 2, column 14: "),
-    (
-        "[zone]\nlimit = 1\nlimit = 2\n",
-        "1 Syntax line 3, column 1: ",
-    ),
-    ("zone gk 10.0.0.1:1719\n", "1 Syntax line 1, column 6: "),
+    ("[zone", "line 1, column 6: "),
+    ("[zone]\nidentifier = gk\n", "line 2, column 14: "),
+    ("[zone]\nlimit = 1\nlimit = 2\n", "line 3, column 1: "),
+    ("zone gk 10.0.0.1:1719\n", "line 1, column 6: "),
 ];
+
+/// What is told of the fault of a text, and of its place if it is no document.
+fn told_of(alloc: Global, text: &str) -> Result<(String, String), AllocError> {
+    let Some(fault) = fault_of(alloc, text) else {
+        return Ok((String::new(alloc), String::new(alloc)));
+    };
+    let place = match &fault {
+        SettingsFault::Syntax(error) => format!(in alloc; "{error}")?,
+        _ => String::new(alloc),
+    };
+    Ok((format!(in alloc; "{fault}")?, place))
+}
 
 #[test]
 fn a_text_that_is_no_document_is_told_by_its_place(rt: HostRuntime) -> Result<(), Fail> {
     for (text, place) in NO_DOCUMENTS {
-        let told = match fault_of(rt.alloc(), text) {
-            Some(fault) => format!(in rt.alloc(); "{fault}")?,
-            None => String::new(rt.alloc()),
-        };
-        let passed = told.as_str().starts_with(place);
+        let (told, told_place) = told_of(rt.alloc(), text)?;
+        let is_named = told.as_str() == "1 Syntax";
+        let is_placed = told_place.as_str().starts_with(place);
         drop(told);
-        assert!(rt; passed, "{place}");
+        drop(told_place);
+        assert!(rt; is_named && is_placed, "{place}");
     }
     assert_eq!(rt;
         fault_of(rt.alloc(), ""),

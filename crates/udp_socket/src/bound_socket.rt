@@ -20,17 +20,17 @@ pub struct BoundSocket {
     socket: UdpSocket,
 }
 
-/// Why an address isn't bound.
+/// Why an address isn't bound. It is shown as `bind failed`, whatever the cause.
 #[derive(Clone, Copy, PartialEq, Eq, Debug, Error)]
 pub enum BindFault {
     /// Another program has it.
-    #[error("bind failed: another program uses this address")]
+    #[error("bind failed")]
     InUse,
     /// It is none of this machine's.
-    #[error("bind failed: this machine has no such address")]
+    #[error("bind failed")]
     NotHere,
     /// Its port is for others.
-    #[error("bind failed: not permitted")]
+    #[error("bind failed")]
     NotPermitted,
     /// The system says no for another cause.
     #[error("bind failed")]
@@ -44,6 +44,16 @@ impl BindFault {
             ErrorKind::AddrNotAvailable => BindFault::NotHere,
             ErrorKind::PermissionDenied => BindFault::NotPermitted,
             _ => BindFault::Other,
+        }
+    }
+
+    /// The cause, as a person is told it.
+    pub fn cause(&self) -> &'static str {
+        match self {
+            BindFault::InUse => "another program uses this address",
+            BindFault::NotHere => "this machine has no such address",
+            BindFault::NotPermitted => "not permitted",
+            BindFault::Other => "the system refuses it",
         }
     }
 }
