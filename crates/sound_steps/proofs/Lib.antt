@@ -1,3 +1,4 @@
 pub mod Sizes
 pub mod Endpoints
+pub mod Calls
 pub mod Steps
