@@ -1,4 +1,5 @@
 pub mod Sizes
 pub mod Endpoints
 pub mod Calls
+pub mod Tables
 pub mod Steps
