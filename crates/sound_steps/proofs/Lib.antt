@@ -4,4 +4,5 @@ pub mod Calls
 pub mod Tables
 pub mod Serving
 pub mod Plans
+pub mod Kept
 pub mod Steps

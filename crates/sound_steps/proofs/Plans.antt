@@ -6,6 +6,7 @@ use Rattle.std.specs.FinMap as fin
 use Rattle.std.specs.FinMap.{get, len}
 use Rattle.std.proofs.lemmas.Bool.Decides.{nat_tests}
 use Rattle.ras_module.specs.declared.address.Address.{Address}
+use Rattle.ras_module.specs.declared.call_key.CallKey.{CallKey}
 use Rattle.ras_module.specs.declared.alias.Alias.{Alias}
 use Rattle.ras_module.specs.declared.request.AdmissionRequest.{AdmissionRequest}
 use Rattle.ras_module.specs.declared.request.BandwidthRequest.{BandwidthRequest}
@@ -23,15 +24,19 @@ use Rattle.admission.specs.Calls.{in_use, leg_at, legs_of}
 use Rattle.admission.specs.Legs.{leg_of}
 use Rattle.zone_config.specs.Networks.{pool_of}
 use Rattle.zone_tables.specs.declared.change.CallChange.TheVariants.{Opening, Joining, Lowering}
+use Rattle.zone_tables.specs.declared.change.Change.{Change}
 use Rattle.zone_tables.specs.declared.change.Change.TheVariants.{Endpoint, Calls}
 use Rattle.zone_tables.specs.declared.change.EndpointChange.TheVariants.{Renewal, Rewriting}
 use Rattle.zone_tables.specs.declared.change.EndpointChange.TheVariants.{Addition, Removal}
 use Rattle.zone_tables.specs.declared.entry.Entry.{Entry}
 use Rattle.zone_tables.specs.declared.unit_request.Purpose.TheVariants as purpose
-use Rattle.zone_tables.specs.Changes.{IsRegistered}
+use Rattle.zone_tables.specs.Changes.{IsPossible, after_change}
+use Rattle.zone_tables.specs.Disengaging.{without_leg_of}
 use Rattle.zone_tables.specs.Soundness.{SoundTables}
 use Rattle.zone_tables.specs.Tables.{Tables}
 use Rattle.zone_tables.proofs.Answered.{is_there}
+use Rattle.zone_tables.proofs.ButLent.{counts_same, same_after_change, same_after_end}
+use Rattle.zone_tables.proofs.Departing.{same_after_leave}
 use Rattle.ras_requests.specs.Grq.{is_foreign}
 use Rattle.ras_requests.specs.Rrq.{addition, deadline, entering, full_registration, has_moved}
 use Rattle.ras_requests.specs.Rrq.{keep_alive, named, new_registration, registration, rejection}
@@ -51,7 +56,7 @@ use Rattle.ras_requests.specs.Plans.{Plan, Served, Settled, Naming, Asking, unch
 use Rattle.ras_requests.specs.Requests.{plan_of}
 use Rattle.ras_requests.specs.Standing.{standing, standing_in}
 use Rattle.ras_requests.proofs.Resizing.{RequestsUnits-resizing}
-use Rattle.sound_steps.proofs.Serving.{IsSoundAsk, SoundBy, asks, pool_there}
+use Rattle.sound_steps.proofs.Serving.{IsSoundAfter, SoundBy, asks, pool_there}
 use Rattle.sound_steps.proofs.Tables.{tables-after, tables-left}
 
 differ : (m n : ℕ) → (m == n) ≡ false → m ≢ n
@@ -76,14 +81,36 @@ module _ (z : Tables) (sound : SoundTables z) where
   by_test true p q is other = is refl
   by_test false p q is other = other refl
 
+  -- nothing changes; or what changes may
+  still : IsSoundAfter z z
+  still = record {
+    sound = sound;
+    counts = counts_same z.pools z.pools (same_after_end z.pools None);
+  }
+
+  changed : (now : ℕ) (change : Change) → IsPossible z change
+      → IsSoundAfter z (after_change now change z)
+  changed now change can = record {
+    sound = tables-after z sound now change can;
+    counts = counts_same z.pools (after_change now change z).pools
+        (same_after_change now change z);
+  }
+
+  left : (key : CallKey) (endpoint : List ℕ) → IsSoundAfter z (without_leg_of z key endpoint)
+  left key endpoint = record {
+    sound = tables-left z sound key endpoint;
+    counts = counts_same z.pools (without_leg_of z key endpoint).pools
+        (same_after_leave endpoint z.calls z.pools key);
+  }
+
   -- RRQ
   module _ (now : ℕ) (q : RegistrationRequest) where
     alive : (w : Option Registration) (id : Option (List ℕ)) → named z id ≡ w
         → SoundBy z (keep_alive z now q w)
-    alive None id is = sound
+    alive None id is = still
     alive (Some r) id is =
-        by_test (has_moved r q.ras) _ _ (λ moved. sound)
-        (λ stays. tables-after z sound now (Endpoint (Renewal r.identifier (deadline z now q)))
+        by_test (has_moved r q.ras) _ _ (λ moved. still)
+        (λ stays. changed now (Endpoint (Renewal r.identifier (deadline z now q)))
         (registered id is, tt)) where
           registered : (id : Option (List ℕ)) → named z id ≡ Some r
               → IsSome (get z.live r.identifier)
@@ -95,12 +122,12 @@ module _ (z : Tables) (sound : SoundTables z) where
         → registered_elsewhere z.live e.call_signal e.aliases ≡ []
         → SoundBy z (entering z now q e w)
     enters e (Some r) at none =
-        tables-after z sound now (Endpoint (Rewriting r.identifier e (deadline z now q)))
+        changed now (Endpoint (Rewriting r.identifier e (deadline z now q)))
         (record { old = r; found = at; identifier = refl; aliases = none }, tt)
     enters e None at none =
-        by_test (len z.live == z.config.endpoints) _ (Naming (addition z now q e)) (λ full. sound)
+        by_test (len z.live == z.config.endpoints) _ (Naming (addition z now q e)) (λ full. still)
         (λ place id unused.
-        tables-after z sound now (Endpoint (Addition (new_registration z now q e id)))
+        changed now (Endpoint (Addition (new_registration z now q e id)))
         (record {
           identifier = unused;
           address = at;
@@ -112,52 +139,52 @@ module _ (z : Tables) (sound : SoundTables z) where
         → registered_elsewhere z.live e.call_signal e.aliases ≡ aliases
         → SoundBy z (unless_held z now q e aliases)
     held e [] none = enters e (at_address z.live e.call_signal) refl none
-    held e (alias ∷ aliases) some = sound
+    held e (alias ∷ aliases) some = still
 
     full : (call_signal ras : Option Address) (aliases : List Alias)
         → SoundBy z (full_registration z now q call_signal ras aliases)
-    full None ras aliases = sound
-    full (Some call_signal) None aliases = sound
+    full None ras aliases = still
+    full (Some call_signal) None aliases = still
     full (Some call_signal) (Some ras) aliases =
-        by_test (nat_lt 32 (length aliases)) _ _ (λ many. sound)
+        by_test (nat_lt 32 (length aliases)) _ _ (λ many. still)
         (λ few. held (record { call_signal = call_signal; ras = ras; aliases = aliases })
         (registered_elsewhere z.live call_signal aliases) refl)
 
     registers : SoundBy z (registration z now q)
     registers =
-        by_test (is_foreign z q.gatekeeper) _ _ (λ foreign. sound)
+        by_test (is_foreign z q.gatekeeper) _ _ (λ foreign. still)
         (λ own. by_test q.keep_alive _ _
         (λ keeps. alive (named z q.endpoint) q.endpoint refl)
         (λ anew. full q.call_signal q.ras (without_doubles q.aliases)))
 
   -- URQ
   departs : (seq : ℕ) (w : Option Registration) → SoundBy z (departure z seq w)
-  departs seq None = sound
+  departs seq None = still
   departs seq (Some r) =
-      by_test (nat_lt 0 (legs_of z.calls r.identifier)) _ _ (λ busy. sound)
-      (λ free. tables-after z sound 0 (Endpoint (Removal r.identifier))
+      by_test (nat_lt 0 (legs_of z.calls r.identifier)) _ _ (λ busy. still)
+      (λ free. changed 0 (Endpoint (Removal r.identifier))
       (tt, none_below (legs_of z.calls r.identifier) free))
 
   -- DRQ
   disengages : (q : DisengageRequest) (w : Option Registration) (leg : Option Leg)
       → SoundBy z (disengagement_of z q w leg)
-  disengages q None leg = sound
-  disengages q (Some r) None = sound
-  disengages q (Some r) (Some leg) = tables-left z sound q.call q.endpoint
+  disengages q None leg = still
+  disengages q (Some r) None = still
+  disengages q (Some r) (Some leg) = left q.call q.endpoint
 
   -- ARQ
   makes : (q : AdmissionRequest) (pool : ℕ) (told : Address) → get z.calls q.call ≡ None
       → IsSome (get z.live q.endpoint) → pool < length z.pools → SoundBy z (making z q pool told)
   makes q pool told none registered there =
-      by_test (len z.calls == z.config.calls) _ _ (λ full. sound)
+      by_test (len z.calls == z.config.calls) _ _ (λ full. still)
       (λ place. by_test (wanted z q.asked == 0) _ _
-      (λ nothing. tables-after z sound 0 (Calls (Opening q.call pool (leg_told q told)))
+      (λ nothing. changed 0 (Calls (Opening q.call pool (leg_told q told)))
       (record {
         absent = none;
         place = differ (len z.calls) z.config.calls place;
         exists = there;
       }, registered))
-      (λ some. by_test (units_left z == 0) _ _ (λ empty. sound)
+      (λ some. by_test (units_left z == 0) _ _ (λ empty. still)
       (λ left. asks z sound (record {
         seq = q.seq;
         endpoint = q.endpoint;
@@ -186,8 +213,8 @@ module _ (z : Tables) (sound : SoundTables z) where
   admits : (q : AdmissionRequest) (w : Option Registration) (call : Option Call)
       (told : Option Address) → get z.live q.endpoint ≡ w → get z.calls q.call ≡ call
       → SoundBy z (admission_of z q w (standing call q.endpoint) told)
-  admits q None call told live is = sound
-  admits q (Some r) None None live is = sound
+  admits q None call told live is = still
+  admits q (Some r) None None live is = still
   admits q (Some r) None (Some told) live is =
       makes q (pool_of z.config.networks r.call_signal.ip) told is
       (is_there (get z.live q.endpoint) r live)
@@ -199,25 +226,25 @@ module _ (z : Tables) (sound : SoundTables z) where
   admits q (Some r) (Some call) told live is = by_leg (leg_of call.legs q.endpoint) refl told where
     by_leg : (w : Option Leg) → leg_of call.legs q.endpoint ≡ w → (told : Option Address)
         → SoundBy z (admission_of z q (Some r) (standing_in call w) told)
-    by_leg (Some leg) has told = sound
-    by_leg None none None = sound
+    by_leg (Some leg) has told = still
+    by_leg None none None = still
     by_leg None none (Some told) =
         by_test (length call.legs == 1) _ _
-        (λ one. tables-after z sound 0 (Calls (Joining q.call (leg_told q told)))
+        (λ one. changed 0 (Calls (Joining q.call (leg_told q told)))
         (record {
           call = call;
           there = is;
           one = equal (length call.legs) 1 one;
           other = none;
         }, is_there (get z.live q.endpoint) r live))
-        (λ two. sound)
+        (λ two. still)
 
   -- BRQ
   lowers : (q : BandwidthRequest) (call : Call) → get z.calls q.call ≡ Some call
       → wanted z q.asked ≤ call.units
-      → SoundTables (lowering z q call (wanted z q.asked)).tables
+      → IsSoundAfter z (lowering z q call (wanted z q.asked)).tables
   lowers q call is few =
-      tables-after z sound 0 (Calls (Lowering q.call (wanted z q.asked) call.pool
+      changed 0 (Calls (Lowering q.call (wanted z q.asked) call.pool
       (call.units - wanted z q.asked)))
       (record { call = call; there = is; pool_is = refl; back_is = omega (arith, few) }, tt)
 
@@ -226,7 +253,7 @@ module _ (z : Tables) (sound : SoundTables z) where
   resizes q call is =
       by_test (nat_le (wanted z q.asked) call.units) _ _
       (λ few. lowers q call is (at_most (wanted z q.asked) call.units few))
-      (λ more. by_test (units_left z == 0) _ _ (λ empty. sound)
+      (λ more. by_test (units_left z == 0) _ _ (λ empty. still)
       (λ left. (let wants : call.units < wanted z q.asked =
       above (wanted z q.asked) call.units more in
       let has : 0 < units_left z = omega (arith, differ (units_left z) 0 left) in
@@ -246,16 +273,16 @@ module _ (z : Tables) (sound : SoundTables z) where
 
   bounds : (q : BandwidthRequest) (w : Option Registration) (call : Option Call)
       → get z.calls q.call ≡ call → SoundBy z (bandwidth_of z q w (standing call q.endpoint))
-  bounds q None call is = sound
-  bounds q (Some r) None is = sound
+  bounds q None call is = still
+  bounds q (Some r) None is = still
   bounds q (Some r) (Some call) is = by_leg (leg_of call.legs q.endpoint) where
     by_leg : (w : Option Leg) → SoundBy z (bandwidth_of z q (Some r) (standing_in call w))
-    by_leg None = sound
+    by_leg None = still
     by_leg (Some leg) = resizes q call is
 
   pub plan_is_sound : (now : ℕ) (request : Request)
       → IfSome (plan_of z now request) (SoundBy z)
-  plan_is_sound now (Grq q) = sound
+  plan_is_sound now (Grq q) = still
   plan_is_sound now (Rrq q) = registers now q
   plan_is_sound now (Urq q) = departs q.seq (leaving z q.endpoint q.call_signal)
   plan_is_sound now (Arq q) =

@@ -15,7 +15,7 @@ use Rattle.zone_tables.specs.declared.unit_request.UnitRequest.{UnitRequest}
 use Rattle.zone_tables.specs.Changes.{IsRegistered}
 use Rattle.zone_tables.specs.Parts.{usage_of}
 use Rattle.zone_tables.specs.Pools.{RequestedUnits, figures_at, grant_of, pools_after_answer}
-use Rattle.zone_tables.specs.Soundness.{SoundTables}
+use Rattle.zone_tables.specs.Soundness.{CountsOneMore, SoundTables}
 use Rattle.zone_tables.specs.Tables.{Tables, heard_now, with_live}
 use Rattle.zone_tables.specs.UnitRequests.{IsUnitRequest, calls_with_grant, leg_of_purpose}
 use Rattle.zone_tables.specs.UnitRequests.{units_requested}
@@ -30,6 +30,11 @@ use Rattle.sound_steps.proofs.Tables.{tables-answered, tables-heard}
 abbrev pub with_pools : Served → List Figures → Tables
 with_pools served pools = record served.tables { pools = pools }
 
+-- the tables are sound, and each pool counted at most one refusal and one wait more
+pub record IsSoundAfter (z after : Tables) : Type 0 where
+  pub sound : SoundTables after
+  pub counts : CountsOneMore z.pools after.pools
+
 -- A pool that is there is asked, and whatever it may answer, the tables are sound.
 pub record IsSoundAsk (z : Tables) (ask : RequestedUnits) (lent : ℕ → Served)
     (refused : Served) : Type 0 where
@@ -40,9 +45,9 @@ pub record IsSoundAsk (z : Tables) (ask : RequestedUnits) (lent : ℕ → Served
 
 -- however the request is served, the tables are sound
 abbrev pub SoundBy : Tables → Plan → Type 0
-SoundBy z (Settled served) = SoundTables served.tables
+SoundBy z (Settled served) = IsSoundAfter z served.tables
 SoundBy z (Naming named) =
-    (id : List ℕ) → get z.live id ≡ None → SoundTables (named id).tables
+    (id : List ℕ) → get z.live id ≡ None → IsSoundAfter z (named id).tables
 SoundBy z (Asking ask lent refused) = IsSoundAsk z ask lent refused
 
 -- units that may be requested
@@ -90,10 +95,16 @@ module _ (z : Tables) (now : ℕ) (id : List ℕ) where
 heard_too : (z : Tables) (now : ℕ) (endpoint : Option (List ℕ)) (plan : Plan) → SoundBy z plan
     → SoundBy z (hearing now endpoint plan)
 heard_too z now None (Settled served) is = is
-heard_too z now (Some id) (Settled served) is = tables-heard served.tables is now id
+heard_too z now (Some id) (Settled served) is = record {
+  sound = tables-heard served.tables is.sound now id;
+  counts = is.counts;
+}
 heard_too z now None (Naming named) is = is
 heard_too z now (Some id) (Naming named) is =
-    λ new unused. tables-heard (named new).tables (is new unused) now id
+    λ new unused. record {
+      sound = tables-heard (named new).tables (is new unused).sound now id;
+      counts = (is new unused).counts;
+    }
 heard_too z now None (Asking ask lent refused) is =
     record { exists = is.exists; sound = is.sound }
 heard_too z now (Some id) (Asking ask lent refused) is = heard_ask z now id ask lent refused is

@@ -1,0 +1,234 @@
+-- The kept replies stay sound as one is put among them, goes, or waits once more.
+use Rattle.std.proofs.Common.{◌≡◌, ◌<◌, ◌≤◌, ◌+◌, ◌-◌, ℕ, true, sym, ◌∙◌, ap, subst}
+use Rattle.std.proofs.Common.{refl, Some, None, arith}
+use Rattle.std.specs.Prelude.{IsTrue, Option, nat_lt}
+use Rattle.std.specs.Option.{IsSomeAnd, option_map}
+use Rattle.std.specs.FinMap as fin
+use Rattle.std.specs.FinMap.{len}
+use Rattle.std.proofs.lemmas.Bool.Decides.{nat_tests}
+use Rattle.keyed.specs.Maps.{update}
+use Rattle.keyed.proofs.Decide.{same_some, some_none}
+use Rattle.keyed.proofs.Maps.{by_key, Changed-insert, Changed-update}
+use Rattle.kept_replies.specs.declared.entry.KeptEntry.{KeptEntry}
+use Rattle.kept_replies.specs.declared.entry.KeptState.{KeptState}
+use Rattle.kept_replies.specs.declared.entry.KeptState.TheVariants.{Done, Pending}
+use Rattle.kept_replies.specs.declared.key.KeptKey.{KeptKey}
+use Rattle.kept_replies.specs.Kept.{AreBornApart, AreEntries, IsEntry, IsState, KeptReplies}
+use Rattle.kept_replies.specs.Kept.{births, left_in, postponed_in, without, without_birth}
+use Rattle.kept_replies.proofs.KeyOrder.{key_cmp_total, key_cmp-IsAntisymmetric}
+use Rattle.ras_machine.specs.declared.job.Occasion.{Occasion}
+use Rattle.ras_machine.specs.declared.job.Occasion.TheVariants.{First, Again}
+use Rattle.ras_machine.specs.inside.Room.{IsPlaced, MayBeKept}
+use Rattle.ras_machine.specs.Keeping.{after_drop, kept_with, may_wait, served_again}
+use Rattle.ras_machine.specs.Soundness.{AllWaitInProgress, AreBornBefore, WaitsInProgress}
+use Rattle.ras_machine.proofs.Dropping.{born_dropped, born_kept_with, born_same, get_after_drop}
+use Rattle.sound_steps.proofs.Sizes.{len_removed, len_updated, len_within}
+
+-- What holds of the kept replies after this many steps.
+pub record AreSoundKept (delay most steps : ℕ) (kept : KeptReplies) : Type 0 where
+  pub few : len kept ≤ most
+  pub entries : AreEntries kept
+  pub births : AreBornApart kept
+  pub born : AreBornBefore steps kept
+  pub waiting : AllWaitInProgress delay kept
+
+-- what is kept after an entry was put is that entry, or was kept before
+was_or_put : (kept : KeptReplies) (key : KeptKey) (new : KeptEntry) (q : KeptKey)
+    (entry : KeptEntry) (P : Type 0) → fin.get (fin.insert kept key new) q ≡ Some entry
+    → (q ≡ key → new ≡ entry → P) → (fin.get kept q ≡ Some entry → P) → P
+was_or_put kept key new q entry P there put was =
+    let c = Changed-insert key_cmp_total key_cmp-IsAntisymmetric kept key new in
+    by_key key_cmp_total key_cmp-IsAntisymmetric q key P
+    (λ same. put same (same_some new entry (sym c.here
+    ∙ (ap (fin.get (fin.insert kept key new)) (sym same) ∙ there))))
+    (λ differ. was (sym (c.others q differ) ∙ there))
+
+-- what is kept after one entry changed is the changed one, or was kept before
+was_or_changed : (kept : KeptReplies) (key : KeptKey) (f : KeptEntry → KeptEntry) (q : KeptKey)
+    (entry : KeptEntry) (P : Type 0) → fin.get (update kept key f) q ≡ Some entry
+    → ((old : KeptEntry) → q ≡ key → fin.get kept key ≡ Some old → f old ≡ entry → P)
+    → (fin.get kept q ≡ Some entry → P) → P
+was_or_changed kept key f q entry P there changed was =
+    let c = Changed-update key_cmp_total key_cmp-IsAntisymmetric kept key f in
+    by_key key_cmp_total key_cmp-IsAntisymmetric q key P
+    (λ same. here same (fin.get kept key) refl
+    (sym c.here ∙ (ap (fin.get (update kept key f)) (sym same) ∙ there)))
+    (λ differ. was (sym (c.others q differ) ∙ there)) where
+      here : q ≡ key → (w : Option KeptEntry) → fin.get kept key ≡ w
+          → option_map f w ≡ Some entry → P
+      here same None is h = absurd (cc h)
+      here same (Some old) is h = changed old same is (same_some (f old) entry h)
+
+module _ (delay most steps : ℕ) (kept : KeptReplies)
+    (sound : AreSoundKept delay most steps kept) where
+  -- a step passes
+  pub kept-later : AreSoundKept delay most (steps + 1) kept
+  kept-later = record {
+    few = sound.few;
+    entries = sound.entries;
+    births = sound.births;
+    born = born_same kept steps sound.born;
+    waiting = sound.waiting;
+  }
+
+  -- an entry goes
+  pub kept-dropped : (born : ℕ) → AreSoundKept delay most (steps + 1) (without_birth kept born)
+  kept-dropped born = record {
+    few = few_left (fin.get (births kept) born);
+    entries = λ key entry there. sound.entries key entry (was key entry there);
+    births = λ key other entry last at too same.
+        sound.births key other entry last (was key entry at) (was other last too) same;
+    born = born_dropped kept steps sound.born born;
+    waiting = λ key entry there. sound.waiting key entry (was key entry there);
+  } where
+    was : (key : KeptKey) (entry : KeptEntry)
+        → fin.get (without_birth kept born) key ≡ Some entry → fin.get kept key ≡ Some entry
+    was key entry there = get_after_drop kept (Some born) key entry there
+
+    few_left : (row : Option (KeptKey × KeptEntry)) → len (without kept row) ≤ most
+    few_left None = sound.few
+    few_left (Some row) =
+        omega (
+          arith,
+          len_removed key_cmp_total key_cmp-IsAntisymmetric kept row.0,
+          sound.few,
+        )
+
+  -- an entry is put, for which another may have gone
+  module _ (key : KeptKey) (dropped : Option ℕ)
+      (placed : IsPlaced (record { kept = kept; most = most; room = 0 }) key (First dropped))
+      (state : KeptState) (is : IsState state) (waits : WaitsInProgress delay state) where
+    abbrev new : KeptEntry
+    new = record { born = steps; state = state }
+
+    abbrev after : KeptReplies
+    after = fin.insert (after_drop kept dropped) key new
+
+    few_put : (dropped : Option ℕ)
+        → IsPlaced (record { kept = kept; most = most; room = 0 }) key (First dropped)
+        → len (fin.insert (after_drop kept dropped) key new) ≤ most
+    few_put None place =
+        len_within key_cmp_total key_cmp-IsAntisymmetric kept key new most sound.few place
+    few_put (Some born) place =
+        len_within key_cmp_total key_cmp-IsAntisymmetric (without_birth kept born) key new most
+        (omega (arith, place.1)) (λ none. place.1)
+
+    was_before : (q : KeptKey) (entry : KeptEntry)
+        → fin.get (after_drop kept dropped) q ≡ Some entry → fin.get kept q ≡ Some entry
+    was_before q entry there = get_after_drop kept dropped q entry there
+
+    -- nothing that was kept was born now
+    not_now : {P : Type 0} (q : KeptKey) (entry last : KeptEntry)
+        → fin.get (after_drop kept dropped) q ≡ Some entry → new ≡ last
+        → entry.born ≡ last.born → P
+    not_now q entry last there now same =
+        absurd (omega (
+          arith,
+          sound.born q entry (was_before q entry there),
+          same,
+          ap (λ (e : KeptEntry). e.born) now,
+        ))
+
+    kept-put : AreSoundKept delay most (steps + 1) after
+    kept-put = record {
+      few = few_put dropped placed;
+      entries = λ q entry there.
+          was_or_put (after_drop kept dropped) key new q entry (IsEntry entry) there
+          (λ same put. subst (λ (e : KeptEntry). IsEntry e) put is)
+          (λ was. sound.entries q entry (was_before q entry was));
+      births = λ q other entry last at too same.
+          was_or_put (after_drop kept dropped) key new q entry (q ≡ other) at
+          (λ here put. was_or_put (after_drop kept dropped) key new other last (q ≡ other) too
+          (λ here_too _. here ∙ sym here_too)
+          (λ was. not_now other last entry was put (sym same)))
+          (λ was. was_or_put (after_drop kept dropped) key new other last (q ≡ other) too
+          (λ here put. not_now q entry last was put same)
+          (λ was_too. sound.births q other entry last (was_before q entry was)
+          (was_before other last was_too) same));
+      born = born_kept_with kept steps sound.born key (First dropped) state;
+      waiting = λ q entry there.
+          was_or_put (after_drop kept dropped) key new q entry
+          (WaitsInProgress delay entry.state) there
+          (λ same put. subst (λ (e : KeptEntry). WaitsInProgress delay e.state) put waits)
+          (λ was. sound.waiting q entry (was_before q entry was));
+    }
+
+  -- an entry goes on
+  module _ (key : KeptKey) (f : KeptEntry → KeptEntry)
+      (ages : (e : KeptEntry) → (f e).born ≡ e.born)
+      (stays : (e : KeptEntry) → fin.get kept key ≡ Some e → IsEntry (f e))
+      (waits : (e : KeptEntry) → WaitsInProgress delay e.state
+      → WaitsInProgress delay (f e).state) where
+    age_is : (q : KeptKey) (entry : KeptEntry) → fin.get (update kept key f) q ≡ Some entry
+        → (old : KeptEntry) × (fin.get kept q ≡ Some old) × (entry.born ≡ old.born)
+    age_is q entry there =
+        was_or_changed kept key f q entry
+        ((old : KeptEntry) × (fin.get kept q ≡ Some old) × (entry.born ≡ old.born)) there
+        (λ old same was is. (
+          old,
+          ap (fin.get kept) same ∙ was,
+          sym (ap (λ (e : KeptEntry). e.born) is) ∙ ages old,
+        ))
+        (λ was. (entry, was, refl))
+
+    kept-changed : AreBornBefore (steps + 1) (update kept key f)
+        → AreSoundKept delay most (steps + 1) (update kept key f)
+    kept-changed born = record {
+      few = omega (
+        arith,
+        len_updated key_cmp_total key_cmp-IsAntisymmetric kept key f,
+        sound.few,
+      );
+      entries = λ q entry there.
+          was_or_changed kept key f q entry (IsEntry entry) there
+          (λ old same was is. subst (λ (e : KeptEntry). IsEntry e) is (stays old was))
+          (λ was. sound.entries q entry was);
+      births = λ q other entry last at too same.
+          (let a = age_is q entry at in
+          let b = age_is other last too in
+          sound.births q other a.0 b.0 a.1 b.1 (sym a.2 ∙ (same ∙ b.2)));
+      born = born;
+      waiting = λ q entry there.
+          was_or_changed kept key f q entry (WaitsInProgress delay entry.state) there
+          (λ old same was is. subst (λ (e : KeptEntry). WaitsInProgress delay e.state) is
+          (waits old (sound.waiting key old was)))
+          (λ was. sound.waiting q entry was);
+    }
+
+  -- it may wait once more, with one time fewer
+  still_some : (state : KeptState) (left retry : ℕ) → left_in state ≡ left
+      → nat_lt 1 left ≡ true → IsState (postponed_in retry state)
+  still_some (Done reply until) left retry is more = tt
+  still_some (Pending request reply old times) left retry is more = grind (arith, nat_tests)
+
+  still_waits : (retry : ℕ) (state : KeptState) → WaitsInProgress delay state
+      → WaitsInProgress delay (postponed_in retry state)
+  still_waits retry (Done reply until) is = tt
+  still_waits retry (Pending request reply old times) is = is
+
+  its_left : (key : KeptKey) (left : ℕ)
+      → IsSomeAnd (fin.get kept key) (λ entry. left_in entry.state ≡ left) → (e : KeptEntry)
+      → fin.get kept key ≡ Some e → left_in e.state ≡ left
+  its_left key left placed e there =
+      subst (λ (w : Option KeptEntry). IsSomeAnd w (λ entry. left_in entry.state ≡ left)) there
+      placed
+
+  -- what is kept of a request that was served
+  pub kept-served : (key : KeptKey) (occasion : Occasion)
+      → IsPlaced (record { kept = kept; most = most; room = 0 }) key occasion
+      → (state : KeptState) → MayBeKept occasion state → WaitsInProgress delay state
+      → AreSoundKept delay most (steps + 1) (kept_with kept key occasion steps state)
+  kept-served key (First dropped) placed (Done reply until) may waits =
+      kept-put key dropped placed (Done reply until) tt waits
+  kept-served key (First dropped) placed (Pending request reply retry left) may waits =
+      kept-put key dropped placed (Pending request reply retry left) may.1 waits
+  kept-served key (Again born left) placed (Done reply until) may waits =
+      kept-changed key (served_again (Done reply until)) (λ e. refl) (λ e there. tt)
+      (λ e was. tt)
+      (born_kept_with kept steps sound.born key (Again born left) (Done reply until))
+  kept-served key (Again born left) placed (Pending request reply retry more) may waits =
+      kept-changed key (served_again (Pending request reply retry more)) (λ e. refl)
+      (λ e there. still_some e.state left retry (its_left key left placed e there) may.0)
+      (λ e was. still_waits retry e.state was)
+      (born_kept_with kept steps sound.born key (Again born left)
+      (Pending request reply retry more))
