@@ -5,4 +5,6 @@ pub mod Tables
 pub mod Serving
 pub mod Plans
 pub mod Kept
+pub mod Courses
+pub mod Endings
 pub mod Steps

@@ -27,15 +27,16 @@ use Rattle.zone_tables.specs.Changes.{IsPossible, IsRegistered, after_change}
 use Rattle.zone_tables.specs.Changes.{after_endpoint_change, calls_after, pools_after, roll_of}
 use Rattle.zone_tables.specs.Disengaging.{without_endpoint, without_leg_of, without_legs_of}
 use Rattle.zone_tables.specs.Disengaging.{without_silent}
-use Rattle.zone_tables.specs.Leaving.{IsOther}
+use Rattle.zone_tables.specs.Leaving.{AreSameButLent, IsOther}
 use Rattle.zone_tables.specs.Parts.{IsSoundRoll, IsSoundUsage, usage_of, with_usage}
 use Rattle.zone_tables.specs.Pools.{figures_at, pools_after_answer, pools_after_end}
-use Rattle.zone_tables.specs.Soundness.{HaveEndpoints, SoundTables}
+use Rattle.zone_tables.specs.Soundness.{CountsOneMore, HaveEndpoints, SoundTables}
 use Rattle.zone_tables.specs.Tables.{Tables, heard_now, with_live}
 use Rattle.zone_tables.specs.UnitRequests.{IsUnitRequest, calls_after_answer, leg_of_purpose}
 use Rattle.zone_tables.specs.UnitRequests.{units_requested}
 use Rattle.zone_tables.proofs.Backing.{length-after_end}
-use Rattle.zone_tables.proofs.Departing.{endpoints_stay, legs_left, over_all}
+use Rattle.zone_tables.proofs.ButLent.{counts_same, same_after_end, same_through}
+use Rattle.zone_tables.proofs.Departing.{endpoints_stay, legs_left, over_all, same_after_leave}
 use Rattle.zone_tables.proofs.Legs.{legs-answer, legs-calls, legs-endpoint, legs-heard, legs-remove}
 use Rattle.zone_tables.proofs.Legs.{legs-update, length-pools_after}
 use Rattle.sound_steps.proofs.Calls.{usage-after, usage-answered, usage-left}
@@ -188,6 +189,24 @@ left_calls : (endpoint : List ℕ) (keys : List CallKey) (z : Tables) → SoundT
 left_calls endpoint [] z sound = sound
 left_calls endpoint (key ∷ keys) z sound =
     left_calls endpoint keys (without_leg_of z key endpoint) (tables-left z sound key endpoint)
+
+-- and units came back to the pools
+pools_left : (endpoint : List ℕ) (keys : List CallKey) (z : Tables)
+    → AreSameButLent z.pools
+    (fold (λ left call. without_leg_of left call endpoint) z keys).pools
+pools_left endpoint [] z = same_after_end z.pools None
+pools_left endpoint (key ∷ keys) z =
+    same_through z.pools (without_leg_of z key endpoint).pools
+    (fold (λ left call. without_leg_of left call endpoint) (without_leg_of z key endpoint)
+    keys).pools
+    (same_after_leave endpoint z.calls z.pools key)
+    (pools_left endpoint keys (without_leg_of z key endpoint))
+
+pub counts-alone : (z : Tables) (endpoint : List ℕ)
+    → CountsOneMore z.pools (without_legs_of z endpoint).pools
+counts-alone z endpoint =
+    counts_same z.pools (without_legs_of z endpoint).pools
+    (pools_left endpoint (fin.keys z.calls) z)
 
 module _ (z : Tables) (sound : SoundTables z) (endpoint : List ℕ) where
   tables-alone : SoundTables (without_legs_of z endpoint)
