@@ -8,3 +8,4 @@ pub mod Kept
 pub mod Courses
 pub mod Endings
 pub mod Steps
+pub mod Along
