@@ -1,5 +1,5 @@
 -- Each state of a run from a sound state is sound, and so within the limit.
-use Rattle.std.proofs.Common.{◌<◌, ◌^◌, All, ℕ, List, [], ◌∷◌, suc, arith}
+use Rattle.std.proofs.Common.{◌<◌, ◌^◌, All, List, [], ◌∷◌, suc, arith}
 use Rattle.zone_events.specs.Events.{moment_in}
 use Rattle.zone_events.specs.declared.event.Event.{Event}
 use Rattle.zone_events.specs.declared.outcome.Outcome.{Outcome}

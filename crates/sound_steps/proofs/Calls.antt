@@ -1,12 +1,11 @@
 -- The calls and the pools stay sound as a call opens, changes or ends.
-use Rattle.std.proofs.Common.{◌≡◌, ◌<◌, ◌≤◌, ◌+◌, ◌^◌, ℕ, Bool, true, false, List, length, refl, sym}
+use Rattle.std.proofs.Common.{◌≡◌, ◌<◌, ◌≤◌, ◌+◌, ℕ, Bool, true, false, List, length, refl, sym}
 use Rattle.std.proofs.Common.{◌∙◌, ap, subst, Some, None, arith}
 use Rattle.std.specs.Prelude.{Option, if◌then◌else◌, nat_lt, option_and_then}
 use Rattle.std.specs.FinMap as fin
 use Rattle.keyed.specs.Maps.{update}
 use Rattle.keyed.proofs.Decide.{same_some}
 use Rattle.keyed.proofs.Maps.{remove_absent}
-use Rattle.ras_module.specs.CallKeys.{call_key_cmp}
 use Rattle.ras_module.specs.declared.call_key.CallKey.{CallKey}
 use Rattle.ras_module.proofs.CallKeyOrder.{call_key_cmp_total, call_key_cmp-IsAntisymmetric}
 use Rattle.admission.specs.declared.call.Call.{Call}
@@ -20,7 +19,6 @@ use Rattle.admission.proofs.Leaving.{after_leave-last, after_leave-other}
 use Rattle.admission.proofs.Soundness.{EachCall-leave, EachCall-update}
 use Rattle.admission.proofs.StoredCalls.{EachCall-insert}
 use Rattle.admission.specs.inside.Stored.{with_legs_but}
-use Rattle.pools.specs.declared.interface.Figures.{Figures}
 use Rattle.pools.specs.declared.interface.Lend.{Lend}
 use Rattle.pools.specs.declared.interface.Lend.TheVariants.{Lent, Refused, Wait}
 use Rattle.pools.specs.Account.{IsAnswer}
@@ -31,13 +29,13 @@ use Rattle.zone_tables.specs.declared.unit_request.Purpose.{Purpose}
 use Rattle.zone_tables.specs.declared.unit_request.Purpose.TheVariants as purpose
 use Rattle.zone_tables.specs.declared.unit_request.UnitRequest.{UnitRequest}
 use Rattle.zone_tables.specs.Changes.{IsCallChange, calls_after, pools_after}
-use Rattle.zone_tables.specs.Parts.{IsBacked, IsSoundUsage, Usage, with_usage}
+use Rattle.zone_tables.specs.Parts.{IsSoundUsage, Usage, with_usage}
 use Rattle.zone_tables.specs.Pools.{AreWithinLimits, figures_at, pools_after_answer, pools_after_end}
 use Rattle.zone_tables.specs.Pools.{pools_after_return}
 use Rattle.zone_tables.specs.UnitRequests.{IsPurpose, IsUnitRequest, calls_after_answer}
 use Rattle.zone_tables.specs.UnitRequests.{calls_with_grant, granted_calls, units_requested}
 use Rattle.zone_tables.proofs.Backing.{IsBacked-answer, IsBacked-join, IsBacked-leave}
-use Rattle.zone_tables.proofs.Backing.{IsBacked-lower, IsBacked-open, call_with_leg, freed_pool}
+use Rattle.zone_tables.proofs.Backing.{IsBacked-lower, IsBacked-open, freed_pool}
 use Rattle.zone_tables.proofs.OnePool.{AreWithinLimits-answer, AreWithinLimits-return}
 use Rattle.sound_steps.proofs.Sizes.{len_put, len_removed, len_updated, len_within}
 

@@ -1,12 +1,11 @@
 -- What an event calls for in a sound state can be served so that sound tables are left, and
 -- its reply finds a place.
-use Rattle.std.proofs.Common.{◌≡◌, ◌≢◌, ◌<◌, ◌≤◌, ◌==◌, ℕ, Bool, true, false, List, refl, sym, ◌∙◌}
+use Rattle.std.proofs.Common.{◌≡◌, ◌≢◌, ◌<◌, ◌==◌, ℕ, Bool, true, false, List, refl, sym, ◌∙◌}
 use Rattle.std.proofs.Common.{ap, subst, Some, None, arith}
 use Rattle.std.specs.Prelude.{IfSome, Option, if◌then◌else◌, is_some}
 use Rattle.std.specs.Option.{IsSomeAnd}
 use Rattle.std.specs.FinMap.{get, len}
 use Rattle.std.proofs.lemmas.Bool.Decides.{nat_tests}
-use Rattle.keyed.proofs.Decide.{some_none}
 use Rattle.ras_module.specs.declared.request.Request.{Request}
 use Rattle.kept_replies.specs.declared.entry.KeptEntry.{KeptEntry}
 use Rattle.kept_replies.specs.declared.entry.KeptState.{KeptState}

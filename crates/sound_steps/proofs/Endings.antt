@@ -1,10 +1,9 @@
 -- What a course leaves is sound.
-use Rattle.std.proofs.Common.{◌≡◌, ◌<◌, ◌≤◌, ◌+◌, ◌==◌, ℕ, Bool, true, false, List, refl, sym, ap}
+use Rattle.std.proofs.Common.{◌≡◌, ◌≤◌, ◌+◌, ◌==◌, ℕ, Bool, true, false, List, refl, sym}
 use Rattle.std.proofs.Common.{subst, Some, None, arith}
-use Rattle.std.specs.Prelude.{IfSome, IsTrue, Option, if◌then◌else◌}
+use Rattle.std.specs.Prelude.{IfSome, Option, if◌then◌else◌}
 use Rattle.std.proofs.lemmas.Bool.Decides.{nat_tests}
 use Rattle.keyed.proofs.Decide.{same_some}
-use Rattle.ras_module.specs.declared.request.Request.{Request}
 use Rattle.pools.specs.declared.interface.Lend.{Lend}
 use Rattle.pools.specs.declared.interface.Lend.TheVariants.{Lent, Refused, Wait}
 use Rattle.pools.specs.Account.{IsAnswer}
@@ -33,7 +32,7 @@ use Rattle.ras_machine.specs.State.{State}
 use Rattle.ras_machine.specs.Steps.{IsAllowed, IsUnusedIn, MayChoose}
 use Rattle.ras_machine.specs.Turns.{number_after}
 use Rattle.ras_machine.proofs.PlansFor.{IsPlanFor}
-use Rattle.sound_steps.proofs.Courses.{IsSoundTask, SoundAlong}
+use Rattle.sound_steps.proofs.Courses.{SoundAlong}
 use Rattle.sound_steps.proofs.Kept.{AreSoundKept, kept-dropped, kept-later, kept-served}
 use Rattle.sound_steps.proofs.Serving.{IsSoundAfter, SoundBy, with_pools}
 use Rattle.sound_steps.proofs.Tables.{counts-alone, tables-asked, tables-heard}

@@ -1,7 +1,7 @@
 -- The endpoints stay sound as one of them comes, changes or goes.
-use Rattle.std.proofs.Common.{◌≡◌, ◌≢◌, ◌≤◌, ◌&&◌, ℕ, Bool, true, false, not, cond, List, [], ◌∷◌}
+use Rattle.std.proofs.Common.{◌≡◌, ◌&&◌, ℕ, Bool, true, false, not, cond, List, [], ◌∷◌}
 use Rattle.std.proofs.Common.{refl, sym, ◌∙◌, ap, subst, Some, None, arith}
-use Rattle.std.specs.Prelude.{Option, Contains, filter}
+use Rattle.std.specs.Prelude.{Contains, filter}
 use Rattle.std.specs.Option.{option_map}
 use Rattle.std.specs.FinMap as fin
 use Rattle.std.proofs.lemmas.Cmp.{nat_list_cmp_total}
@@ -24,7 +24,7 @@ use Rattle.zone_tables.specs.declared.change.EndpointChange.{EndpointChange}
 use Rattle.zone_tables.specs.declared.change.EndpointChange.TheVariants.{Renewal, Rewriting}
 use Rattle.zone_tables.specs.declared.change.EndpointChange.TheVariants.{Addition, Removal}
 use Rattle.zone_tables.specs.declared.entry.Entry.{Entry}
-use Rattle.zone_tables.specs.Changes.{IsAddable, IsEndpointChange, IsRewritable}
+use Rattle.zone_tables.specs.Changes.{IsEndpointChange, IsRewritable}
 use Rattle.zone_tables.specs.Changes.{after_endpoint_change}
 use Rattle.zone_tables.specs.Parts.{IsSoundRoll, Roll}
 use Rattle.zone_tables.specs.Soundness.{HaveAliasesApart}

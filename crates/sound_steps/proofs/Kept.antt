@@ -1,13 +1,13 @@
 -- The kept replies stay sound as one is put among them, goes, or waits once more.
-use Rattle.std.proofs.Common.{◌≡◌, ◌<◌, ◌≤◌, ◌+◌, ◌-◌, ℕ, true, sym, ◌∙◌, ap, subst}
+use Rattle.std.proofs.Common.{◌≡◌, ◌≤◌, ◌+◌, ℕ, true, sym, ◌∙◌, ap, subst}
 use Rattle.std.proofs.Common.{refl, Some, None, arith}
-use Rattle.std.specs.Prelude.{IsTrue, Option, nat_lt}
+use Rattle.std.specs.Prelude.{Option, nat_lt}
 use Rattle.std.specs.Option.{IsSomeAnd, option_map}
 use Rattle.std.specs.FinMap as fin
 use Rattle.std.specs.FinMap.{len}
 use Rattle.std.proofs.lemmas.Bool.Decides.{nat_tests}
 use Rattle.keyed.specs.Maps.{update}
-use Rattle.keyed.proofs.Decide.{same_some, some_none}
+use Rattle.keyed.proofs.Decide.{same_some}
 use Rattle.keyed.proofs.Maps.{by_key, Changed-insert, Changed-update}
 use Rattle.kept_replies.specs.declared.entry.KeptEntry.{KeptEntry}
 use Rattle.kept_replies.specs.declared.entry.KeptState.{KeptState}
@@ -19,7 +19,7 @@ use Rattle.kept_replies.proofs.KeyOrder.{key_cmp_total, key_cmp-IsAntisymmetric}
 use Rattle.ras_machine.specs.declared.job.Occasion.{Occasion}
 use Rattle.ras_machine.specs.declared.job.Occasion.TheVariants.{First, Again}
 use Rattle.ras_machine.specs.inside.Room.{IsPlaced, MayBeKept}
-use Rattle.ras_machine.specs.Keeping.{after_drop, kept_with, may_wait, served_again}
+use Rattle.ras_machine.specs.Keeping.{after_drop, kept_with, served_again}
 use Rattle.ras_machine.specs.Soundness.{AllWaitInProgress, AreBornBefore, WaitsInProgress}
 use Rattle.ras_machine.proofs.Dropping.{born_dropped, born_kept_with, born_same, get_after_drop}
 use Rattle.sound_steps.proofs.Sizes.{len_removed, len_updated, len_within}

@@ -1,8 +1,7 @@
 -- Each request leaves sound tables sound, however it is served.
-use Rattle.std.proofs.Common.{◌≡◌, ◌≢◌, ◌≤◌, ◌<◌, ◌+◌, ◌-◌, ◌==◌, ℕ, Bool, true, false, List, []}
-use Rattle.std.proofs.Common.{◌∷◌, length, min, refl, sym, ◌∙◌, ap, subst, Some, None, arith}
+use Rattle.std.proofs.Common.{◌≡◌, ◌≢◌, ◌≤◌, ◌<◌, ◌-◌, ◌==◌, ℕ, Bool, true, false, List, []}
+use Rattle.std.proofs.Common.{◌∷◌, length, min, refl, ◌∙◌, ap, Some, None, arith}
 use Rattle.std.specs.Prelude.{IfSome, IsSome, Option, if◌then◌else◌, nat_le, nat_lt}
-use Rattle.std.specs.FinMap as fin
 use Rattle.std.specs.FinMap.{get, len}
 use Rattle.std.proofs.lemmas.Bool.Decides.{nat_tests}
 use Rattle.ras_module.specs.declared.address.Address.{Address}
@@ -20,7 +19,7 @@ use Rattle.registrations.specs.Registry.{at_address}
 use Rattle.registrations.specs.Agreement.{registered_elsewhere}
 use Rattle.admission.specs.declared.call.Call.{Call}
 use Rattle.admission.specs.declared.leg.Leg.{Leg}
-use Rattle.admission.specs.Calls.{in_use, leg_at, legs_of}
+use Rattle.admission.specs.Calls.{leg_at, legs_of}
 use Rattle.admission.specs.Legs.{leg_of}
 use Rattle.zone_config.specs.Networks.{pool_of}
 use Rattle.zone_tables.specs.declared.change.CallChange.TheVariants.{Opening, Joining, Lowering}
@@ -39,20 +38,14 @@ use Rattle.zone_tables.proofs.ButLent.{counts_same, same_after_change, same_afte
 use Rattle.zone_tables.proofs.Departing.{same_after_leave}
 use Rattle.ras_requests.specs.Grq.{is_foreign}
 use Rattle.ras_requests.specs.Rrq.{addition, deadline, entering, full_registration, has_moved}
-use Rattle.ras_requests.specs.Rrq.{keep_alive, named, new_registration, registration, rejection}
+use Rattle.ras_requests.specs.Rrq.{keep_alive, named, new_registration, registration}
 use Rattle.ras_requests.specs.Rrq.{unless_held}
-use Rattle.ras_module.specs.declared.reason.RegistrationRejectReason.TheVariants as reject
-use reject.{ResourceUnavailable}
 use Rattle.ras_requests.specs.Urq.{departure, leaving}
-use Rattle.ras_module.specs.declared.reply.Reply.TheVariants.{Ucf, Urj}
-use Rattle.ras_module.specs.declared.reason.UnregRejectReason.TheVariants.{CallInProgress}
-use Rattle.ras_module.specs.declared.reason.AdmissionRejectReason.TheVariants as denied
-use Rattle.ras_requests.specs.Arq.{admission_of, denial, destination, joining, leg_told, making}
-use Rattle.ras_requests.specs.Arq.{opening_call}
-use Rattle.ras_requests.specs.Brq.{bandwidth_of, least_units, lowering, raising, resizing, staying}
+use Rattle.ras_requests.specs.Arq.{admission_of, destination, leg_told, making}
+use Rattle.ras_requests.specs.Brq.{bandwidth_of, least_units, lowering, resizing}
 use Rattle.ras_requests.specs.Brq.{units_left, wanted}
 use Rattle.ras_requests.specs.Drq.{disengagement_of}
-use Rattle.ras_requests.specs.Plans.{Plan, Served, Settled, Naming, Asking, unchanged}
+use Rattle.ras_requests.specs.Plans.{Plan, Naming}
 use Rattle.ras_requests.specs.Requests.{plan_of}
 use Rattle.ras_requests.specs.Standing.{standing, standing_in}
 use Rattle.ras_requests.proofs.Resizing.{RequestsUnits-resizing}
@@ -127,13 +120,15 @@ module _ (z : Tables) (sound : SoundTables z) where
     enters e None at none =
         by_test (len z.live == z.config.endpoints) _ (Naming (addition z now q e)) (λ full. still)
         (λ place id unused.
-        changed now (Endpoint (Addition (new_registration z now q e id)))
-        (record {
-          identifier = unused;
-          address = at;
-          aliases = none;
-          place = differ (len z.live) z.config.endpoints place;
-        }, tt))
+        changed now (Endpoint (Addition (new_registration z now q e id))) (
+          record {
+            identifier = unused;
+            address = at;
+            aliases = none;
+            place = differ (len z.live) z.config.endpoints place;
+          },
+          tt,
+        ))
 
     held : (e : Entry) (aliases : List Alias)
         → registered_elsewhere z.live e.call_signal e.aliases ≡ aliases
@@ -178,12 +173,14 @@ module _ (z : Tables) (sound : SoundTables z) where
   makes q pool told none registered there =
       by_test (len z.calls == z.config.calls) _ _ (λ full. still)
       (λ place. by_test (wanted z q.asked == 0) _ _
-      (λ nothing. changed 0 (Calls (Opening q.call pool (leg_told q told)))
-      (record {
-        absent = none;
-        place = differ (len z.calls) z.config.calls place;
-        exists = there;
-      }, registered))
+      (λ nothing. changed 0 (Calls (Opening q.call pool (leg_told q told))) (
+        record {
+          absent = none;
+          place = differ (len z.calls) z.config.calls place;
+          exists = there;
+        },
+        registered,
+      ))
       (λ some. by_test (units_left z == 0) _ _ (λ empty. still)
       (λ left. asks z sound (record {
         seq = q.seq;
@@ -230,13 +227,15 @@ module _ (z : Tables) (sound : SoundTables z) where
     by_leg None none None = still
     by_leg None none (Some told) =
         by_test (length call.legs == 1) _ _
-        (λ one. changed 0 (Calls (Joining q.call (leg_told q told)))
-        (record {
-          call = call;
-          there = is;
-          one = equal (length call.legs) 1 one;
-          other = none;
-        }, is_there (get z.live q.endpoint) r live))
+        (λ one. changed 0 (Calls (Joining q.call (leg_told q told))) (
+          record {
+            call = call;
+            there = is;
+            one = equal (length call.legs) 1 one;
+            other = none;
+          },
+          is_there (get z.live q.endpoint) r live,
+        ))
         (λ two. still)
 
   -- BRQ

@@ -1,5 +1,5 @@
 -- However a pool answers a request, the tables are sound after it.
-use Rattle.std.proofs.Common.{◌≡◌, ◌≤◌, ◌<◌, ◌-◌, ℕ, true, List, [], ◌∷◌, length, refl, arith}
+use Rattle.std.proofs.Common.{◌≡◌, ◌<◌, ℕ, true, List, [], ◌∷◌, length, refl, arith}
 use Rattle.std.proofs.Common.{Some, None}
 use Rattle.std.specs.Prelude.{IfSome, Option}
 use Rattle.std.specs.FinMap.{get}
@@ -84,8 +84,10 @@ module _ (z : Tables) (now : ℕ) (id : List ℕ) where
         (λ units. record (lent units) {
           tables = with_live (lent units).tables (heard_now now id ((lent units).tables).live);
         })
-        (record refused { tables = with_live refused.tables
-            (heard_now now id (refused.tables).live) })
+        (record refused {
+          tables = with_live refused.tables
+              (heard_now now id (refused.tables).live);
+        })
         grant) (pools_after_answer z.pools ask answer))
     by_grant answer None sound =
         tables-heard (with_pools refused (pools_after_answer z.pools ask answer)) sound now id

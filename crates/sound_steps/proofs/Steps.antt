@@ -1,5 +1,5 @@
 -- A step leads from a sound state to a sound one.
-use Rattle.std.proofs.Common.{◌≡◌, ◌<◌, ◌≤◌, ◌+◌, ◌^◌, All, ℕ, Bool, true, false, ap, refl}
+use Rattle.std.proofs.Common.{◌≡◌, ◌<◌, ◌+◌, ◌^◌, All, ℕ, Bool, true, false, ap, refl}
 use Rattle.std.proofs.Common.{Some, None, arith, subst}
 use Rattle.std.specs.Prelude.{if◌then◌else◌, max, nat_lt}
 use Rattle.std.proofs.lemmas.Bool.Decides.{nat_tests}

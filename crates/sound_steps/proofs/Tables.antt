@@ -1,5 +1,5 @@
 -- The tables of a zone stay sound as they change.
-use Rattle.std.proofs.Common.{◌≡◌, ◌<◌, ◌^◌, ℕ, List, [], ◌∷◌, length, refl, sym, ◌∙◌, ap, subst}
+use Rattle.std.proofs.Common.{◌≡◌, ℕ, List, [], ◌∷◌, length, refl, sym, ◌∙◌, ap, subst}
 use Rattle.std.proofs.Common.{Some, None, arith}
 use Rattle.std.specs.Prelude.{IfSome, Option, option_and_then}
 use Rattle.std.specs.List.{fold}
@@ -12,7 +12,6 @@ use Rattle.ras_module.proofs.CallKeyOrder.{call_key_cmp_total, call_key_cmp-IsAn
 use Rattle.registrations.specs.declared.registration.Registration.{Registration}
 use Rattle.registrations.specs.Registry.{Live, after_ask, after_calm}
 use Rattle.admission.specs.declared.call.Call.{Call}
-use Rattle.admission.specs.declared.leg.Leg.{Leg}
 use Rattle.admission.specs.Calls.{OpenCalls, after_leave, freed_by_leave, put_or_remove}
 use Rattle.admission.specs.Calls.{rest_of_call}
 use Rattle.admission.proofs.Soundness.{EachLeg-leave}
