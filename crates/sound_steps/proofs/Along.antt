@@ -13,6 +13,7 @@ use Rattle.sound_steps.proofs.Steps.{step_is_sound}
 abbrev HaveMoments : List (Event × Outcome) → Type 0
 HaveMoments entries = All (λ entry. moment_in entry.0 < 2 ^ 53) entries
 
+-- each step of it leads to a sound state
 pub run_is_sound : (s : State) (entries : List (Event × Outcome)) (after : State)
     (run : Run s entries after) → HaveMoments entries → Sound s
     → EachStateOf Sound s entries after run
@@ -33,6 +34,7 @@ follows P Q so s [] after run each = tt
 follows P Q so s (entry ∷ entries) after run each =
     (so run.0 each.0, follows P Q so run.0 entries after run.2 each.1)
 
+-- so each of them is within the limit
 pub run_is_within_limit : (s : State) (entries : List (Event × Outcome)) (after : State)
     (run : Run s entries after) → HaveMoments entries → Sound s
     → EachStateOf IsWithinLimit s entries after run

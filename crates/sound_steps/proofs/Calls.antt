@@ -30,7 +30,8 @@ use Rattle.zone_tables.specs.declared.unit_request.Purpose.TheVariants as purpos
 use Rattle.zone_tables.specs.declared.unit_request.UnitRequest.{UnitRequest}
 use Rattle.zone_tables.specs.Changes.{IsCallChange, calls_after, pools_after}
 use Rattle.zone_tables.specs.Parts.{IsSoundUsage, Usage, with_usage}
-use Rattle.zone_tables.specs.Pools.{AreWithinLimits, figures_at, pools_after_answer, pools_after_end}
+use Rattle.zone_tables.specs.Pools.{AreWithinLimits, figures_at, pools_after_answer}
+use Rattle.zone_tables.specs.Pools.{pools_after_end}
 use Rattle.zone_tables.specs.Pools.{pools_after_return}
 use Rattle.zone_tables.specs.UnitRequests.{IsPurpose, IsUnitRequest, calls_after_answer}
 use Rattle.zone_tables.specs.UnitRequests.{calls_with_grant, granted_calls, units_requested}
@@ -99,6 +100,7 @@ module _ (u : Usage) (sound : IsSoundUsage u) where
     left = with_usage u (after_leave u.calls key endpoint)
         (pools_after_end u.pools (freed_by_leave u.calls key endpoint))
 
+    -- no more calls are open once it has left one
     few_left : (call : Call) → fin.get u.calls key ≡ Some call
         → fin.len (after_leave u.calls key endpoint) ≤ fin.len u.calls
     few_left call there = cases (has_other call.legs endpoint) refl where
@@ -120,6 +122,7 @@ module _ (u : Usage) (sound : IsSoundUsage u) where
             len_removed call_key_cmp_total call_key_cmp-IsAntisymmetric u.calls key,
           )
 
+    -- what comes back is lent no longer, so no limit is passed
     within_left : (call : Call) → fin.get u.calls key ≡ Some call → (freed : Option (ℕ × ℕ))
         → freed_by_leave u.calls key endpoint ≡ freed
         → AreWithinLimits (pools_after_end u.pools freed)
@@ -150,6 +153,7 @@ module _ (u : Usage) (sound : IsSoundUsage u) where
         (option_and_then (freed_by endpoint) w)) absent in
         subst IsSoundUsage (λ i. with_usage u (sym calls i) (sym pools i)) sound
 
+    -- whether there is such a call or not
     pub usage-left : IsSoundUsage left
     usage-left = cases (fin.get u.calls key) refl where
       cases : (w : Option Call) → fin.get u.calls key ≡ w → IsSoundUsage left
@@ -177,6 +181,7 @@ module _ (u : Usage) (sound : IsSoundUsage u) where
         (λ call there. IsCall-set_units call (had + units)
         (omega (arith, few, can.limit, (sound.backed).small)) (sound.each q.call call there))
 
+    -- and no more of them than there may be
     granted_few : (units : ℕ) → (p : Purpose) → IsPurpose u q p
         → fin.len (granted_calls q p units u.calls) ≤ u.most
     granted_few units (purpose.Opening leg) can =
@@ -191,6 +196,7 @@ module _ (u : Usage) (sound : IsSoundUsage u) where
           sound.few,
         )
 
+    -- what is lent is entered, unless it is less than the least that is of use
     answered_calls : (answer : Lend) → IsAnswer (figures_at u.pools q.pool) q.units answer
         → EachCall IsCall (calls_after_answer q answer u.calls)
         × (fin.len (calls_after_answer q answer u.calls) ≤ u.most)

@@ -1,11 +1,10 @@
 -- What an event calls for in a sound state can be served so that sound tables are left, and
 -- its reply finds a place.
-use Rattle.std.proofs.Common.{◌≡◌, ◌≢◌, ◌<◌, ◌==◌, ℕ, Bool, true, false, List, refl, sym, ◌∙◌}
+use Rattle.std.proofs.Common.{◌≡◌, ◌<◌, ◌==◌, ℕ, Bool, true, false, List, refl, sym, ◌∙◌}
 use Rattle.std.proofs.Common.{ap, subst, Some, None, arith}
 use Rattle.std.specs.Prelude.{IfSome, Option, if◌then◌else◌, is_some}
 use Rattle.std.specs.Option.{IsSomeAnd}
 use Rattle.std.specs.FinMap.{get, len}
-use Rattle.std.proofs.lemmas.Bool.Decides.{nat_tests}
 use Rattle.ras_module.specs.declared.request.Request.{Request}
 use Rattle.kept_replies.specs.declared.entry.KeptEntry.{KeptEntry}
 use Rattle.kept_replies.specs.declared.entry.KeptState.{KeptState}
@@ -35,6 +34,7 @@ use Rattle.ras_machine.proofs.Dropping.{fits_of}
 use Rattle.ras_machine.proofs.PlansFor.{IsPlanFor, is_plan, is_plan_at}
 use Rattle.sound_steps.proofs.Plans.{plan_is_sound}
 use Rattle.sound_steps.proofs.Serving.{SoundBy, sound_at}
+use Rattle.sound_steps.proofs.Tests.{differ, equal}
 
 -- A request that is served leaves sound tables, keeps the settings, and asks a pool only if it
 -- may; and its reply finds a place, or it has its entry.
@@ -43,6 +43,7 @@ pub record IsSoundTask (s : State) (now : ℕ) (task : Task) : Type 0 where
   pub fits : IsPlanFor s.tables (MayRequestUnits task.request) task.plan
   pub placed : IsTimely s now task.job.occasion → IsPlacedIn s task.job
 
+-- if the course serves a request, that holds of it
 abbrev pub SoundAlong : State → ℕ → Course → Type 0
 SoundAlong s now (machine.Serving task) = IsSoundTask s now task
 SoundAlong s now other = Unit {0}
@@ -63,6 +64,7 @@ module _ (s : State) (sound : Sound s) (now : ℕ) where
         both None is fits = tt
         both (Some plan) is fits = record { tables = is; fits = fits }
 
+  -- a request is served by its plan, on an occasion
   serves : (job : Job) (request : Request) (plan : Plan) → IsSoundPlan s request plan
       → (IsTimely s now job.occasion → IsPlacedIn s job)
       → SoundAlong s now (machine.serving job now request plan)
@@ -84,9 +86,11 @@ module _ (s : State) (sound : Sound s) (now : ℕ) where
             → len s.kept < s.tables.config.kept
         by_test true is place = absurd (cc place)
         by_test false is place =
-            let differ : len s.kept ≢ s.tables.config.kept =
-            λ same. absurd (grind (arith, nat_tests, same, is)) in
-            omega (arith, sound.few_kept, differ)
+            omega (
+              arith,
+              sound.few_kept,
+              differ (len s.kept) s.tables.config.kept is,
+            )
 
   -- all places are taken, by others than this datagram
   full_place : (key : KeptKey) → machine.place_of s now key ≡ machine.Full
@@ -101,7 +105,7 @@ module _ (s : State) (sound : Sound s) (now : ℕ) where
     by_test : (b : Bool) → (len s.kept == s.tables.config.kept) ≡ b
         → (if b then machine.Full else machine.Free) ≡ machine.Full
         → len s.kept ≡ s.tables.config.kept
-    by_test true is place = grind (arith, nat_tests)
+    by_test true is place = equal (len s.kept) s.tables.config.kept is
     by_test false is place = absurd (cc place)
 
     by_entry : (w : Option KeptEntry) → get s.kept key ≡ w
@@ -110,6 +114,7 @@ module _ (s : State) (sound : Sound s) (now : ℕ) where
     by_entry None is place = (is, by_test (len s.kept == s.tables.config.kept) refl place)
     by_entry (Some entry) is place = by_repeat (is_repeat s now entry) entry place
 
+  -- an InfoRequestResponse is no request that is served
   responds : (endpoint : Option (List ℕ)) → SoundAlong s now (machine.response_course s endpoint)
   responds None = tt
   responds (Some endpoint) = by_test (is_some (get s.tables.live endpoint)) where
@@ -118,6 +123,7 @@ module _ (s : State) (sound : Sound s) (now : ℕ) where
     by_test true = tt
     by_test false = tt
 
+  -- a request, by the place of its reply
   requests : (key : KeptKey) (request : Request) (w : Option Plan) (place : Place)
       (dropped : Option ℕ) → machine.place_of s now key ≡ place
       → IfSome w (IsSoundPlan s request)
@@ -133,6 +139,7 @@ module _ (s : State) (sound : Sound s) (now : ℕ) where
       (λ over. fits_of (record { kept = s.kept; most = s.tables.config.kept; room = 0 }) now key
       born sound.births (full_place key at).1 (full_place key at).0 over)
 
+  -- a datagram, by what it is read as
   messages : (key : KeptKey) (dropped : Option ℕ) (m : Message)
       → SoundAlong s now (machine.message_course s now key dropped m)
   messages key dropped message.TooLong = tt
@@ -142,6 +149,7 @@ module _ (s : State) (sound : Sound s) (now : ℕ) where
       requests key request (plan_of s.tables now request) (machine.place_of s now key) dropped
       refl (its_plan request)
 
+  -- a request that waits is served again, and has its entry
   agains : (key : KeptKey) (born : ℕ) (request : Request) (left : ℕ) (w : Option Plan)
       → IsPlacedIn s (machine.again key born left) → IfSome w (IsSoundPlan s request)
       → SoundAlong s now (machine.again_course now key born request left w)
@@ -159,12 +167,14 @@ module _ (s : State) (sound : Sound s) (now : ℕ) where
       (subst (λ (w : Option KeptEntry). IsSomeAnd w (λ entry. left_in entry.state ≡ left))
       (sym there) (ap left_in is)) (its_plan request)
 
+  -- the entry is found by its birth
   waited : (born : ℕ) (w : Option (KeptKey × KeptEntry)) → get (births s.kept) born ≡ w
       → SoundAlong s now (machine.retry_course s now born w)
   waited born None is = tt
   waited born (Some row) is =
       retries row.0 born row.1 row.1.state (births-has s.kept sound.births born row is).0 refl
 
+  -- a turn, by the item that is due
   turns : (w : Option DueItem) → SoundAlong s now (machine.turn_course s now w)
   turns None = tt
   turns (Some (item.RegistrationOver id)) = tt
@@ -174,6 +184,7 @@ module _ (s : State) (sound : Sound s) (now : ℕ) where
   turns (Some (item.KeptOver born)) = tt
   turns (Some item.PoolTurn) = tt
 
+  -- so it is of each event
   pub along : (what : Event) (choices : Choices)
       → SoundAlong s now (machine.course_at s now what choices)
   along (event.Datagram source bytes moment) choices =

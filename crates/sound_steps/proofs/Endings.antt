@@ -2,7 +2,6 @@
 use Rattle.std.proofs.Common.{◌≡◌, ◌≤◌, ◌+◌, ◌==◌, ℕ, Bool, true, false, List, refl, sym}
 use Rattle.std.proofs.Common.{subst, Some, None, arith}
 use Rattle.std.specs.Prelude.{IfSome, Option, if◌then◌else◌}
-use Rattle.std.proofs.lemmas.Bool.Decides.{nat_tests}
 use Rattle.keyed.proofs.Decide.{same_some}
 use Rattle.pools.specs.declared.interface.Lend.{Lend}
 use Rattle.pools.specs.declared.interface.Lend.TheVariants.{Lent, Refused, Wait}
@@ -35,6 +34,7 @@ use Rattle.ras_machine.proofs.PlansFor.{IsPlanFor}
 use Rattle.sound_steps.proofs.Courses.{SoundAlong}
 use Rattle.sound_steps.proofs.Kept.{AreSoundKept, kept-dropped, kept-later, kept-served}
 use Rattle.sound_steps.proofs.Serving.{IsSoundAfter, SoundBy, with_pools}
+use Rattle.sound_steps.proofs.Tests.{differ}
 use Rattle.sound_steps.proofs.Tables.{counts-alone, tables-asked, tables-heard}
 use Rattle.sound_steps.proofs.Tables.{tables-without_endpoint, tables-without_silent}
 
@@ -55,13 +55,12 @@ next_least n = by_test (n == 65535) where
   by_test true = omega arith
   by_test false = omega arith
 
+-- and at most 65535
 next_most : (n : ℕ) → n ≤ 65535 → number_after n ≤ 65535
 next_most n few = by_test (n == 65535) refl where
   by_test : (b : Bool) → (n == 65535) ≡ b → (if b then 1 else n + 1) ≤ 65535
   by_test true is = omega arith
-  by_test false is =
-      let differ : n ≡ 65535 → ⊥ = λ same. absurd (grind (arith, nat_tests, same, is)) in
-      grind (arith, nat_tests)
+  by_test false is = omega (arith, few, differ n 65535 is)
 
 module _ (s : State) (sound : Sound s) (now : ℕ) where
   kept_now : AreSoundKept s.tables.config.delay s.tables.config.kept s.steps s.kept
@@ -73,9 +72,11 @@ module _ (s : State) (sound : Sound s) (now : ℕ) where
     waiting = sound.waiting;
   }
 
+  -- and a step later, if nothing of them changes
   kept_then : AreSoundKept s.tables.config.delay s.tables.config.kept (s.steps + 1) s.kept
   kept_then = kept-later s.tables.config.delay s.tables.config.kept s.steps s.kept kept_now
 
+  -- the pools counted nothing
   counted : CountsOneMore s.tables.pools s.tables.pools
   counted = counts_same s.tables.pools s.tables.pools (same_after_end s.tables.pools None)
 
@@ -91,6 +92,7 @@ module _ (s : State) (sound : Sound s) (now : ℕ) where
     most_number = sound.most_number;
   }
 
+  -- nothing changes
   unchanged_end : IsSoundEnd s s
   unchanged_end = with_tables s.tables (record { sound = sound.tables; counts = counted }) refl
 
@@ -134,6 +136,7 @@ module _ (s : State) (sound : Sound s) (now : ℕ) where
     settings_so None = fits.2
     settings_so (Some units) = fits.1 units
 
+    -- and the tables are sound, whatever the pool answers
     tables_so : (answer : Lend)
         → IsAnswer (figures_at s.tables.pools ask.pool) ask.units answer
         → IsSoundAfter s.tables (with_pools (granted lent refused (grant_of ask.least answer))
@@ -166,6 +169,7 @@ module _ (s : State) (sound : Sound s) (now : ℕ) where
         (may, (limits s.tables.config ((sound.tables).settings).ranges).some_retries)
         (fits.0, refl) is
 
+    -- so it is with each answer
     asked_end : (answer : Lend) (outcome : Outcome) (after : State)
         → IsAnswer (figures_at s.tables.pools ask.pool) ask.units answer
         → machine.with_answer s now task ask lent refused (Some answer) ≡ Some (outcome, after)
@@ -181,6 +185,7 @@ module _ (s : State) (sound : Sound s) (now : ℕ) where
       by_wait true waits is = waiting_end outcome after waits is
       by_wait false waits is = answered_end Wait outcome after may is
 
+  -- a request is served by its plan, with what may be chosen for it
   planned_end : (task : Task) (plan : Plan) (choices : Choices) (outcome : Outcome)
       (after : State) → SoundBy s.tables plan
       → IsPlanFor s.tables (MayRequestUnits task.request) plan → IsPlacedIn s task.job
@@ -252,6 +257,7 @@ module _ (s : State) (sound : Sound s) (now : ℕ) where
         most_number = sound.most_number;
       }) is
 
+  -- so it is of each course, by choices that may be made
   pub ended_sound : (c : Course) (choices : Choices) (outcome : Outcome) (after : State)
       → SoundAlong s now c → IsAllowed s now c choices
       → machine.course_ending s now c choices ≡ Some (outcome, after) → IsSoundEnd s after

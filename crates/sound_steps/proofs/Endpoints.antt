@@ -7,8 +7,8 @@ use Rattle.std.specs.FinMap as fin
 use Rattle.std.proofs.lemmas.Cmp.{nat_list_cmp_total}
 use Rattle.std.proofs.lemmas.Map.Lookups.{exact_bytes}
 use Rattle.keyed.specs.Maps.{Changed, update}
-use Rattle.keyed.proofs.Decide.{Contains-parts, any_decides, same_some, some_none}
-use Rattle.keyed.proofs.Maps.{by_key, Changed-insert, Changed-remove, Changed-update}
+use Rattle.keyed.proofs.Decide.{Contains-parts, any_decides, same_some}
+use Rattle.keyed.proofs.Maps.{by_key, Changed-update}
 use Rattle.keyed.proofs.Values.{any_row}
 use Rattle.ras_module.specs.declared.address.Address.{Address}
 use Rattle.ras_module.specs.declared.alias.Alias.{Alias}
@@ -29,27 +29,20 @@ use Rattle.zone_tables.specs.Changes.{after_endpoint_change}
 use Rattle.zone_tables.specs.Parts.{IsSoundRoll, Roll}
 use Rattle.zone_tables.specs.Soundness.{HaveAliasesApart}
 use Rattle.zone_tables.specs.Tables.{heard_now}
+use Rattle.sound_steps.proofs.Lookups.{was_left, was_or_put}
 use Rattle.sound_steps.proofs.Sizes.{len_removed, len_updated, len_within}
 
--- who is registered after one came was registered before, or is that one
-pub was_or_came : (live : Live) (id : List ℕ) (r : Registration) (i : List ℕ) (s : Registration)
-    (P : Type 0) → fin.get (fin.insert live id r) i ≡ Some s
-    → (i ≡ id → s ≡ r → P) → (fin.get live i ≡ Some s → P) → P
-was_or_came live id r i s P there came was =
-    let c = Changed-insert nat_list_cmp_total exact_bytes live id r in
-    by_key nat_list_cmp_total exact_bytes i id P
-    (λ same. came same (same_some s r
-    (sym there ∙ (ap (fin.get (fin.insert live id r)) same ∙ c.here))))
-    (λ differ. was (sym (c.others i differ) ∙ there))
+module _ (live : Live) where
+  -- after one came, who is registered is that one, or was before
+  came : (r : Registration) (i : List ℕ) (s : Registration) (P : Type 0)
+      → fin.get (fin.insert live r.identifier r) i ≡ Some s
+      → (i ≡ r.identifier → r ≡ s → P) → (fin.get live i ≡ Some s → P) → P
+  came r = was_or_put nat_list_cmp_total exact_bytes live r.identifier r
 
--- and after one went it was registered before
-pub was_left : (live : Live) (id i : List ℕ) (s : Registration)
-    → fin.get (fin.remove live id) i ≡ Some s → fin.get live i ≡ Some s
-was_left live id i s there =
-    let c = Changed-remove nat_list_cmp_total exact_bytes live id in
-    by_key nat_list_cmp_total exact_bytes i id (fin.get live i ≡ Some s)
-    (λ same. some_none (sym there ∙ (ap (fin.get (fin.remove live id)) same ∙ c.here)))
-    (λ differ. sym (c.others i differ) ∙ there)
+  -- after one went, who is registered was so before
+  left : (id i : List ℕ) (s : Registration) → fin.get (fin.remove live id) i ≡ Some s
+      → fin.get live i ≡ Some s
+  left id = was_left nat_list_cmp_total exact_bytes live id
 
 -- no alias of a list that nobody else holds is that of an endpoint with another address
 nobody_of : (p : Alias → Bool) (aliases : List Alias) (alias : Alias) → filter p aliases ≡ []
@@ -64,15 +57,18 @@ nobody_of p (a ∷ aliases) alias none has =
           Contains-parts a aliases alias (p alias ≡ false) has
           (λ same. ap p (sym same) ∙ is) (λ later. rest h later)
 
+-- it has the alias, so it has the address too
 its_address : (a b : Bool) → (a && not b) ≡ false → a ≡ true → b ≡ true
 its_address true true is has = refl
 its_address true false is has = absurd (cc is)
 its_address false b is has = absurd (cc has)
 
+-- a test that cannot pass fails
 no_row : (b : Bool) → (b ≡ true → ⊥) → b ≡ false
 no_row true h = absurd (h refl)
 no_row false h = refl
 
+-- so if nobody else holds an alias of the list, who holds it has the address
 pub holder_has_address : (live : Live) (address : Address) (aliases : List Alias)
     → registered_elsewhere live address aliases ≡ [] → (alias : Alias) → Contains aliases alias
     → (id : List ℕ) (s : Registration) → fin.get live id ≡ Some s → Contains s.aliases alias
@@ -112,27 +108,27 @@ module _ (live : Live) (sound : IsConsistent live) where
   consistent-came : (r : Registration) → at_address live r.call_signal ≡ None
       → IsConsistent (fin.insert live r.identifier r)
   consistent-came r free = record {
-    own = λ i s there. was_or_came live r.identifier r i s (s.identifier ≡ i) there
-        (λ here is. ap (λ (x : Registration). x.identifier) is ∙ sym here)
+    own = λ i s there. came live r i s (s.identifier ≡ i) there
+        (λ here is. ap (λ (x : Registration). x.identifier) (sym is) ∙ sym here)
         (λ was. sound.own i s was);
     apart = λ i j a b at other same.
-        was_or_came live r.identifier r i a (i ≡ j) at
-        (λ here is. was_or_came live r.identifier r j b (i ≡ j) other
+        came live r i a (i ≡ j) at
+        (λ here is. came live r j b (i ≡ j) other
         (λ there_too _. here ∙ sym there_too)
         (λ was. absurd (none_at live r.call_signal free j b was
-        (sym same ∙ ap (λ (x : Registration). x.call_signal) is))))
-        (λ was. was_or_came live r.identifier r j b (i ≡ j) other
+        (sym same ∙ ap (λ (x : Registration). x.call_signal) (sym is)))))
+        (λ was. came live r j b (i ≡ j) other
         (λ here is. absurd (none_at live r.call_signal free i a was
-        (same ∙ ap (λ (x : Registration). x.call_signal) is)))
+        (same ∙ ap (λ (x : Registration). x.call_signal) (sym is))))
         (λ was_too. sound.apart i j a b was was_too same));
   }
 
   -- one goes
   consistent-went : (id : List ℕ) → IsConsistent (fin.remove live id)
   consistent-went id = record {
-    own = λ i s there. sound.own i s (was_left live id i s there);
+    own = λ i s there. sound.own i s (left live id i s there);
     apart = λ i j r s at other same.
-        sound.apart i j r s (was_left live id i r at) (was_left live id j s other) same;
+        sound.apart i j r s (left live id i r at) (left live id j s other) same;
   }
 
 module _ (live : Live) (apart : HaveAliasesApart live) where
@@ -153,23 +149,24 @@ module _ (live : Live) (apart : HaveAliasesApart live) where
       → registered_elsewhere live r.call_signal r.aliases ≡ []
       → HaveAliasesApart (fin.insert live r.identifier r)
   aliases-came r free none i j a b alias at other has holds =
-      was_or_came live r.identifier r i a (i ≡ j) at
-      (λ here is. was_or_came live r.identifier r j b (i ≡ j) other
+      came live r i a (i ≡ j) at
+      (λ here is. came live r j b (i ≡ j) other
       (λ there_too _. here ∙ sym there_too)
-      (λ was. taken j b was (subst (λ (x : Registration). Contains x.aliases alias) is has)
+      (λ was. taken j b was (subst (λ (x : Registration). Contains x.aliases alias) (sym is) has)
       holds))
-      (λ was. was_or_came live r.identifier r j b (i ≡ j) other
-      (λ here is. taken i a was (subst (λ (x : Registration). Contains x.aliases alias) is holds)
-      has)
+      (λ was. came live r j b (i ≡ j) other
+      (λ here is. taken i a was
+      (subst (λ (x : Registration). Contains x.aliases alias) (sym is) holds) has)
       (λ was_too. apart i j a b alias was was_too has holds)) where
         taken : {P : Type 0} (k : List ℕ) (s : Registration) → fin.get live k ≡ Some s
             → Contains r.aliases alias → Contains s.aliases alias → P
         taken k s there asked held = absurd (none_at live r.call_signal free k s there
             (holder_has_address live r.call_signal r.aliases none alias asked k s there held))
 
+  -- one goes
   aliases-went : (id : List ℕ) → HaveAliasesApart (fin.remove live id)
   aliases-went id i j r s alias at other has holds =
-      apart i j r s alias (was_left live id i r at) (was_left live id j s other) has holds
+      apart i j r s alias (left live id i r at) (left live id j s other) has holds
 
   -- one registers anew, with aliases that nobody else holds
   aliases-rewritten : IsConsistent live → (id : List ℕ) (e : Entry) (deadline most : ℕ)
@@ -225,6 +222,7 @@ roll-changed roll sound id f same_id same_signal same_aliases = record {
   few = omega (arith, len_updated nat_list_cmp_total exact_bytes roll.live id f, sound.few);
 }
 
+-- one was heard
 pub roll-heard : (roll : Roll) → IsSoundRoll roll → (now : ℕ) (id : List ℕ)
     → IsSoundRoll (record { live = heard_now now id roll.live; most = roll.most })
 roll-heard roll sound now id =

@@ -2,13 +2,10 @@
 use Rattle.std.proofs.Common.{◌≡◌, ◌≤◌, ◌+◌, ℕ, true, sym, ◌∙◌, ap, subst}
 use Rattle.std.proofs.Common.{refl, Some, None, arith}
 use Rattle.std.specs.Prelude.{Option, nat_lt}
-use Rattle.std.specs.Option.{IsSomeAnd, option_map}
+use Rattle.std.specs.Option.{IsSomeAnd}
 use Rattle.std.specs.FinMap as fin
 use Rattle.std.specs.FinMap.{len}
-use Rattle.std.proofs.lemmas.Bool.Decides.{nat_tests}
 use Rattle.keyed.specs.Maps.{update}
-use Rattle.keyed.proofs.Decide.{same_some}
-use Rattle.keyed.proofs.Maps.{by_key, Changed-insert, Changed-update}
 use Rattle.kept_replies.specs.declared.entry.KeptEntry.{KeptEntry}
 use Rattle.kept_replies.specs.declared.entry.KeptState.{KeptState}
 use Rattle.kept_replies.specs.declared.entry.KeptState.TheVariants.{Done, Pending}
@@ -22,7 +19,9 @@ use Rattle.ras_machine.specs.inside.Room.{IsPlaced, MayBeKept}
 use Rattle.ras_machine.specs.Keeping.{after_drop, kept_with, served_again}
 use Rattle.ras_machine.specs.Soundness.{AllWaitInProgress, AreBornBefore, WaitsInProgress}
 use Rattle.ras_machine.proofs.Dropping.{born_dropped, born_kept_with, born_same, get_after_drop}
+use Rattle.sound_steps.proofs.Lookups.{was_or_changed, was_or_put}
 use Rattle.sound_steps.proofs.Sizes.{len_removed, len_updated, len_within}
+use Rattle.sound_steps.proofs.Tests.{more_than_one}
 
 -- What holds of the kept replies after this many steps.
 pub record AreSoundKept (delay most steps : ℕ) (kept : KeptReplies) : Type 0 where
@@ -31,33 +30,6 @@ pub record AreSoundKept (delay most steps : ℕ) (kept : KeptReplies) : Type 0 w
   pub births : AreBornApart kept
   pub born : AreBornBefore steps kept
   pub waiting : AllWaitInProgress delay kept
-
--- what is kept after an entry was put is that entry, or was kept before
-was_or_put : (kept : KeptReplies) (key : KeptKey) (new : KeptEntry) (q : KeptKey)
-    (entry : KeptEntry) (P : Type 0) → fin.get (fin.insert kept key new) q ≡ Some entry
-    → (q ≡ key → new ≡ entry → P) → (fin.get kept q ≡ Some entry → P) → P
-was_or_put kept key new q entry P there put was =
-    let c = Changed-insert key_cmp_total key_cmp-IsAntisymmetric kept key new in
-    by_key key_cmp_total key_cmp-IsAntisymmetric q key P
-    (λ same. put same (same_some new entry (sym c.here
-    ∙ (ap (fin.get (fin.insert kept key new)) (sym same) ∙ there))))
-    (λ differ. was (sym (c.others q differ) ∙ there))
-
--- what is kept after one entry changed is the changed one, or was kept before
-was_or_changed : (kept : KeptReplies) (key : KeptKey) (f : KeptEntry → KeptEntry) (q : KeptKey)
-    (entry : KeptEntry) (P : Type 0) → fin.get (update kept key f) q ≡ Some entry
-    → ((old : KeptEntry) → q ≡ key → fin.get kept key ≡ Some old → f old ≡ entry → P)
-    → (fin.get kept q ≡ Some entry → P) → P
-was_or_changed kept key f q entry P there changed was =
-    let c = Changed-update key_cmp_total key_cmp-IsAntisymmetric kept key f in
-    by_key key_cmp_total key_cmp-IsAntisymmetric q key P
-    (λ same. here same (fin.get kept key) refl
-    (sym c.here ∙ (ap (fin.get (update kept key f)) (sym same) ∙ there)))
-    (λ differ. was (sym (c.others q differ) ∙ there)) where
-      here : q ≡ key → (w : Option KeptEntry) → fin.get kept key ≡ w
-          → option_map f w ≡ Some entry → P
-      here same None is h = absurd (cc h)
-      here same (Some old) is h = changed old same is (same_some (f old) entry h)
 
 module _ (delay most steps : ℕ) (kept : KeptReplies)
     (sound : AreSoundKept delay most steps kept) where
@@ -85,6 +57,7 @@ module _ (delay most steps : ℕ) (kept : KeptReplies)
         → fin.get (without_birth kept born) key ≡ Some entry → fin.get kept key ≡ Some entry
     was key entry there = get_after_drop kept (Some born) key entry there
 
+    -- no more are kept than before
     few_left : (row : Option (KeptKey × KeptEntry)) → len (without kept row) ≤ most
     few_left None = sound.few
     few_left (Some row) =
@@ -104,6 +77,7 @@ module _ (delay most steps : ℕ) (kept : KeptReplies)
     abbrev after : KeptReplies
     after = fin.insert (after_drop kept dropped) key new
 
+    -- it finds a place
     few_put : (dropped : Option ℕ)
         → IsPlaced (record { kept = kept; most = most; room = 0 }) key (First dropped)
         → len (fin.insert (after_drop kept dropped) key new) ≤ most
@@ -113,44 +87,42 @@ module _ (delay most steps : ℕ) (kept : KeptReplies)
         len_within key_cmp_total key_cmp-IsAntisymmetric (without_birth kept born) key new most
         (omega (arith, place.1)) (λ none. place.1)
 
-    was_before : (q : KeptKey) (entry : KeptEntry)
-        → fin.get (after_drop kept dropped) q ≡ Some entry → fin.get kept q ≡ Some entry
-    was_before q entry there = get_after_drop kept dropped q entry there
+    -- what is kept then is this entry, or was kept before
+    put_or_before : (q : KeptKey) (entry : KeptEntry) (P : Type 0) → fin.get after q ≡ Some entry
+        → (q ≡ key → new ≡ entry → P) → (fin.get kept q ≡ Some entry → P) → P
+    put_or_before q entry P there put was =
+        was_or_put key_cmp_total key_cmp-IsAntisymmetric (after_drop kept dropped) key new q entry
+        P there put (λ left. was (get_after_drop kept dropped q entry left))
 
-    -- nothing that was kept was born now
-    not_now : {P : Type 0} (q : KeptKey) (entry last : KeptEntry)
-        → fin.get (after_drop kept dropped) q ≡ Some entry → new ≡ last
-        → entry.born ≡ last.born → P
+    -- nothing that was kept before was born now
+    not_now : {P : Type 0} (q : KeptKey) (entry last : KeptEntry) → fin.get kept q ≡ Some entry
+        → new ≡ last → entry.born ≡ last.born → P
     not_now q entry last there now same =
         absurd (omega (
           arith,
-          sound.born q entry (was_before q entry there),
+          sound.born q entry there,
           same,
           ap (λ (e : KeptEntry). e.born) now,
         ))
 
+    -- so all stays sound
     kept-put : AreSoundKept delay most (steps + 1) after
     kept-put = record {
       few = few_put dropped placed;
-      entries = λ q entry there.
-          was_or_put (after_drop kept dropped) key new q entry (IsEntry entry) there
-          (λ same put. subst (λ (e : KeptEntry). IsEntry e) put is)
-          (λ was. sound.entries q entry (was_before q entry was));
+      entries = λ q entry there. put_or_before q entry (IsEntry entry) there
+          (λ same put. subst (λ (e : KeptEntry). IsEntry e) put is) (sound.entries q entry);
       births = λ q other entry last at too same.
-          was_or_put (after_drop kept dropped) key new q entry (q ≡ other) at
-          (λ here put. was_or_put (after_drop kept dropped) key new other last (q ≡ other) too
+          put_or_before q entry (q ≡ other) at
+          (λ here put. put_or_before other last (q ≡ other) too
           (λ here_too _. here ∙ sym here_too)
           (λ was. not_now other last entry was put (sym same)))
-          (λ was. was_or_put (after_drop kept dropped) key new other last (q ≡ other) too
+          (λ was. put_or_before other last (q ≡ other) too
           (λ here put. not_now q entry last was put same)
-          (λ was_too. sound.births q other entry last (was_before q entry was)
-          (was_before other last was_too) same));
+          (λ was_too. sound.births q other entry last was was_too same));
       born = born_kept_with kept steps sound.born key (First dropped) state;
-      waiting = λ q entry there.
-          was_or_put (after_drop kept dropped) key new q entry
-          (WaitsInProgress delay entry.state) there
+      waiting = λ q entry there. put_or_before q entry (WaitsInProgress delay entry.state) there
           (λ same put. subst (λ (e : KeptEntry). WaitsInProgress delay e.state) put waits)
-          (λ was. sound.waiting q entry (was_before q entry was));
+          (sound.waiting q entry);
     }
 
   -- an entry goes on
@@ -159,10 +131,18 @@ module _ (delay most steps : ℕ) (kept : KeptReplies)
       (stays : (e : KeptEntry) → fin.get kept key ≡ Some e → IsEntry (f e))
       (waits : (e : KeptEntry) → WaitsInProgress delay e.state
       → WaitsInProgress delay (f e).state) where
+    -- what is kept then is the entry that goes on, or was kept before
+    changed_or_before : (q : KeptKey) (entry : KeptEntry) (P : Type 0)
+        → fin.get (update kept key f) q ≡ Some entry
+        → ((old : KeptEntry) → q ≡ key → fin.get kept key ≡ Some old → f old ≡ entry → P)
+        → (fin.get kept q ≡ Some entry → P) → P
+    changed_or_before q = was_or_changed key_cmp_total key_cmp-IsAntisymmetric kept key f q
+
+    -- each entry was born when it was
     age_is : (q : KeptKey) (entry : KeptEntry) → fin.get (update kept key f) q ≡ Some entry
         → (old : KeptEntry) × (fin.get kept q ≡ Some old) × (entry.born ≡ old.born)
     age_is q entry there =
-        was_or_changed kept key f q entry
+        changed_or_before q entry
         ((old : KeptEntry) × (fin.get kept q ≡ Some old) × (entry.born ≡ old.born)) there
         (λ old same was is. (
           old,
@@ -171,6 +151,7 @@ module _ (delay most steps : ℕ) (kept : KeptReplies)
         ))
         (λ was. (entry, was, refl))
 
+    -- so all stays sound
     kept-changed : AreBornBefore (steps + 1) (update kept key f)
         → AreSoundKept delay most (steps + 1) (update kept key f)
     kept-changed born = record {
@@ -180,7 +161,7 @@ module _ (delay most steps : ℕ) (kept : KeptReplies)
         sound.few,
       );
       entries = λ q entry there.
-          was_or_changed kept key f q entry (IsEntry entry) there
+          changed_or_before q entry (IsEntry entry) there
           (λ old same was is. subst (λ (e : KeptEntry). IsEntry e) is (stays old was))
           (λ was. sound.entries q entry was);
       births = λ q other entry last at too same.
@@ -189,7 +170,7 @@ module _ (delay most steps : ℕ) (kept : KeptReplies)
           sound.births q other a.0 b.0 a.1 b.1 (sym a.2 ∙ (same ∙ b.2)));
       born = born;
       waiting = λ q entry there.
-          was_or_changed kept key f q entry (WaitsInProgress delay entry.state) there
+          changed_or_before q entry (WaitsInProgress delay entry.state) there
           (λ old same was is. subst (λ (e : KeptEntry). WaitsInProgress delay e.state) is
           (waits old (sound.waiting key old was)))
           (λ was. sound.waiting q entry was);
@@ -199,13 +180,16 @@ module _ (delay most steps : ℕ) (kept : KeptReplies)
   still_some : (state : KeptState) (left retry : ℕ) → left_in state ≡ left
       → nat_lt 1 left ≡ true → IsState (postponed_in retry state)
   still_some (Done reply until) left retry is more = tt
-  still_some (Pending request reply old times) left retry is more = grind (arith, nat_tests)
+  still_some (Pending request reply old times) left retry is more =
+      omega (arith, is, more_than_one left more)
 
+  -- and waits in progress, as it did
   still_waits : (retry : ℕ) (state : KeptState) → WaitsInProgress delay state
       → WaitsInProgress delay (postponed_in retry state)
   still_waits retry (Done reply until) is = tt
   still_waits retry (Pending request reply old times) is = is
 
+  -- the times that its entry has left are those of its occasion
   its_left : (key : KeptKey) (left : ℕ)
       → IsSomeAnd (fin.get kept key) (λ entry. left_in entry.state ≡ left) → (e : KeptEntry)
       → fin.get kept key ≡ Some e → left_in e.state ≡ left

@@ -1,3 +1,5 @@
+pub mod Tests
+pub mod Lookups
 pub mod Sizes
 pub mod Endpoints
 pub mod Calls

@@ -1,9 +1,8 @@
 -- Each request leaves sound tables sound, however it is served.
-use Rattle.std.proofs.Common.{◌≡◌, ◌≢◌, ◌≤◌, ◌<◌, ◌-◌, ◌==◌, ℕ, Bool, true, false, List, []}
+use Rattle.std.proofs.Common.{◌≡◌, ◌≤◌, ◌<◌, ◌-◌, ◌==◌, ℕ, Bool, true, false, List, []}
 use Rattle.std.proofs.Common.{◌∷◌, length, min, refl, ◌∙◌, ap, Some, None, arith}
 use Rattle.std.specs.Prelude.{IfSome, IsSome, Option, if◌then◌else◌, nat_le, nat_lt}
 use Rattle.std.specs.FinMap.{get, len}
-use Rattle.std.proofs.lemmas.Bool.Decides.{nat_tests}
 use Rattle.ras_module.specs.declared.address.Address.{Address}
 use Rattle.ras_module.specs.declared.call_key.CallKey.{CallKey}
 use Rattle.ras_module.specs.declared.alias.Alias.{Alias}
@@ -12,7 +11,8 @@ use Rattle.ras_module.specs.declared.request.BandwidthRequest.{BandwidthRequest}
 use Rattle.ras_module.specs.declared.request.DisengageRequest.{DisengageRequest}
 use Rattle.ras_module.specs.declared.request.RegistrationRequest.{RegistrationRequest}
 use Rattle.ras_module.specs.declared.request.Request.{Request}
-use Rattle.ras_module.specs.declared.request.Request.TheVariants.{Grq, Rrq, Urq, Arq, Brq, Drq, Irr}
+use Rattle.ras_module.specs.declared.request.Request.TheVariants.{Grq, Rrq, Urq, Arq}
+use Rattle.ras_module.specs.declared.request.Request.TheVariants.{Brq, Drq, Irr}
 use Rattle.ras_module.specs.Aliases.{without_doubles}
 use Rattle.registrations.specs.declared.registration.Registration.{Registration}
 use Rattle.registrations.specs.Registry.{at_address}
@@ -51,21 +51,8 @@ use Rattle.ras_requests.specs.Standing.{standing, standing_in}
 use Rattle.ras_requests.proofs.Resizing.{RequestsUnits-resizing}
 use Rattle.sound_steps.proofs.Serving.{IsSoundAfter, SoundBy, asks, pool_there}
 use Rattle.sound_steps.proofs.Tables.{tables-after, tables-left}
-
-differ : (m n : ℕ) → (m == n) ≡ false → m ≢ n
-differ m n is = λ same. absurd (grind (arith, nat_tests, same, is))
-
-equal : (m n : ℕ) → (m == n) ≡ true → m ≡ n
-equal m n is = grind (arith, nat_tests)
-
-none_below : (n : ℕ) → nat_lt 0 n ≡ false → n ≡ 0
-none_below n is = grind (arith, nat_tests)
-
-at_most : (n most : ℕ) → nat_le n most ≡ true → n ≤ most
-at_most n most is = grind (arith, nat_tests)
-
-above : (n least : ℕ) → nat_le n least ≡ false → least < n
-above n least is = grind (arith, nat_tests)
+use Rattle.sound_steps.proofs.Tests as tests
+use Rattle.sound_steps.proofs.Tests.{above, at_most, differ, equal}
 
 module _ (z : Tables) (sound : SoundTables z) where
   -- one of two plans, by a test
@@ -81,6 +68,7 @@ module _ (z : Tables) (sound : SoundTables z) where
     counts = counts_same z.pools z.pools (same_after_end z.pools None);
   }
 
+  -- a change that can be made
   changed : (now : ℕ) (change : Change) → IsPossible z change
       → IsSoundAfter z (after_change now change z)
   changed now change can = record {
@@ -89,6 +77,7 @@ module _ (z : Tables) (sound : SoundTables z) where
         (same_after_change now change z);
   }
 
+  -- an endpoint leaves a call
   left : (key : CallKey) (endpoint : List ℕ) → IsSoundAfter z (without_leg_of z key endpoint)
   left key endpoint = record {
     sound = tables-left z sound key endpoint;
@@ -111,6 +100,7 @@ module _ (z : Tables) (sound : SoundTables z) where
           registered (Some id) is = is_there (get z.live r.identifier) r
               (ap (get z.live) ((sound.endpoints).own id r is) ∙ is)
 
+    -- a full registration: of an endpoint whose address is known, or of a new one
     enters : (e : Entry) (w : Option Registration) → at_address z.live e.call_signal ≡ w
         → registered_elsewhere z.live e.call_signal e.aliases ≡ []
         → SoundBy z (entering z now q e w)
@@ -130,12 +120,14 @@ module _ (z : Tables) (sound : SoundTables z) where
           tt,
         ))
 
+    -- its aliases are held by others, or by nobody else
     held : (e : Entry) (aliases : List Alias)
         → registered_elsewhere z.live e.call_signal e.aliases ≡ aliases
         → SoundBy z (unless_held z now q e aliases)
     held e [] none = enters e (at_address z.live e.call_signal) refl none
     held e (alias ∷ aliases) some = still
 
+    -- it has both addresses, or is refused
     full : (call_signal ras : Option Address) (aliases : List Alias)
         → SoundBy z (full_registration z now q call_signal ras aliases)
     full None ras aliases = still
@@ -145,6 +137,7 @@ module _ (z : Tables) (sound : SoundTables z) where
         (λ few. held (record { call_signal = call_signal; ras = ras; aliases = aliases })
         (registered_elsewhere z.live call_signal aliases) refl)
 
+    -- so it is of each registration
     registers : SoundBy z (registration z now q)
     registers =
         by_test (is_foreign z q.gatekeeper) _ _ (λ foreign. still)
@@ -158,7 +151,7 @@ module _ (z : Tables) (sound : SoundTables z) where
   departs seq (Some r) =
       by_test (nat_lt 0 (legs_of z.calls r.identifier)) _ _ (λ busy. still)
       (λ free. changed 0 (Endpoint (Removal r.identifier))
-      (tt, none_below (legs_of z.calls r.identifier) free))
+      (tt, tests.none (legs_of z.calls r.identifier) free))
 
   -- DRQ
   disengages : (q : DisengageRequest) (w : Option Registration) (leg : Option Leg)
@@ -207,6 +200,7 @@ module _ (z : Tables) (sound : SoundTables z) where
         one_at_least : (m n : ℕ) → (m == 0) ≡ false → (n == 0) ≡ false → 1 ≤ min m n
         one_at_least m n some left = omega (arith, differ m 0 some, differ n 0 left)
 
+  -- an endpoint that is registered may be told its address again, join a call or open one
   admits : (q : AdmissionRequest) (w : Option Registration) (call : Option Call)
       (told : Option Address) → get z.live q.endpoint ≡ w → get z.calls q.call ≡ call
       → SoundBy z (admission_of z q w (standing call q.endpoint) told)
@@ -247,6 +241,7 @@ module _ (z : Tables) (sound : SoundTables z) where
       (call.units - wanted z q.asked)))
       (record { call = call; there = is; pool_is = refl; back_is = omega (arith, few) }, tt)
 
+  -- a call gives units back, or its pool is asked for more
   resizes : (q : BandwidthRequest) (call : Call) → get z.calls q.call ≡ Some call
       → SoundBy z (resizing z q call)
   resizes q call is =
@@ -270,6 +265,7 @@ module _ (z : Tables) (sound : SoundTables z) where
       (least_units z (wanted z q.asked) - call.units) is (sound.call_pools q.call call is)
       sound.limit refl wants refl has refl refl).may tt)))
 
+  -- an endpoint has to have a leg in the call
   bounds : (q : BandwidthRequest) (w : Option Registration) (call : Option Call)
       → get z.calls q.call ≡ call → SoundBy z (bandwidth_of z q w (standing call q.endpoint))
   bounds q None call is = still
@@ -279,6 +275,7 @@ module _ (z : Tables) (sound : SoundTables z) where
     by_leg None = still
     by_leg (Some leg) = resizes q call is
 
+  -- so it is of each request that has a reply
   pub plan_is_sound : (now : ℕ) (request : Request)
       → IfSome (plan_of z now request) (SoundBy z)
   plan_is_sound now (Grq q) = still

@@ -60,6 +60,7 @@ module _ (z : Tables) (sound : SoundTables z) (q : UnitRequest)
   granted_so pools None is = is
   granted_so pools (Some units) is = is
 
+  -- whatever the pool answers, the tables are sound
   pub asks : SoundBy z (Asking (units_requested q) (granted_by z q) (refused_by z q))
   asks = record {
     exists = may.pool;
@@ -94,6 +95,7 @@ module _ (z : Tables) (now : ℕ) (id : List ℕ) where
     by_grant answer (Some units) sound =
         tables-heard (with_pools (lent units) (pools_after_answer z.pools ask answer)) sound now id
 
+-- so it is of each plan
 heard_too : (z : Tables) (now : ℕ) (endpoint : Option (List ℕ)) (plan : Plan) → SoundBy z plan
     → SoundBy z (hearing now endpoint plan)
 heard_too z now None (Settled served) is = is
@@ -111,6 +113,7 @@ heard_too z now None (Asking ask lent refused) is =
     record { exists = is.exists; sound = is.sound }
 heard_too z now (Some id) (Asking ask lent refused) is = heard_ask z now id ask lent refused is
 
+-- and on each occasion
 pub sound_at : (z : Tables) (occasion : Occasion) (now : ℕ) (endpoint : Option (List ℕ))
     (plan : Plan) → SoundBy z plan → SoundBy z (plan_at occasion now endpoint plan)
 sound_at z (First dropped) now endpoint plan is = heard_too z now endpoint plan is

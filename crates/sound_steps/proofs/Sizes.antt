@@ -24,12 +24,14 @@ module _ {K V : Type 0} {R : K → K → Ordering} (o : IsTotalOrder R) (same : 
         len_less o same m k old there,
       )
 
+  -- an entry changes, if there is one
   pub len_updated : (f : V → V) → fin.len (update m k f) ≡ fin.len m
   len_updated f = cases (fin.get m k) refl where
     cases : (w : Option V) → fin.get m k ≡ w → fin.len (put_if m k (option_map f w)) ≡ fin.len m
     cases None is = refl
     cases (Some old) is = len_put old (f old) is
 
+  -- an entry goes, if there is one
   pub len_removed : fin.len (fin.remove m k) ≤ fin.len m
   len_removed = cases (fin.get m k) refl where
     cases : (w : Option V) → fin.get m k ≡ w → fin.len (fin.remove m k) ≤ fin.len m

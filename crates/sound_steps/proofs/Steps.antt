@@ -2,7 +2,6 @@
 use Rattle.std.proofs.Common.{◌≡◌, ◌<◌, ◌+◌, ◌^◌, All, ℕ, Bool, true, false, ap, refl}
 use Rattle.std.proofs.Common.{Some, None, arith, subst}
 use Rattle.std.specs.Prelude.{if◌then◌else◌, max, nat_lt}
-use Rattle.std.proofs.lemmas.Bool.Decides.{nat_tests}
 use Rattle.keyed.proofs.Decide.{same_some}
 use Rattle.zone_events.specs.Events.{moment_in}
 use Rattle.zone_events.specs.declared.event.Event.{Event}
@@ -15,6 +14,7 @@ use Rattle.ras_machine.specs.State.{State}
 use Rattle.ras_machine.specs.Steps.{Step, choices_of}
 use Rattle.sound_steps.proofs.Courses.{along}
 use Rattle.sound_steps.proofs.Endings.{IsSoundEnd, ended_sound}
+use Rattle.sound_steps.proofs.Tests.{below}
 
 module _ (s : State) (sound : Sound s) (now : ℕ) (moment : now < 2 ^ 53) (outcome : Outcome)
     (after : State) where
@@ -38,6 +38,7 @@ module _ (s : State) (sound : Sound s) (now : ℕ) (moment : now < 2 ^ 53) (outc
     one_more : 2 ^ 62 + s.steps + 1 ≡ 2 ^ 62 + (s.steps + 1)
     one_more = omega arith
 
+  -- the state after a step is what its course left, at its moment
   stamped : (e : Ending) → s.steps < most_steps
       → ((mid : State) → e ≡ Some (outcome, mid) → IsSoundEnd s mid)
       → at_moment now (s.steps + 1) e ≡ Some (outcome, after) → Sound after
@@ -54,12 +55,14 @@ module _ (s : State) (sound : Sound s) (now : ℕ) (moment : now < 2 ^ 53) (outc
       → ((mid : State) → e ≡ Some (outcome, mid) → IsSoundEnd s mid)
       → (if b then at_moment now (s.steps + 1) e else None) ≡ Some (outcome, after)
       → Sound after
-  made true unclosed e ends is = stamped e (grind (arith, nat_tests)) ends is
+  made true unclosed e ends is = stamped e (below s.steps most_steps unclosed) ends is
   made false closed e ends is = absurd (cc is)
 
+-- the later of two moments is a moment
 later : (m n : ℕ) → m < 2 ^ 53 → n < 2 ^ 53 → max m n < 2 ^ 53
 later m n few fewer = omega arith
 
+-- the course of an event, by choices that may be made, leaves a sound state
 pub step_is_sound : (s : State) (event : Event) (outcome : Outcome) (after : State)
     → moment_in event < 2 ^ 53 → Sound s → Step s event outcome after → Sound after
 step_is_sound s event outcome after moment sound step =

@@ -36,8 +36,8 @@ use Rattle.zone_tables.specs.UnitRequests.{units_requested}
 use Rattle.zone_tables.proofs.Backing.{length-after_end}
 use Rattle.zone_tables.proofs.ButLent.{counts_same, same_after_end, same_through}
 use Rattle.zone_tables.proofs.Departing.{endpoints_stay, legs_left, over_all, same_after_leave}
-use Rattle.zone_tables.proofs.Legs.{legs-answer, legs-calls, legs-endpoint, legs-heard, legs-remove}
-use Rattle.zone_tables.proofs.Legs.{legs-update, length-pools_after}
+use Rattle.zone_tables.proofs.Legs.{legs-answer, legs-calls, legs-endpoint, legs-heard}
+use Rattle.zone_tables.proofs.Legs.{legs-remove, legs-update, length-pools_after}
 use Rattle.sound_steps.proofs.Calls.{usage-after, usage-answered, usage-left}
 use Rattle.sound_steps.proofs.Endpoints.{roll-after, roll-changed, roll-heard, roll-went}
 
@@ -49,6 +49,7 @@ roll-sound z sound = record {
   few = sound.few_endpoints;
 }
 
+-- the limits of the calls are small enough by the ranges of the settings
 pub usage-sound : (z : Tables) → SoundTables z → IsSoundUsage (usage_of z)
 usage-sound z sound =
     let within = limits z.config (sound.settings).ranges in
@@ -145,6 +146,7 @@ module _ (z : Tables) (sound : SoundTables z) where
       → SoundTables (with_live z (update z.live id (after_ask now)))
   tables-asked now id = tables-changed id (after_ask now) (λ r. refl) (λ r. refl) (λ r. refl)
 
+  -- its tries are counted from 0 again
   pub tables-calm : (id : List ℕ) → SoundTables (with_live z (update z.live id after_calm))
   tables-calm id = tables-changed id after_calm (λ r. refl) (λ r. refl) (λ r. refl)
 
@@ -201,6 +203,7 @@ pools_left endpoint (key ∷ keys) z =
     (same_after_leave endpoint z.calls z.pools key)
     (pools_left endpoint keys (without_leg_of z key endpoint))
 
+-- so no pool counted a refusal or a wait
 pub counts-alone : (z : Tables) (endpoint : List ℕ)
     → CountsOneMore z.pools (without_legs_of z endpoint).pools
 counts-alone z endpoint =

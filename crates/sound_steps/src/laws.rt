@@ -17,9 +17,9 @@ pub fn each_step_leads_to_a_sound_state()
         → moment_in event < 2 ^ 53 → Sound s → Step s event outcome after → Sound after }
 {}
 
-/// Each state that a run from a sound state comes to is sound, inside the run and at its end. So in
-/// each of them bandwidth in use is within the zone's limit, and each pool has lent what its calls
-/// use. The moments of the events are below 2^53.
+/// Each state that a run from a sound state comes to is sound, inside the run and at its end. So
+/// in each of them bandwidth in use is within the zone's limit, and each pool has lent what its
+/// calls use. The moments of the events are below 2^53.
 pub fn every_state_of_a_run_is_within_the_limit()
     ensures sound { (s : State) (entries : List (Event × Outcome)) (after : State)
         (run : Run s entries after) → All (λ entry. moment_in entry.0 < 2 ^ 53) entries → Sound s
