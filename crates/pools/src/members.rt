@@ -127,8 +127,8 @@ impl<P: Pool> Members<P> {
         self.pools[i].turn();
     }
 
-    /// Puts a pool in the place of pool i, which has nothing lent, and returns that one. The new one
-    /// was asked for units this often, and was told of no time.
+    /// Puts a pool in the place of pool i, which has nothing lent, and returns that one. The new
+    /// one was asked for units this often, and was told of no time.
     pub fn exchange(&mut self, i: usize, fresh: P, requests: u64) -> P
         requires pool { i < length self.old }
         requires repaid { (member_at self.old i).account.figures.lent ≡ 0 }
