@@ -3,3 +3,4 @@ pub mod Leading
 pub mod Joining
 pub mod Places
 pub mod GoodReceipts
+pub mod WholeHistory

@@ -41,6 +41,11 @@ abbrev pub AreGoodBelow : List Entry → List Receipt → ℕ → Type 0
 AreGoodBelow entries receipts n = (i : ℕ) (r : Receipt) → i < n
     → slice_get receipts i ≡ Some r → IsGood entries (take i receipts) r
 
+-- each entry is told of by a receipt, with its place
+abbrev pub AreTold : List Entry → List Receipt → Type 0
+AreTold entries receipts = (i : ℕ) (entry : Entry) → slice_get entries i ≡ Some entry
+    → Any (λ r. (r.place ≡ i) × (receipt_entry r ≡ entry)) receipts
+
 -- the first receipt that isn't good, and what is wrong with it
 pub record HasReceiptFault (entries : List Entry) (receipts : List Receipt) (fault : AuditFault)
     : Type 0 where

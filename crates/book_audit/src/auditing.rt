@@ -1,10 +1,10 @@
 //! The audit.
 
-ghost use Rattle.std.specs.Prelude.{IfErr, IfOk, OnOk, length};
+ghost use Rattle.std.specs.Prelude.{◌≡◌, IfErr, IfOk, OnOk, length};
 ghost use Rattle.books.specs.Books.{BookRun};
 ghost use Rattle.book_audit.specs.Audits.{IsFault};
 ghost use Rattle.book_audit.specs.Joined.{AreTotals, IsJoined, beginning, history_entries};
-ghost use Rattle.book_audit.specs.Receipts.{AreGoodBelow};
+ghost use Rattle.book_audit.specs.Receipts.{AreGoodBelow, AreTold};
 
 use crate::fault::AuditFault;
 use crate::joined::joined_totals;
@@ -13,6 +13,7 @@ use books::{Chapter, Finished, Receipt, Totals};
 use pools::Pool;
 
 /// The totals of a whole history: its chapters in their order, and what is left of it behind them.
+/// If there are as many receipts as entries, the receipts tell of each entry.
 ///
 /// It is refused as NotJoined if and only if the first place isn't 0, a chapter or the rest doesn't
 /// begin at the place and in the state to which the one before it leads, or the totals that were
@@ -30,6 +31,9 @@ pub fn audit<P: Pool>(
         (history_entries chapters.now finished.now) finished.now.zone.state) }
     ensures receipts { OnOk result (AreGoodBelow (history_entries chapters.now finished.now)
         receipts.now (length receipts.now)) }
+    ensures whole { OnOk result (length receipts.now
+        ≡ length (history_entries chapters.now finished.now)
+        → AreTold (history_entries chapters.now finished.now) receipts.now) }
     ensures totals { IfOk result (AreTotals (beginning chapters.now finished.now)
         (history_entries chapters.now finished.now) finished.now.zone.state) }
     ensures err { IfErr result (IsFault chapters.now finished.now receipts.now) }
