@@ -6,7 +6,7 @@ ghost use Rattle.std.specs.Prelude.{◌≡◌};
 
 use crate::rehearsal::Stage;
 use crate::seats::{Hold, apply, cut, listing_of};
-use crate::sights::{is_as_before, is_listed, sight_of};
+use crate::sights::{is_listed, sight_of};
 use book_audit::audit;
 use books::{Chapter, Finished, Receipt};
 use pools::Pool;
@@ -16,6 +16,7 @@ use std::marker::Brand;
 use std::sync::Wait;
 use std::sync::atomic::AtomicU64;
 use std::sync::ledger::Ledger;
+use step_check::{accepts, same};
 use zone_lock::{Blanks, Hall, Listing, OpenFault, Seat, ZoneLock};
 
 const SEATS: usize = 2;
@@ -28,6 +29,8 @@ const OTHERWISE: &str = "a lock answered otherwise";
 const TWICE: &str = "a lock was refused twice";
 
 const NO_PLACE: &str = "no place for what a lock tells";
+
+const CHANGED: &str = "a refused step changed the locked zone";
 
 /// The receipts of the steps, in their order, and the chapters that ended. There is room for all.
 #[derive(Drop)]
@@ -89,6 +92,43 @@ impl Record {
     }
 }
 
+/// Whether the steps of a chapter, made again from the state in which it begins, lead to the whole
+/// state in which it ends.
+fn is_led(chapter: &Chapter) -> Result<bool, &'static str> {
+    let base = chapter.base();
+    let mut state = base.copy().or_else(|_| base.copy()).map_err(|_| TWICE)?;
+    for entry in chapter.entries() {
+        match accepts(&mut state, &entry.event, &entry.outcome) {
+            Ok(true) => {}
+            Ok(false) => return Ok(false),
+            Err(_) => return Err(TWICE),
+        }
+    }
+    Ok(state.machine().is_same(chapter.end().machine()))
+}
+
+/// The seat makes a step of the event. If it is refused, a chapter ends there, and shows that the
+/// locked zone stands where the steps so far have led it; then the step is made.
+fn make_step<P: Pool, D: Hall, T: Ledger, U: Ledger, R: Wait>(
+    hold: &Hold<'_, P, D, T, U, R>,
+    seat: &mut Seat<D, T, U>,
+    event: &Event,
+    record: &mut Record,
+) -> Result<(), &'static str> {
+    let receipt = match apply(hold, seat, event)? {
+        Some(receipt) => receipt,
+        None => {
+            let chapter = cut(hold)?;
+            if !is_led(&chapter)? {
+                return Err(CHANGED);
+            }
+            record.add_chapter(chapter)?;
+            apply(hold, seat, event)?.ok_or(TWICE)?
+        }
+    };
+    record.add_receipt(receipt)
+}
+
 /// The seats make a step for each event in turn. The last listing is what the zone has then.
 fn make_steps<P: Pool, D: Hall, T: Ledger, U: Ledger, R: Wait>(
     hold: &Hold<'_, P, D, T, U, R>,
@@ -100,7 +140,7 @@ fn make_steps<P: Pool, D: Hall, T: Ledger, U: Ledger, R: Wait>(
         let Some(seat) = seats.get_mut(i % SEATS) else {
             return Err(OTHERWISE);
         };
-        record.add_receipt(apply(hold, seat, event)?)?;
+        make_step(hold, seat, event, record)?;
         if i % STEPS == STEPS - 1 {
             record.add_chapter(cut(hold)?)?;
         }
@@ -115,8 +155,7 @@ fn is_right<P: Pool>(
     listing: &Listing,
     steps: usize,
 ) -> Result<bool, &'static str> {
-    let sight = sight_of(finished.zone())?;
-    Ok(record.is_of(finished, steps) && is_listed(&sight, listing))
+    Ok(record.is_of(finished, steps) && is_listed(finished.zone(), listing)?)
 }
 
 /// The seats make their steps, and the history that the lock leaves is audited.
@@ -216,7 +255,7 @@ fn lock_zone<P: Pool, R: Wait>(
         Locked::Made(made) => return made,
         Locked::Refused(zone) => zone,
     };
-    if !is_as_before(&zone, &before)? {
+    if !same(&before, &zone) {
         return Err("a refused lock changed its zone");
     }
     match try_lock(rt, alloc, zone, meter, events, record) {

@@ -5,12 +5,13 @@
 ghost use Rattle.std.specs.Prelude.{◌<◌, OnOk, vec_len, vec_capacity};
 
 use crate::rehearsal::{Stage, step};
-use crate::sights::{is_as_before, sight_of};
+use crate::sights::sight_of;
 use book_replay::replays;
 use books::{Book, Entry};
 use pools::Pool;
 use ras_core::{Event, Outcome, Snapshot};
 use std::alloc::Global;
+use step_check::same;
 
 const CHANGED: &str = "a refused call changed the zone or the book";
 
@@ -24,7 +25,7 @@ fn snapshot_of<P: Pool>(stage: &Stage<P>) -> Result<Snapshot, &'static str> {
     match stage.zone.snapshot() {
         Ok(snapshot) => Ok(snapshot),
         Err(_) => {
-            if !is_as_before(&stage.zone, &before)? {
+            if !same(&before, &stage.zone) {
                 return Err(CHANGED);
             }
             stage.zone.snapshot().map_err(|_| TWICE)
@@ -92,7 +93,7 @@ fn is_run<P: Pool>(stage: &Stage<P>, book: &Book) -> Result<bool, &'static str> 
     match replays(book, &stage.zone) {
         Ok(is_run) => Ok(is_run),
         Err(_) => {
-            if !is_as_before(&stage.zone, &before)? || book.entries.len() != entries {
+            if !same(&before, &stage.zone) || book.entries.len() != entries {
                 return Err(CHANGED);
             }
             replays(book, &stage.zone).map_err(|_| TWICE)

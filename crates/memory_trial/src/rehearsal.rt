@@ -5,9 +5,10 @@ use crate::locks::lock_up;
 use crate::meter::Metered;
 use crate::records::keep_book;
 use crate::serving::serve_up;
+use crate::sights::sight_of;
 use crate::worlds::act_out;
 use pools::{Pool, PoolSet, StandardPool};
-use ras_core::{Event, Outcome, StepFault, Zone};
+use ras_core::{Event, Outcome, Snapshot, StepFault, Zone};
 use registrations::Registration;
 use script::{Input, Script, ScriptFault, read_script, write_outcomes};
 use std::alloc::{AllocError, AllocFailed, Global};
@@ -16,6 +17,7 @@ use std::rt::Clock;
 use std::sync::atomic::{AtomicU64, Ordering};
 use std::sync::{Arc, Wait};
 use std::thread::Threads;
+use step_check::{accepts, same};
 
 /// No more than one request for memory is refused, so a second try is enough.
 const TRIES: usize = 2;
@@ -96,22 +98,16 @@ pub fn are_same(some: &[Registration], others: &[Registration]) -> bool {
     true
 }
 
-/// One step. If it is refused for want of memory, the zone is as it was: its clock, its steps, its
-/// endpoints, its calls and what its pools have lent.
+/// One step. If it is refused for want of memory, the zone is as it was: its whole state, and what
+/// its pools have lent.
 fn try_step<P: Pool>(stage: &mut Stage<P>, event: &Event) -> Result<Outcome, Trouble> {
     let event = event.copy()?;
-    let endpoints = stage.zone.endpoints()?;
-    let calls = stage.zone.calls()?;
-    let before = (stage.zone.clock().milliseconds(), stage.zone.steps());
+    let before = stage.zone.snapshot()?;
     match stage.zone.step(event) {
         Ok(outcome) => Ok(outcome),
         Err(StepFault::Closed) => Err(Trouble::Otherwise("the zone is closed")),
         Err(StepFault::Memory) => {
-            let after = (stage.zone.clock().milliseconds(), stage.zone.steps());
-            let same = after == before
-                && are_same(stage.zone.endpoints()?.as_slice(), endpoints.as_slice())
-                && stage.zone.calls()? == calls;
-            if !same {
+            if !same(&before, &stage.zone) {
                 return Err(Trouble::Otherwise("a refused step changed the zone"));
             }
             if !stage.is_even() {
@@ -149,8 +145,25 @@ fn steps<P: Pool>(
     Ok(())
 }
 
+/// Whether the zone stands where these outcomes of the events have led it from that state.
+fn is_led<P: Pool>(
+    stage: &Stage<P>,
+    before: &mut Snapshot,
+    events: &[Event],
+    outcomes: &[Outcome],
+) -> Result<bool, &'static str> {
+    for (event, outcome) in events.iter().zip(outcomes.iter()) {
+        match accepts(before, event, outcome) {
+            Ok(true) => {}
+            Ok(false) => return Ok(false),
+            Err(_) => return Err("a step was done again and refused"),
+        }
+    }
+    Ok(same(before, &stage.zone))
+}
+
 /// A run over the events. If it is refused, the steps before the event that its fault names stand,
-/// and it goes on from there.
+/// and nothing else has changed; it goes on from there.
 fn run<P: Pool>(
     stage: &mut Stage<P>,
     events: &[Event],
@@ -161,12 +174,16 @@ fn run<P: Pool>(
         if done > events.len() || stage.zone.steps() != done as u64 {
             return Err("a run left as many outcomes as it made no steps");
         }
+        let mut before = sight_of(&stage.zone)?;
         match stage.zone.run(&events[done..], outcomes) {
             Ok(()) => return Ok(()),
             Err((_, StepFault::Closed)) => return Err("the zone is closed"),
             Err((i, StepFault::Memory)) => {
                 if outcomes.len() - done != i {
                     return Err("a refused run named another event");
+                }
+                if !is_led(stage, &mut before, &events[done..], &outcomes[done..])? {
+                    return Err("a refused run changed the zone");
                 }
                 if !stage.is_even() {
                     return Err("a refused run left a loan");

@@ -85,18 +85,19 @@ fn try_apply<P: Pool, D: Hall, T: Ledger, U: Ledger, R: Wait>(
 }
 
 /// The seat makes a step of the event. How many steps were made before it, by all and by this seat,
-/// is told by its receipt: a refused step isn't among them.
+/// is told by its receipt: a refused step isn't among them. If it is refused, the zone has what it
+/// had, and None is returned.
 pub fn apply<P: Pool, D: Hall, T: Ledger, U: Ledger, R: Wait>(
     hold: &Hold<'_, P, D, T, U, R>,
     seat: &mut Seat<D, T, U>,
     event: &Event,
-) -> Result<Receipt, &'static str> {
+) -> Result<Option<Receipt>, &'static str> {
     let before = listing_of(hold)?;
-    if let Some(receipt) = try_apply(hold, seat, event)? {
-        return Ok(receipt);
+    let receipt = try_apply(hold, seat, event)?;
+    if receipt.is_none() {
+        expect_unchanged(hold, &before)?;
     }
-    expect_unchanged(hold, &before)?;
-    try_apply(hold, seat, event)?.ok_or(TWICE)
+    Ok(receipt)
 }
 
 /// Ends a chapter. A refused call leaves its entries where they were: they are in the chapter that

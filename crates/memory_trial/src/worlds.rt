@@ -2,12 +2,14 @@
 //! and the same act with memory is done.
 
 use crate::rehearsal::Stage;
-use crate::sights::{is_as_before, sight_of};
+use crate::sights::sight_of;
+use book_replay::replays;
 use history::{Acted, World, WorldFault, WorldStep};
 use pools::Pool;
 use ras_core::{Event, Outcome, Zone};
 use std::alloc::Global;
 use std::sync::atomic::{AtomicU64, Ordering};
+use step_check::same;
 use zone_events::Datagram;
 
 /// How many workers there are, and how many places each ring has.
@@ -41,7 +43,7 @@ fn world_of<P: Pool>(alloc: Global, zone: Zone<P>) -> Result<World<P>, &'static 
     match World::new(alloc, zone, WORKERS, 1) {
         Ok(world) => Ok(world),
         Err((zone, WorldFault::Memory)) => {
-            if !is_as_before(&zone, &before)? {
+            if !same(&before, &zone) {
                 return Err(CHANGED);
             }
             World::new(alloc, zone, WORKERS, 1).map_err(|_| TWICE)
@@ -50,23 +52,30 @@ fn world_of<P: Pool>(alloc: Global, zone: Zone<P>) -> Result<World<P>, &'static 
     }
 }
 
-/// One act, which is made again if it was refused. Its zone and its book are then as they were, and
-/// its pools have lent what its calls use.
+/// Whether the book has this many entries, the whole state of the zone is the one to which they
+/// lead, and its pools have lent what its calls use.
+fn is_led<P: Pool>(
+    world: &World<P>,
+    meter: &AtomicU64,
+    entries: usize,
+) -> Result<bool, &'static str> {
+    let is_run = replays(world.book(), world.zone()).map_err(|_| TWICE)?;
+    let is_even = meter.load(Ordering::SeqCst) == world.zone().in_use();
+    Ok(is_run && is_even && world.book().entries.len() == entries)
+}
+
+/// One act, which is made again if it was refused. Its zone and its book are then as they were.
 fn act<P: Pool>(
     world: &mut World<P>,
     meter: &AtomicU64,
     deed: Deed,
     w: usize,
 ) -> Result<Acted, &'static str> {
-    let before = sight_of(world.zone())?;
     let entries = world.book().entries.len();
     match world.act(step_of(deed, w)) {
         Ok(acted) => Ok(acted),
         Err(WorldFault::Memory) => {
-            let same = is_as_before(world.zone(), &before)?
-                && world.book().entries.len() == entries
-                && meter.load(Ordering::SeqCst) == world.zone().in_use();
-            if !same {
+            if !is_led(world, meter, entries)? {
                 return Err(CHANGED);
             }
             world.act(step_of(deed, w)).map_err(|_| TWICE)
@@ -75,32 +84,38 @@ fn act<P: Pool>(
     }
 }
 
-/// Whether the worker posts this output, if there is one, and it is then taken from its ring.
+/// Whether the worker posts its output, if it has one. If another one waits in its ring, it is
+/// dropped, and the one that waits is then taken.
 fn is_sent<P: Pool>(
     world: &mut World<P>,
     meter: &AtomicU64,
     w: usize,
-    output: &Option<Datagram>,
+    has_output: bool,
+    waiting: Option<&Datagram>,
 ) -> Result<bool, &'static str> {
     let posted = act(world, meter, Deed::Post, w)?;
-    let Some(output) = output else {
+    if !has_output {
         return Ok(matches!(&posted, Acted::Nothing));
+    }
+    let Some(waiting) = waiting else {
+        return Ok(matches!(&posted, Acted::Posted));
     };
-    if !matches!(&posted, Acted::Posted) {
+    if !matches!(&posted, Acted::Dropped) {
         return Ok(false);
     }
     match act(world, meter, Deed::Take, w)? {
-        Acted::Took(datagram) => Ok(datagram == *output),
+        Acted::Took(datagram) => Ok(datagram == *waiting),
         _ => Ok(false),
     }
 }
 
-/// A worker receives the event, the zone makes a step of it, and what is sent is posted and taken.
+/// A worker receives the event, the zone makes a step of it, and what is sent is posted.
 fn serve<P: Pool>(
     world: &mut World<P>,
     meter: &AtomicU64,
     w: usize,
     event: &Event,
+    waiting: Option<&Datagram>,
 ) -> Result<Outcome, &'static str> {
     let event = event.copy().or_else(|_| event.copy()).map_err(|_| TWICE)?;
     let received = world.act(WorldStep::Receive(w, event));
@@ -110,14 +125,30 @@ fn serve<P: Pool>(
     let Acted::Applied(outcome) = act(world, meter, Deed::Apply, w)? else {
         return Err(OTHERWISE);
     };
-    if is_sent(world, meter, w, &outcome.output)? {
+    if is_sent(world, meter, w, outcome.output.is_some(), waiting)? {
         Ok(outcome)
     } else {
         Err(OTHERWISE)
     }
 }
 
-/// The workers of a world serve the events in turn. The book has an entry for each.
+/// The output of the outcome at this place, if there is one.
+fn output_at(outcomes: &[Outcome], place: Option<usize>) -> Option<&Datagram> {
+    outcomes.get(place?)?.output.as_ref()
+}
+
+/// The place of the outcome whose output waits in a ring, once the outcome at this place is posted:
+/// its output waits if none did before, and is dropped if that of another place did.
+fn waiting_then(waited: Option<usize>, place: usize, has_output: bool) -> Option<usize> {
+    match waited {
+        Some(_) if has_output => None,
+        None if has_output => Some(place),
+        _ => waited,
+    }
+}
+
+/// The workers of a world serve the events in turn. Each has a ring of one place, so that every
+/// second output of a worker finds it full and is dropped. The book has an entry for each.
 pub fn act_out<P: Pool>(
     alloc: Global,
     stage: Stage<P>,
@@ -126,8 +157,12 @@ pub fn act_out<P: Pool>(
 ) -> Result<(), &'static str> {
     let Stage { zone, meter } = stage;
     let mut world = world_of(alloc, zone)?;
+    let mut waiting: [Option<usize>; WORKERS] = [None; WORKERS];
     for (i, event) in events.iter().enumerate() {
-        let outcome = serve(&mut world, &meter, i % WORKERS, event)?;
+        let w = i % WORKERS;
+        let before = output_at(outcomes, waiting[w]);
+        let outcome = serve(&mut world, &meter, w, event, before)?;
+        waiting[w] = waiting_then(waiting[w], i, outcome.output.is_some());
         if world.book().entries.len() != i + 1 {
             return Err(OTHERWISE);
         }
