@@ -82,7 +82,6 @@ pub fn has_chapters<D: Hall, T: Ledger, U: Ledger, R: Wait>(
     lock: ZoneLock<FixedPool, D, T, U>,
     seats: Vec<Seat<D, T, U>>,
 ) -> Option<bool>
-    requires { (D.parts ≡ D.all) × (T.parts ≡ D.all) × (U.parts ≡ D.all) }
 {
     let (mut seats, mut receipts, mut chapters) = (seats, Vec::new(alloc), Vec::new(alloc));
     let are_cut = cut_chapters(rt, alloc, &lock, &mut seats, &mut receipts, &mut chapters);

@@ -63,7 +63,6 @@ pub fn has_discarded<D: Hall, T: Ledger, U: Ledger, R: Wait>(
     lock: ZoneLock<FixedPool, D, T, U>,
     seats: Vec<Seat<D, T, U>>,
 ) -> Option<bool>
-    requires { (D.parts ≡ D.all) × (T.parts ≡ D.all) × (U.parts ≡ D.all) }
 {
     let mut seats = seats;
     let are_gone = discard_steps(rt, alloc, &lock, &mut seats);

@@ -60,7 +60,6 @@ pub fn has_returned_loan<D: Hall, T: Ledger, U: Ledger, R: Wait>(
     lock: ZoneLock<FixedPool, D, T, U>,
     seats: Vec<Seat<D, T, U>>,
 ) -> Option<bool>
-    requires { (D.parts ≡ D.all) × (T.parts ≡ D.all) × (U.parts ≡ D.all) }
 {
     let (mut seats, mut receipts) = (seats, Vec::new(alloc));
     let is_denied = is_second_denied(rt, alloc, &lock, &mut seats, &mut receipts);

@@ -25,7 +25,6 @@ pub fn are_seated<D: Hall, T: Ledger, U: Ledger, R: Wait>(
     lock: ZoneLock<FixedPool, D, T, U>,
     seats: Vec<Seat<D, T, U>>,
 ) -> Option<bool>
-    requires { (D.parts ≡ D.all) × (T.parts ≡ D.all) × (U.parts ≡ D.all) }
 {
     let mut seats = seats;
     let mut receipts = Vec::new(alloc);
@@ -104,7 +103,6 @@ pub fn is_short_of_a_seat<D: Hall, T: Ledger, U: Ledger>(
     lock: ZoneLock<FixedPool, D, T, U>,
     seats: Vec<Seat<D, T, U>>,
 ) -> Option<bool>
-    requires { (D.parts ≡ D.all) × (T.parts ≡ D.all) × (U.parts ≡ D.all) }
 {
     let mut seats = seats;
     let last = seats.pop();

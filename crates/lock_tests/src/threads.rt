@@ -213,7 +213,6 @@ pub fn are_all_entered<
     lock: ZoneLock<FixedPool, D, T, U>,
     seats: Vec<Seat<D, T, U>>,
 ) -> Option<bool>
-    requires { (D.parts ≡ D.all) × (T.parts ≡ D.all) × (U.parts ≡ D.all) }
 {
     let mut seats = seats;
     let shares = made(rt, alloc, &lock, &mut seats);

@@ -168,7 +168,6 @@ fn make_history<P: Pool, D: Hall, T: Ledger, U: Ledger, R: Wait>(
     events: &[Event],
     record: &mut Record,
 ) -> Result<(), &'static str>
-    requires { (D.parts ≡ D.all) × (T.parts ≡ D.all) × (U.parts ≡ D.all) }
 {
     let mut seats = seats;
     let hold = Hold {

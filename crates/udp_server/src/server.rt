@@ -51,7 +51,6 @@ pub fn serve<
     plan: Plan,
 ) -> Result<Report<P>, ServeFault>
     requires seats { (vec_len seats ≡ D.all) × (vec_len seats ≤ 16) }
-    requires parts { (D.parts ≡ D.all) × (T.parts ≡ D.all) × (U.parts ≡ D.all) }
     requires plan { IsPlan plan }
     ensures served { IfOk result (λ r. IsServed D.opened r.finished r.datagrams r.turns) }
     ensures wrong_counts { (result ≡ Err ServeFault.WrongCounts)
@@ -151,7 +150,6 @@ fn report_of<P: Pool, D: Hall, T: Ledger, U: Ledger>(
     lock: ZoneLock<P, D, T, U>,
     record: CrewRecord<D, T, U>,
 ) -> Result<Report<P>, ServeFault>
-    requires parts { (D.parts ≡ D.all) × (T.parts ≡ D.all) × (U.parts ≡ D.all) }
     ensures served { IfOk result (λ r. IsServed D.opened r.finished r.datagrams r.turns) }
     ensures counts { result ≢ Err ServeFault.WrongCounts }
 {
@@ -167,7 +165,6 @@ fn report_with<P: Pool, D: Hall, T: Ledger, U: Ledger>(
     joint: JointRecord<D, T, U>,
     sent: SendCounts,
 ) -> Result<Report<P>, ServeFault>
-    requires parts { (D.parts ≡ D.all) × (T.parts ≡ D.all) × (U.parts ≡ D.all) }
     ensures served { IfOk result (λ r. IsServed D.opened r.finished r.datagrams r.turns) }
     ensures counts { result ≢ Err ServeFault.WrongCounts }
 {
