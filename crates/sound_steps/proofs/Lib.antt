@@ -11,3 +11,5 @@ pub mod Courses
 pub mod Endings
 pub mod Steps
 pub mod Along
+pub mod Clocks
+pub mod EachStep

@@ -28,3 +28,12 @@ pub fn every_state_of_a_run_is_within_the_limit()
         (run : Run s entries after) → All (λ entry. moment_in entry.0 < 2 ^ 53) entries → Sound s
         → EachStateOf IsWithinLimit s entries after run }
 {}
+
+/// The same of a run that leads from one sound state to another, as a chapter and a book that was
+/// run again do. Nothing is asked of the moments: the clock never goes back, so that each of them
+/// is at most that of the state at the end.
+pub fn every_state_between_two_sound_ones_is_within_the_limit()
+    ensures { (s : State) (entries : List (Event × Outcome)) (after : State)
+        (run : Run s entries after) → Sound s → Sound after
+        → EachStateOf IsWithinLimit s entries after run }
+{}

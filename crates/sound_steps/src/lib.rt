@@ -4,4 +4,7 @@
 
 mod laws;
 
-pub use laws::{each_step_leads_to_a_sound_state, every_state_of_a_run_is_within_the_limit};
+pub use laws::{
+    each_step_leads_to_a_sound_state, every_state_between_two_sound_ones_is_within_the_limit,
+    every_state_of_a_run_is_within_the_limit,
+};

@@ -1,5 +1,6 @@
 pub mod Ends
 pub mod Faults
+pub mod Headline
 pub mod Plans
 pub mod Rooms
 pub mod Served

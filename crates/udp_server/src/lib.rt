@@ -8,6 +8,7 @@ mod chapters;
 mod datagrams;
 mod expiry_worker;
 mod gate;
+mod laws;
 mod moments;
 mod plan;
 mod receiver;
@@ -19,6 +20,7 @@ mod worker;
 
 pub use datagrams::{Datagrams, DeviceFault, MOST_RECEIVED, Received};
 pub use gate::{Gate, Open, Stage};
+pub use laws::the_headline;
 pub use moments::Moments;
 pub use plan::Plan;
 pub use report::{Report, ServeFault};

@@ -1,0 +1,15 @@
+//! The headline, of what a server leaves.
+
+ghost use Rattle.std.specs.Prelude.{ℕ};
+ghost use Rattle.books.specs.Chapters.{FinishedValue};
+ghost use Rattle.ras_machine.specs.Soundness.{Sound};
+ghost use Rattle.ras_machine.specs.State.{State};
+ghost use Rattle.udp_server.specs.Headline.{Headline};
+ghost use Rattle.udp_server.specs.Served.{IsServed};
+
+/// What `serve_zone` leaves of a zone, which is always sound, is as the headline says. `datagrams`
+/// and `turns` are the totals that its report tells.
+pub fn the_headline()
+    ensures { (opened : State) (f : FinishedValue) (datagrams turns : ℕ)
+        → Sound opened → IsServed opened f datagrams turns → Headline opened f }
+{}
