@@ -63,7 +63,7 @@ Settings, with their ranges and what they are if no line sets them (ms is millis
   asks          1 to 16                  3  how often a silent endpoint is asked for a sign of life
   ask_wait      1 to 3600000          5000  ms that it has for each answer
   pool_turn     1 to 86400000         1000  ms from one turn of the pools to the next
-  least_grant   0 to 4294967295          0  units that a loan leaves a call, if it wants as many
+  least_grant   0 to 4294967295          0  least units of a call with a loan, if it wants as many
 
 NAME has 1 to 128 characters. LIMIT is at most 1000000000000; STEP and BURST are 1 to 4294967295;
 MS is below 9007199254740992, and one that is below an earlier one counts as that. HEX has two
@@ -117,7 +117,7 @@ examples/gatekeeper.toml has every key, with its meaning, its range and its defa
   gatekeeper check-settings < examples/gatekeeper.toml";
 
 const CHECK_HELP: &str = "\
-Settings are UTF-8, of at most 1,048,576 octets. They are refused as a whole, with one line on
+Settings are UTF-8, of at most 1,048,576 octets. They are refused as a whole, with a last line on
 standard error, if they are no TOML document (`settings: 1 Syntax`, behind a line of the log with
 the line, the column and the reason), or by the first key that fails:
   settings: 2 Missing KEY      the key is required, and isn't there
@@ -137,7 +137,7 @@ docs/OPERATING.md leads from the settings to a first call:
   gatekeeper serve < examples/gatekeeper.toml";
 
 const SERVE_HELP: &str = "\
-Settings are UTF-8, of at most 1,048,576 octets. They are refused as a whole, with one line on
+Settings are UTF-8, of at most 1,048,576 octets. They are refused as a whole, with a last line on
 standard error, if they are no TOML document (`settings: 1 Syntax`, behind a line of the log with
 the line, the column and the reason), or by the first key that fails:
   settings: 2 Missing KEY      the key is required, and isn't there

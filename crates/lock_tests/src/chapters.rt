@@ -81,8 +81,7 @@ pub fn has_chapters<D: Hall, T: Ledger, U: Ledger, R: Wait>(
     alloc: Global,
     lock: ZoneLock<FixedPool, D, T, U>,
     seats: Vec<Seat<D, T, U>>,
-) -> Option<bool>
-{
+) -> Option<bool> {
     let (mut seats, mut receipts, mut chapters) = (seats, Vec::new(alloc), Vec::new(alloc));
     let are_cut = cut_chapters(rt, alloc, &lock, &mut seats, &mut receipts, &mut chapters);
     let Ok(finished) = lock.finish(seats) else {

@@ -62,8 +62,7 @@ pub fn has_discarded<D: Hall, T: Ledger, U: Ledger, R: Wait>(
     alloc: Global,
     lock: ZoneLock<FixedPool, D, T, U>,
     seats: Vec<Seat<D, T, U>>,
-) -> Option<bool>
-{
+) -> Option<bool> {
     let mut seats = seats;
     let are_gone = discard_steps(rt, alloc, &lock, &mut seats);
     let Ok(finished) = lock.finish(seats) else {

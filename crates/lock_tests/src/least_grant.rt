@@ -59,8 +59,7 @@ pub fn has_returned_loan<D: Hall, T: Ledger, U: Ledger, R: Wait>(
     alloc: Global,
     lock: ZoneLock<FixedPool, D, T, U>,
     seats: Vec<Seat<D, T, U>>,
-) -> Option<bool>
-{
+) -> Option<bool> {
     let (mut seats, mut receipts) = (seats, Vec::new(alloc));
     let is_denied = is_second_denied(rt, alloc, &lock, &mut seats, &mut receipts);
     let Ok(finished) = lock.finish(seats) else {

@@ -24,8 +24,7 @@ pub fn are_seated<D: Hall, T: Ledger, U: Ledger, R: Wait>(
     alloc: Global,
     lock: ZoneLock<FixedPool, D, T, U>,
     seats: Vec<Seat<D, T, U>>,
-) -> Option<bool>
-{
+) -> Option<bool> {
     let mut seats = seats;
     let mut receipts = Vec::new(alloc);
     let are_told = are_applied(rt, alloc, &lock, &mut seats, &mut receipts);
@@ -102,8 +101,7 @@ fn is_call_open<D: Hall, T: Ledger, U: Ledger>(
 pub fn is_short_of_a_seat<D: Hall, T: Ledger, U: Ledger>(
     lock: ZoneLock<FixedPool, D, T, U>,
     seats: Vec<Seat<D, T, U>>,
-) -> Option<bool>
-{
+) -> Option<bool> {
     let mut seats = seats;
     let last = seats.pop();
     let Err((lock, seats)) = lock.finish(seats) else {

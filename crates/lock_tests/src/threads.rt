@@ -212,8 +212,7 @@ pub fn are_all_entered<
     alloc: Global,
     lock: ZoneLock<FixedPool, D, T, U>,
     seats: Vec<Seat<D, T, U>>,
-) -> Option<bool>
-{
+) -> Option<bool> {
     let mut seats = seats;
     let shares = made(rt, alloc, &lock, &mut seats);
     let Ok(finished) = lock.finish(seats) else {

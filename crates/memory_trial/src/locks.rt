@@ -167,8 +167,7 @@ fn make_history<P: Pool, D: Hall, T: Ledger, U: Ledger, R: Wait>(
     meter: &AtomicU64,
     events: &[Event],
     record: &mut Record,
-) -> Result<(), &'static str>
-{
+) -> Result<(), &'static str> {
     let mut seats = seats;
     let hold = Hold {
         rt,

@@ -1,7 +1,7 @@
 //! Sets of pools, of one kind and behind boxes.
 
 use crate::marked::{MarkedPool, Seen};
-use pools::{Figures, FixedPool, Lend, PacedPool, Pool, PoolFault, PoolSet, StepPool};
+use pools::{Figures, FixedPool, Lend, PacedPool, Pool, PoolFault, PoolSet};
 use std::alloc::Global;
 use std::sync::Arc;
 use std::sync::atomic::Ordering;
@@ -98,53 +98,6 @@ pub fn shown<P: Pool>(set: &PoolSet<P>, i: usize) -> Option<(Figures, Option<(u6
     } else {
         None
     }
-}
-
-/// Asks the first pool of a set that was asked little, of which a loan of fewer than `least` units
-/// is of no use. The answer, whether nothing went back, and what the pool shows then.
-fn ask_least<P: Pool>(
-    pools: Vec<P>,
-    asked: u64,
-    least: u64,
-) -> Option<(Lend, bool, Figures, Option<(u64, Lend)>)> {
-    let Ok(mut set) = PoolSet::new(pools) else {
-        return None;
-    };
-    if set.len() == 0 || asked == 0 || asked > 1_000_000 {
-        return None;
-    }
-    let before = set.figures(0);
-    if before.refusals > 1_000_000 || before.waits > 1_000_000 {
-        return None;
-    }
-    let (answer, stays) = set.lend_least(0, asked, least);
-    Some((answer, stays, set.figures(0), set.last(0)))
-}
-
-#[test]
-fn loan_below_the_least_goes_back(rt: HostRuntime) -> Result<(), Fail> {
-    let alloc = rt.alloc();
-    // A pool that lends whole steps of 64 units.
-    for (asked, least, answer, stays, lent, refusals) in [
-        (100, 65, Lend::Lent(64), false, 0, 0),
-        (100, 64, Lend::Lent(64), true, 64, 0),
-        (100, 0, Lend::Lent(64), true, 64, 0),
-        (63, 63, Lend::Refused, true, 0, 1),
-    ] {
-        let mut pools: Vec<Boxed> = Vec::new(alloc);
-        pools.push(Box::new(alloc, StepPool::new(2_500, 64))?)?;
-        let figures = Figures {
-            limit: 2_500,
-            lent,
-            refusals,
-            waits: 0,
-        };
-        assert_eq!(rt;
-            ask_least(pools, asked, least),
-            Some((answer, stays, figures, Some((asked, answer))))
-        );
-    }
-    Ok(())
 }
 
 /// Lends twice from the first pool of a set, with a turn between the two if that is wished.
