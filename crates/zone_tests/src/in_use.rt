@@ -296,8 +296,7 @@ fn a_call_that_waited_uses_what_it_is_lent_then(rt: HostRuntime) -> Result<(), F
     Ok(())
 }
 
-/// Whether an endpoint whose time to live is over takes its call along, and its alias is free: the
-/// next one that asks for it gets it.
+/// Whether an endpoint whose time to live is over takes its call along.
 fn is_over_with_its_call(alloc: Global, zone: &mut Zone<FixedPool>) -> Result<bool, Fail> {
     let over = Note::Done(DueItem::RegistrationOver(identifier(FIRST)?));
     let lines = [
@@ -308,14 +307,38 @@ fn is_over_with_its_call(alloc: Global, zone: &mut Zone<FixedPool>) -> Result<bo
         turn(60_000, over, None, &[], 0),
         turn(60_000, Note::Idle, None, &[], 0),
     ];
-    let second = [digits([49, 48, 50])?];
-    let both = [digits([49, 48, 57])?, digits([49, 48, 49])?];
-    let left = (identifier(SECOND)?, 6, second.as_slice());
-    let is_one_left = are_made(alloc, zone, &lines)? && are_endpoints(zone, &[left])?;
+    are_made(alloc, zone, &lines)
+}
+
+/// Whether the second endpoint is left alone.
+fn is_second_left(zone: &Zone<FixedPool>) -> Result<bool, Fail> {
+    let aliases = [digits([49, 48, 50])?];
+    are_endpoints(zone, &[(identifier(SECOND)?, 6, aliases.as_slice())])
+}
+
+/// Whether the alias of the endpoint that is over is free: the next one that asks for it gets it.
+fn is_alias_free(alloc: Global, zone: &mut Zone<FixedPool>) -> Result<bool, Fail> {
     let next = event_from(alloc, address(7, 1719), &RRQ_109_101, 60_000)?;
     let given = zone.step(next)?.given.ok_or("an identifier")?;
-    let next = (given, 7, both.as_slice());
-    Ok(is_one_left && has_no_call(zone)? && are_endpoints(zone, &[left, next])?)
+    let second = [digits([49, 48, 50])?];
+    let both = [digits([49, 48, 57])?, digits([49, 48, 49])?];
+    let registered = [
+        (identifier(SECOND)?, 6, second.as_slice()),
+        (given, 7, both.as_slice()),
+    ];
+    are_endpoints(zone, &registered)
+}
+
+/// Whether these three hold, one after the other.
+fn seen_behind_the_end(
+    alloc: Global,
+    zone: &mut Zone<FixedPool>,
+) -> Result<(bool, bool, bool), Fail> {
+    let over = is_over_with_its_call(alloc, zone)?;
+    let second = is_second_left(zone)?;
+    let no_call = has_no_call(zone)?;
+    let free = is_alias_free(alloc, zone)?;
+    Ok((over, second && no_call, free))
 }
 
 #[test]
@@ -325,9 +348,12 @@ fn nothing_is_in_use_behind_a_registration_that_is_over(rt: HostRuntime) -> Resu
     parts.silence = 3_600_000;
     let pool = FixedPool::new(2_500);
     let mut zone = zone_of(rt.alloc(), parts, 3_000, pool)?;
-    let passed = is_over_with_its_call(rt.alloc(), &mut zone);
+    let seen = seen_behind_the_end(rt.alloc(), &mut zone);
     drop(zone);
-    assert!(rt; passed?);
+    let (over, left, free) = seen?;
+    assert!(rt; over, "the call went along");
+    assert!(rt; left, "the second endpoint is left, without a call");
+    assert!(rt; free, "the alias is free");
     Ok(())
 }
 
