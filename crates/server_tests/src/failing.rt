@@ -265,18 +265,18 @@ fn a_failed_receive_loses_no_datagram(rt: HostRuntime) {
     assert!(rt; counts == Some((2, 2, 0, 0, 1, 0)));
 }
 
-/// The notes of the first two entries of datagrams.
-fn first_notes<P: Pool>(report: &Report<P>) -> (Option<Note>, Option<Note>) {
-    let mut notes = (None, None);
+/// The note of the entry of a datagram that has this many before it.
+fn note_behind<P: Pool>(report: &Report<P>, before: usize) -> Option<Note> {
+    let mut left = before;
     for entry in report.finished.entries() {
-        let is_datagram = matches!(&entry.event, Event::Datagram(_, _, _));
-        notes = match notes {
-            (None, _) if is_datagram => (Some(entry.outcome.note), None),
-            (Some(first), None) if is_datagram => (Some(first), Some(entry.outcome.note)),
-            _ => notes,
-        };
+        if matches!(&entry.event, Event::Datagram(_, _, _)) {
+            if left == 0 {
+                return Some(entry.outcome.note);
+            }
+            left -= 1;
+        }
     }
-    notes
+    None
 }
 
 /// Whether, in a run in which the first send fails and its request comes again, the confirm is sent
@@ -286,8 +286,10 @@ fn is_resent<R: Threads + Wait + Clock + Sync>(rt: &R, alloc: Global) -> Option<
     let (receiver, sender) = (Record::new(NEVER), Record::new(0));
     let report = served(rt, alloc, &receiver, &sender, &TWICE)?;
     let is_counted = counts(&report) == (2, 1, 0, 0, 0, 1);
-    let are_noted = first_notes(&report) == (Some(Note::Served), Some(Note::Kept));
-    Some(is_counted && are_noted && sender.confirms() == 1)
+    let is_served = note_behind(&report, 0) == Some(Note::Served);
+    let is_repeated = note_behind(&report, 1) == Some(Note::Kept);
+    let is_confirmed_once = sender.confirms() == 1;
+    Some(is_counted && is_served && is_repeated && is_confirmed_once)
 }
 
 #[test]
