@@ -12,6 +12,8 @@ use Rattle.ras_writing.specs.Replies.{encoding_of}
 use Rattle.kept_replies.specs.declared.key.KeptKey.{KeptKey}
 use Rattle.kept_replies.specs.declared.entry.KeptEntry.{KeptEntry}
 use Rattle.kept_replies.specs.Kept.{reply_in}
+use Rattle.zone_events.specs.declared.change.Change.{Change}
+use Rattle.zone_events.specs.declared.change.Change.TheVariants as change
 use Rattle.zone_events.specs.declared.event.Event.{Event}
 use Rattle.zone_events.specs.declared.event.Event.TheVariants as event
 use Rattle.ras_machine.specs.declared.prepared.Message.TheVariants.{TooLong}
@@ -23,11 +25,12 @@ use Rattle.ras_machine.specs.State.{State}
 use Rattle.ras_core.specs.Running.{Running}
 use Rattle.ras_requests.specs.Requests.{HasReply}
 use Rattle.ras_machine.specs.Keeping.{is_repeat}
+use Rattle.ras_machine.specs.Soundness.{Sound}
 use Rattle.ras_machine.specs.Turns.{IsNothingDueIn}
 use Rattle.ras_machine.specs.Machine.{Ending, Course, Repeating, at_moment, course}
 use Rattle.ras_machine.specs.Machine.{course_ending, datagram_course, message_course, most_steps}
 use Rattle.ras_machine.specs.Machine.{turn_course}
-use Rattle.ras_core.specs.Runs.{EachState, IsWithinLimit, RunningRun}
+use Rattle.ras_core.specs.Runs.{EachState, IsWithinLimit, RunningChange, RunningRun}
 use Rattle.ras_machine.specs.Steps.{IsAllowed, Step, choices_of}
 use Rattle.ras_machine.specs.Steps.{item_of}
 use Rattle.ras_machine.proofs.Calling.{repeats}
@@ -92,10 +95,17 @@ idle s moment outcome after step noted =
     (turn_course s (max s.clock moment) (item_of n)) (choices_of outcome))
     noted step.allowed
 
-pub within_limit : (old : Running) (entries : List (Event × Outcome)) (new : Running)
+-- a step leads to a sound state
+sound_after : (old : Running) (what : Change) (outcome : Outcome) (new : Running)
+    → RunningChange old what outcome new → Sound new.state
+sound_after old (change.Event event) outcome new step = step.sound
+sound_after old (change.PoolChange replacement) outcome new step = step.sound
+
+pub within_limit : (old : Running) (entries : List (Change × Outcome)) (new : Running)
     (run : RunningRun old entries new) → EachState IsWithinLimit old entries new run
 within_limit old [] new run = tt
-within_limit old (entry ∷ entries) new run = (
-  record { limit = run.1.sound.tables.limit; lent = run.1.sound.tables.lent },
-  within_limit run.0 entries new run.2,
-)
+within_limit old (entry ∷ entries) new run =
+    let sound = sound_after old entry.0 entry.1 run.0 run.1 in (
+      record { limit = sound.tables.limit; lent = sound.tables.lent },
+      within_limit run.0 entries new run.2,
+    )

@@ -33,12 +33,12 @@ account m = m.account
 abbrev nobody : Member
 nobody = new_member (opening_account 0)
 
-tally_there : (members : List Member) (i : ℕ)
+pub tally_there : (members : List Member) (i : ℕ)
     → tally_at (tallies_of members) i ≡ tally_of (member_at members i)
 tally_there members i = seq.get_or-map tally_of members i nobody
 
 -- one member is written
-figures-set : (members : List Member) (i : ℕ) (m : Member)
+pub figures-set : (members : List Member) (i : ℕ) (m : Member)
     → figures_of (accounts_of (set members i m))
     ≡ set (figures_of (accounts_of members)) i m.account.figures
 figures-set members i m =
@@ -168,7 +168,7 @@ lasts-close [] = refl
 lasts-close (m ∷ members) = ap (λ ls. m.account.last ∷ ls) (lasts-close members)
 
 -- pools that are idle have figures that are
-idle_figures : (a : Account) → IsTrue (is_idle a) → IsIdle a.figures
+pub idle_figures : (a : Account) → IsTrue (is_idle a) → IsIdle a.figures
 idle_figures a idle = record {
   lent = grind (arith, idle);
   refusals = grind (arith, idle);

@@ -4,6 +4,7 @@ use Rattle.pools.specs.declared.interface.Figures.{Figures}
 use Rattle.pools.specs.declared.interface.Lend.{Lend}
 use Rattle.pools.specs.Account.{Account}
 use Rattle.pools.specs.Members.{Member, one_more}
+use Rattle.pools.specs.Replacing.{member_with_loans}
 use Rattle.zone_events.specs.declared.due_item.DueItem.TheVariants.{PoolTurn}
 use Rattle.zone_tables.specs.Pools.{RequestedUnits}
 use Rattle.ras_machine.specs.Machine.{Course, Doing}
@@ -70,6 +71,12 @@ tallies_after_ask tallies None answer = tallies
 abbrev pub tallies_after : List Tally → Course → Option Lend → List Tally
 tallies_after tallies (Doing PoolTurn) answer = tallies_after_turn tallies
 tallies_after tallies other answer = tallies_after_ask tallies (ask_in other) answer
+
+-- A fresh pool, seen as this account, took the place of a pool that had lent these units. It was
+-- asked for them and told of no time; the tallies of all others stay.
+abbrev pub tallies_after_replacing : List Tally → ℕ → Account → ℕ → List Tally
+tallies_after_replacing tallies pool fresh units =
+    slice_set tallies pool (tally_of (member_with_loans fresh units))
 
 -- all that was lent came back
 abbrev pub without_loans : Figures → Figures

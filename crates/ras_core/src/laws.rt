@@ -8,6 +8,7 @@ ghost use Rattle.ras_reading.specs.Messages.{message_reading};
 ghost use Rattle.ras_writing.specs.Replies.{encoding_of};
 ghost use Rattle.kept_replies.specs.declared.entry.KeptEntry.{KeptEntry};
 ghost use Rattle.kept_replies.specs.Kept.{reply_in};
+ghost use Rattle.zone_events.specs.declared.change.Change.{Change};
 ghost use Rattle.zone_events.specs.declared.outcome.Outcome.{Outcome};
 ghost use Rattle.ras_machine.specs.State.{State};
 ghost use Rattle.ras_core.specs.Running.{Running};
@@ -42,9 +43,9 @@ pub fn a_turn_is_idle_only_if_nothing_is_due()
         → IsNothingDueIn s (max s.clock moment) }
 {}
 
-/// In every state that a run of `Zone::run` comes to, bandwidth in use, the sum over the calls, is
+/// In every state that a run of steps and replacements comes to, bandwidth in use, the sum over the calls, is
 /// within the zone's limit, and each pool has lent what its calls use.
 pub fn bandwidth_is_within_the_limit_all_along()
-    ensures { (old : Running) (entries : List (Event × Outcome)) (new : Running)
+    ensures { (old : Running) (entries : List (Change × Outcome)) (new : Running)
         (run : RunningRun old entries new) → EachState IsWithinLimit old entries new run }
 {}

@@ -6,6 +6,7 @@
 mod choices;
 mod fault;
 mod laws;
+mod replacing;
 mod settling;
 mod snapshot;
 mod zone;
@@ -16,7 +17,8 @@ pub use laws::{
     bandwidth_is_within_the_limit_all_along,
 };
 pub use ras_machine::{Prepared, prepare};
+pub use replacing::figures_of;
 pub use snapshot::Snapshot;
 pub use zone::Zone;
 pub use zone_config::{Config, ConfigFault, ConfigParts, Moment, Network, Networks};
-pub use zone_events::{Datagram, DueItem, Event, IgnoredCause, Note, Outcome};
+pub use zone_events::{Change, Datagram, DueItem, Event, IgnoredCause, Note, Outcome, PoolChange};

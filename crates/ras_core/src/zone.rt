@@ -33,8 +33,8 @@ use zone_tables::PoolFigures;
 /// see its state, which is always sound. Beside it they see for each pool the last request with its
 /// answer, how often the pool was asked for units, and how many turns it made.
 pub struct Zone<P: Pool> {
-    machine: Machine,
-    pools: PoolSet<P>,
+    pub(crate) machine: Machine,
+    pub(crate) pools: PoolSet<P>,
 }
 
 // By hand, as that of the machine, so that it is one call where a zone is dropped.

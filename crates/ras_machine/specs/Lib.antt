@@ -4,6 +4,7 @@ pub mod State
 pub mod Keeping
 pub mod Turns
 pub mod Machine
+pub mod Replacing
 pub mod Soundness
 pub mod Steps
 pub mod Courses

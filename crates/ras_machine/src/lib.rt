@@ -11,6 +11,7 @@ mod kept_entry;
 mod machine;
 mod prepared;
 mod readiness;
+mod replacing;
 mod served_request;
 mod turn;
 

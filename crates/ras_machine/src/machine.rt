@@ -33,7 +33,7 @@ pub struct Machine {
     pub(crate) interrogation_number: RequestSeqNum,
     pub(crate) next_pool_turn: u64,
     pub(crate) steps: u64,
-    clock: Moment,
+    pub(crate) clock: Moment,
 }
 
 // By hand, so that it is one call where a machine is dropped: a derived one is written out at each

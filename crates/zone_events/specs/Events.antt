@@ -1,5 +1,7 @@
--- Events and outcomes.
+-- Events, changes and outcomes.
 use Rattle.std.specs.Prelude.{ℕ, Option, None}
+use Rattle.zone_events.specs.declared.change.Change.{Change}
+use Rattle.zone_events.specs.declared.change.Change.TheVariants as change
 use Rattle.zone_events.specs.declared.event.Event.{Event}
 use Rattle.zone_events.specs.declared.event.Event.TheVariants as event
 use Rattle.zone_events.specs.declared.outcome.Datagram.{Datagram}
@@ -12,6 +14,11 @@ use Rattle.zone_events.specs.declared.outcome.Outcome.{Outcome}
 abbrev pub moment_in : Event → ℕ
 moment_in (event.Datagram source bytes moment) = moment
 moment_in (event.Turn moment) = moment
+
+-- the moment of a change
+abbrev pub moment_of_change : Change → ℕ
+moment_of_change (change.Event what) = moment_in what
+moment_of_change (change.PoolChange replacement) = replacement.moment
 
 -- what is sent and what happened, in a step that chose nothing, except the item in a turn
 abbrev pub noted_outcome : Note → Option Datagram → Outcome

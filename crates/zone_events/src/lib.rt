@@ -1,12 +1,14 @@
-//! What comes to a gatekeeper and what it does in return, as values: events, outcomes, and what can
-//! be due. Code that only carries them, such as a script or a queue of replies, need not know the
+//! What comes to a gatekeeper and what it does in return, as values: events, changes of pools,
+//! outcomes, and what can be due. Code that only carries them, such as a script or a queue of replies, need not know the
 //! machine.
 #![tactic(auto)]
 
+mod change;
 mod due_item;
 mod event;
 mod outcome;
 
+pub use change::{Change, PoolChange};
 pub use due_item::DueItem;
 pub use event::Event;
 pub use outcome::{Datagram, IgnoredCause, Note, Outcome};

@@ -74,6 +74,8 @@ pub enum Note {
     Done(DueItem),
     /// Nothing was due.
     Idle,
+    /// A fresh pool took the place of the pool with this number.
+    Replaced(usize),
 }
 
 /// What a step did: the answer of the pool that was asked; what is sent; what happened; the birth

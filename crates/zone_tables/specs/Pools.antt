@@ -56,6 +56,18 @@ abbrev pub pools_after_end : List Figures → Option (ℕ × ℕ) → List Figur
 pools_after_end pools None = pools
 pools_after_end pools (Some freed) = pools_after_return pools freed.0 freed.1
 
+-- A fresh pool that is offered with these figures may take the place of a pool: there is one, the
+-- fresh one is idle, and its limit is at least what that one has lent.
+pub record MayReplace (pools : List Figures) (pool : ℕ) (offered : Figures) : Type 0 where
+  pub there : pool < length pools
+  pub idle : IsIdle offered
+  pub enough : (figures_at pools pool).lent ≤ offered.limit
+
+-- it took that place, and took over what had been lent: no other pool changes
+abbrev pub pools_after_replacing : List Figures → ℕ → Figures → List Figures
+pools_after_replacing pools pool offered =
+    slice_set pools pool (record offered { lent = (figures_at pools pool).lent })
+
 -- Units may be requested of a pool: from one to the most that a BandWidth of H.225.0 names, while
 -- there is room to count one more refusal and one more wait.
 pub record MayBeAsked (pools : List Figures) (pool units : ℕ) : Type 0 where

@@ -10,8 +10,9 @@ ghost use Rattle.keyed.specs.Maps.{update};
 ghost use Rattle.admission.specs.Calls.{IsConsistent, after_leave, freed_by_leave, in_use, leg_at};
 ghost use Rattle.admission.specs.Calls.{legs_of, new_call, with_leg, with_units};
 ghost use Rattle.pools.specs.Account.{IsAnswer};
-ghost use Rattle.zone_tables.specs.Pools.{IsIdle, figures_at};
+ghost use Rattle.zone_tables.specs.Pools.{IsIdle, MayReplace, figures_at};
 ghost use Rattle.zone_tables.specs.Pools.{pools_after_answer, pools_after_end, pools_after_return};
+ghost use Rattle.zone_tables.specs.Pools.{pools_after_replacing};
 ghost use Rattle.zone_tables.specs.Changes.{IsCallChange, IsJoinable, IsLowerable, IsOpenable};
 ghost use Rattle.zone_tables.specs.UnitRequests.{IsEnterable, IsUnitRequest};
 ghost use Rattle.zone_tables.specs.UnitRequests.{units_requested, calls_after_answer};
@@ -26,7 +27,7 @@ use crate::lender::Lender;
 use crate::pool_figures::PoolFigures;
 use crate::unit_request::{Purpose, UnitRequest};
 use admission::{Call, CallList, Calls, Leg};
-use pools::Lend;
+use pools::{Figures, Lend};
 use ras_module::{CallKey, EndpointId};
 use std::alloc::{AllocError, Global};
 use std::marker::Model;
@@ -246,6 +247,18 @@ impl Bandwidth {
         while let Some(call) = self.calls.call_of(endpoint) {
             self.leave(&call, endpoint);
         }
+    }
+
+    /// Notes that a fresh pool, which was offered with these figures, took the place of a pool and
+    /// took over its loans.
+    pub fn replace_pool(&mut self, pool: usize, offered: Figures)
+        requires { MayReplace self.old.usage.pools pool offered }
+        ensures usage { self.new.usage ≡ with_usage self.old.usage self.old.usage.calls
+            (pools_after_replacing self.old.usage.pools pool offered) }
+        ensures sound { IsSoundUsage self.new.usage }
+    {
+        let _ = &self.calls;
+        self.pools.replace(pool, offered);
     }
 
     /// Requests units of a pool, once, for a call. If enough units are lent, the call opens with

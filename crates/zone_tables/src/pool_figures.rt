@@ -4,8 +4,10 @@ ghost use Rattle.std.specs.Prelude.{◌↔◌, IsTrue};
 ghost use Rattle.std.specs.Prelude.{◌≡◌, ◌≤◌, ◌<◌, ◌^◌, length, slice_set};
 ghost use Rattle.pools.specs.Account.{IsAnswer, figures_after_least};
 ghost use Rattle.pools.specs.Members.{accounts_of};
-ghost use Rattle.zone_tables.specs.Pools.{AreWithinLimits, MayBeAsked, figures_at, figures_of};
-ghost use Rattle.zone_tables.specs.Pools.{pools_after_answer, pools_after_return};
+ghost use Rattle.zone_tables.specs.Pools.{AreWithinLimits, MayBeAsked, MayReplace};
+ghost use Rattle.zone_tables.specs.Pools.{figures_at, figures_of};
+ghost use Rattle.zone_tables.specs.Pools.{pools_after_answer, pools_after_replacing};
+ghost use Rattle.zone_tables.specs.Pools.{pools_after_return};
 
 use arrayvec::ArrayVec;
 use pools::{Figures, Lend, Pool, PoolSet};
@@ -88,6 +90,30 @@ impl PoolFigures {
         ensures within { AreWithinLimits self.new }
     {
         self.items.as_mut_slice()[i].lent -= n;
+    }
+
+    /// Whether a fresh pool that is offered with these figures may take the place of pool i. `i` may
+    /// be any number.
+    pub fn may_replace(&self, i: usize, offered: Figures) -> bool
+        ensures { IsTrue result ↔ MayReplace self.now i offered }
+    {
+        i < self.items.len()
+            && offered.lent == 0
+            && offered.refusals < 1 << 62
+            && offered.waits < 1 << 62
+            && self.get(i).lent <= offered.limit
+    }
+
+    /// Notes that a fresh pool, which was offered with these figures, took the place of pool i and
+    /// took over its loans. No other figures change.
+    pub fn replace(&mut self, i: usize, offered: Figures)
+        requires { MayReplace self.old i offered }
+        ensures after { self.new ≡ pools_after_replacing self.old i offered }
+        ensures within { AreWithinLimits self.new }
+    {
+        let mut figures = offered;
+        figures.lent = self.get(i).lent;
+        put(&mut self.items, i, figures);
     }
 
     /// Equal figures. This takes no memory.

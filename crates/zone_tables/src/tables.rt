@@ -15,7 +15,8 @@ ghost use Rattle.zone_tables.specs.Leaving.{AreSameButLent, IsOther};
 ghost use Rattle.pools.specs.Account.{IsAnswer};
 ghost use Rattle.zone_tables.specs.Tables.{empty_tables, with_live};
 ghost use Rattle.zone_tables.specs.Disengaging.{without_endpoint, without_legs_of, without_silent};
-ghost use Rattle.zone_tables.specs.Pools.{IsIdle, figures_at, pools_after_answer};
+ghost use Rattle.zone_tables.specs.Pools.{IsIdle, MayReplace, figures_at};
+ghost use Rattle.zone_tables.specs.Pools.{pools_after_answer, pools_after_replacing};
 ghost use Rattle.zone_tables.specs.Parts.{usage_of};
 ghost use Rattle.zone_tables.specs.Changes.{IsPossible, IsRegistered};
 ghost use Rattle.zone_tables.specs.UnitRequests.{IsUnitRequest};
@@ -35,7 +36,7 @@ use crate::silence::{make_place, watch};
 use crate::unit_request::{Purpose, UnitRequest};
 use admission::{Call, CallList, Calls, Leg};
 use expiry::{Times, item_in_call};
-use pools::Lend;
+use pools::{Figures, Lend};
 use ras_module::{Address, Alias, CallKey, EndpointId, ReplyAliases};
 use registrations::{Registration, RegistrationList, Registrations};
 use silences::Silences;
@@ -385,6 +386,19 @@ impl ZoneTables {
             );
         }
         Ok(answer)
+    }
+
+    /// Notes that a fresh pool, which was offered with these figures, took the place of a pool and
+    /// took over its loans.
+    pub fn replace_pool(&mut self, pool: usize, offered: Figures)
+        requires { MayReplace self.old.pools pool offered }
+        ensures tables { self.new ≡ record self.old {
+          pools = pools_after_replacing self.old.pools pool offered;
+        } }
+        ensures sound { SoundTables self.new }
+    {
+        let _ = &self.config;
+        self.bandwidth.replace_pool(pool, offered);
     }
 
     /// Takes an endpoint out of all its calls.
