@@ -6,13 +6,14 @@ use Rattle.std.proofs.Math.ListN.{drop_of_length-le}
 use Rattle.std.proofs.Math.Seq.{drop-cons}
 use Rattle.std.proofs.lemmas.List.{length-append}
 use Rattle.std.proofs.lemmas.List.Sums.{sum_by-append, sum_by-cons}
-use Rattle.zone_events.specs.declared.event.Event.{Event}
+use Rattle.zone_events.specs.declared.change.Change.{Change}
+use Rattle.zone_events.specs.declared.change.Change.TheVariants.{Event, PoolChange}
 use Rattle.zone_events.specs.declared.event.Event.TheVariants.{Datagram, Turn}
 use Rattle.books.specs.declared.book.Entry.{Entry}
 use Rattle.books.specs.declared.totals.Totals.{Totals}
 use Rattle.books.specs.Chapters.{ChapterValue}
-use Rattle.books.specs.Totals.{datagrams_in, datagrams_of, lent_of, no_totals, totals_with}
-use Rattle.books.specs.Totals.{turns_in}
+use Rattle.books.specs.Totals.{changes_in, changes_of, datagrams_in, datagrams_of, lent_of}
+use Rattle.books.specs.Totals.{no_totals, totals_with, turns_in}
 use Rattle.books.specs.Totals.{turns_of, units_lent}
 use Rattle.book_audit.specs.Joined.{entries_of}
 
@@ -25,12 +26,14 @@ cut_at {A} all i x below is =
     ∙ (ap (λ (k : ℕ). get_or all i x ∷ drop k all) next
     ∙ ap (λ (y : A). y ∷ drop (i + 1) all) (sym is))
 
--- an entry is of a datagram or of a turn
-one_each : (e : Event) → datagrams_in e + turns_in e ≡ 1
-one_each (Datagram source bytes moment) = refl
-one_each (Turn moment) = refl
+-- an entry is of a datagram, of a turn, or of a pool that took the place of another one
+one_each : (e : Change) → datagrams_in e + turns_in e + changes_in e ≡ 1
+one_each (Event (Datagram source bytes moment)) = refl
+one_each (Event (Turn moment)) = refl
+one_each (PoolChange replacement) = refl
 
-pub counts : (entries : List Entry) → datagrams_of entries + turns_of entries ≡ length entries
+pub counts : (entries : List Entry)
+    → datagrams_of entries + turns_of entries + changes_of entries ≡ length entries
 counts [] = refl
 counts (e ∷ entries) =
     omega (
@@ -39,6 +42,7 @@ counts (e ∷ entries) =
       counts entries,
       sum_by-cons (λ (x : Entry). datagrams_in x.event) e entries,
       sum_by-cons (λ (x : Entry). turns_in x.event) e entries,
+      sum_by-cons (λ (x : Entry). changes_in x.event) e entries,
     )
 
 pub datagrams_of-append : (xs ys : List Entry)
@@ -47,6 +51,10 @@ datagrams_of-append xs ys = sum_by-append (λ (x : Entry). datagrams_in x.event)
 
 pub turns_of-append : (xs ys : List Entry) → turns_of (xs ++ ys) ≡ turns_of xs + turns_of ys
 turns_of-append xs ys = sum_by-append (λ (x : Entry). turns_in x.event) xs ys
+
+pub changes_of-append : (xs ys : List Entry)
+    → changes_of (xs ++ ys) ≡ changes_of xs + changes_of ys
+changes_of-append xs ys = sum_by-append (λ (x : Entry). changes_in x.event) xs ys
 
 pub lent_of-append : (xs ys : List Entry) → lent_of (xs ++ ys) ≡ lent_of xs + lent_of ys
 lent_of-append xs ys = sum_by-append (λ (x : Entry). units_lent x.outcome.answer) xs ys
@@ -62,11 +70,14 @@ more_of t xs ys =
     let lent : t.lent + lent_of (xs ++ ys) ≡ t.lent + lent_of xs + lent_of ys =
     omega (arith, lent_of-append xs ys) in
     let back : t.returned + 0 ≡ t.returned + 0 + 0 = omega arith in
+    let changes : t.changes + changes_of (xs ++ ys) ≡ t.changes + changes_of xs + changes_of ys =
+    omega (arith, changes_of-append xs ys) in
     λ i. record {
       datagrams = datagrams i;
       turns = turns i;
       lent = lent i;
       returned = back i;
+      changes = changes i;
     }
 
 with_nothing : (t : Totals) → totals_with t [] 0 ≡ t
@@ -75,19 +86,22 @@ with_nothing t =
     let turns : t.turns + 0 ≡ t.turns = omega arith in
     let lent : t.lent + 0 ≡ t.lent = omega arith in
     let back : t.returned + 0 ≡ t.returned = omega arith in
+    let changes : t.changes + 0 ≡ t.changes = omega arith in
     λ i. record {
       datagrams = datagrams i;
       turns = turns i;
       lent = lent i;
       returned = back i;
+      changes = changes i;
     }
 
 -- The totals so far come to those of all chapters with the rest of them.
 pub record IsSoFar (all : List ChapterValue) (totals : Totals) (rest : List ChapterValue)
     : Type 0 where
   pub sums : totals_with totals (entries_of rest) 0 ≡ totals_with no_totals (entries_of all) 0
-  pub steps : totals.datagrams + totals.turns + length (entries_of rest) ≡ length (entries_of all)
-  pub units : totals.lent ≤ 2 ^ 64 * (totals.datagrams + totals.turns)
+  pub steps : totals.datagrams + totals.turns + totals.changes + length (entries_of rest)
+      ≡ length (entries_of all)
+  pub units : totals.lent ≤ 2 ^ 64 * (totals.datagrams + totals.turns + totals.changes)
 
 pub none_so_far : (all : List ChapterValue) (totals : Totals) → totals ≡ no_totals
     → IsSoFar all totals all
@@ -101,15 +115,15 @@ module _ (all : List ChapterValue) (totals : Totals) (i : ℕ) where
     next : IsSoFar all totals (chapter ∷ drop (i + 1) all)
     next = subst (IsSoFar all totals) (cut_at all i chapter below is) so_far
 
-    pub steps_left : totals.datagrams + totals.turns + length chapter.entries
+    pub steps_left : totals.datagrams + totals.turns + totals.changes + length chapter.entries
         ≤ length (entries_of all)
     steps_left =
         omega (arith, next.steps, length-append chapter.entries (entries_of (drop (i + 1) all)))
 
     pub one_more : (after : Totals) → after ≡ totals_with totals chapter.entries 0
-        → after.datagrams + after.turns
-        ≡ totals.datagrams + totals.turns + length chapter.entries
-        → after.lent ≤ 2 ^ 64 * (after.datagrams + after.turns)
+        → after.datagrams + after.turns + after.changes
+        ≡ totals.datagrams + totals.turns + totals.changes + length chapter.entries
+        → after.lent ≤ 2 ^ 64 * (after.datagrams + after.turns + after.changes)
         → IsSoFar all after (drop (i + 1) all)
     one_more after sums steps units = record {
       sums = ap (λ (t : Totals). totals_with t (entries_of (drop (i + 1) all)) 0) sums

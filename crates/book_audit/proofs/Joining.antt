@@ -13,7 +13,8 @@ use Rattle.books.proofs.Spending.{book_is_fair}
 use Rattle.book_audit.specs.Joined.{AreTotals, ChaptersLead, IsJoined, beginning, chapters_totals}
 use Rattle.book_audit.specs.Joined.{entries_of, history_entries}
 use Rattle.book_audit.specs.inside.Runs.{AreRuns}
-use Rattle.book_audit.proofs.EntrySums.{datagrams_of-append, lent_of-append, turns_of-append}
+use Rattle.book_audit.proofs.EntrySums.{changes_of-append, datagrams_of-append, lent_of-append}
+use Rattle.book_audit.proofs.EntrySums.{turns_of-append}
 use Rattle.books.proofs.Entries.{run_on}
 use Rattle.book_audit.proofs.Leading.{is_short, one_totals, run_of, totals_are}
 
@@ -96,6 +97,7 @@ module _ {chapters : List ChapterValue} {finished : FinishedValue} {start base :
         turns = ap (λ (x : Totals). x.turns) sums ∙ omega arith;
         lent = ap (λ (x : Totals). x.lent) sums ∙ omega arith;
         returned = omega (arith, fair_chapters, came);
+        changes = ap (λ (x : Totals). x.changes) sums ∙ omega arith;
       }
 
       carries : record t { returned = back } ≡ chapters_totals chapters
@@ -166,5 +168,11 @@ module _ {chapters : List ChapterValue} {finished : FinishedValue} {start base :
             came_last,
             ap (λ (s : State). in_use s.tables.calls) l.is_start,
             ap (λ (s : State). in_use s.tables.calls) is_end,
+          );
+          changes = omega (
+            arith,
+            so_far.changes,
+            ap (λ (x : Totals). x.changes) more,
+            changes_of-append (entries_of chapters) finished.entries,
           );
         }

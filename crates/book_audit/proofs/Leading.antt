@@ -6,11 +6,12 @@ use Rattle.std.specs.Prelude.{nat_lt, if◌then◌else◌}
 use Rattle.std.proofs.Math.ListN.{drop_of_length-le}
 use Rattle.std.proofs.lemmas.Bool.Decides.{nat_tests}
 use Rattle.admission.specs.Calls.{in_use}
-use Rattle.zone_events.specs.declared.event.Event.{Event}
+use Rattle.zone_events.specs.declared.change.Change.{Change}
+use Rattle.zone_events.specs.declared.change.Change.TheVariants.{Event, PoolChange}
 use Rattle.zone_events.specs.declared.outcome.Outcome.{Outcome}
 use Rattle.ras_machine.specs.State.{State}
 use Rattle.ras_machine.specs.Machine.{Ending, most_steps}
-use Rattle.ras_machine.specs.Steps.{Step}
+use Rattle.ras_core.specs.Runs.{ChangeStep}
 use Rattle.books.specs.declared.book.Entry.{Entry}
 use Rattle.books.specs.declared.totals.Totals.{Totals}
 use Rattle.books.specs.Books.{BookRun}
@@ -20,7 +21,8 @@ use Rattle.books.proofs.Spending.{book_is_fair, step_is_fair}
 use Rattle.book_audit.specs.Joined.{AreTotals, ChaptersLead, chapters_totals}
 use Rattle.book_audit.specs.Joined.{entries_of}
 use Rattle.book_audit.specs.inside.Runs.{AreRuns}
-use Rattle.book_audit.proofs.EntrySums.{cut_at, datagrams_of-append, lent_of-append}
+use Rattle.book_audit.proofs.EntrySums.{changes_of-append, cut_at, datagrams_of-append}
+use Rattle.book_audit.proofs.EntrySums.{lent_of-append}
 use Rattle.book_audit.proofs.EntrySums.{turns_of-append}
 
 -- The chapters so far lead to this place and this state. From there the rest leads to a place and a
@@ -93,9 +95,10 @@ open_before : (b : Bool) (e : Ending) (outcome : Outcome) (after : State)
 open_before true e outcome after is = refl
 open_before false e outcome after is = absurd (cc is)
 
-before_step : (s : State) (event : Event) (outcome : Outcome) (after : State)
-    → Step s event outcome after → s.steps < 2 ^ 62
-before_step s event outcome after step =
+before_step : (s : State) (event : Change) (outcome : Outcome) (after : State)
+    → ChangeStep s event outcome after → s.steps < 2 ^ 62
+before_step s (PoolChange replacement) outcome after step = step.few
+before_step s (Event event) outcome after step =
     let is = open_before (nat_lt s.steps most_steps) _ outcome after step.makes in
     grind (arith, nat_tests)
 
@@ -124,6 +127,7 @@ totals_are [] p q s t runs lead = record {
   turns = refl;
   lent = refl;
   returned = omega (arith, ap (λ (x : State). in_use x.tables.calls) lead.1);
+  changes = refl;
 }
 totals_are (c ∷ chapters) p q s t runs lead =
     let rest = totals_are chapters (p + length c.entries) q c.end t runs.1 lead.2 in
@@ -135,6 +139,7 @@ totals_are (c ∷ chapters) p q s t runs lead =
       turns = omega (arith, rest.turns, turns_of-append c.entries (entries_of chapters));
       lent = omega (arith, rest.lent, lent);
       returned = omega (arith, rest.returned, rest.lent, lent, fair.units, base);
+      changes = omega (arith, rest.changes, changes_of-append c.entries (entries_of chapters));
     }
 
 -- entries between two states have one totals
@@ -145,9 +150,11 @@ one_totals s t entries a b first second =
     let turns : a.turns ≡ b.turns = first.turns ∙ sym second.turns in
     let lent : a.lent ≡ b.lent = first.lent ∙ sym second.lent in
     let back : a.returned ≡ b.returned = omega (arith, lent, first.returned, second.returned) in
+    let changes : a.changes ≡ b.changes = first.changes ∙ sym second.changes in
     λ i. record {
       datagrams = datagrams i;
       turns = turns i;
       lent = lent i;
       returned = back i;
+      changes = changes i;
     }

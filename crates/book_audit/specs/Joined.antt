@@ -5,7 +5,8 @@ use Rattle.ras_machine.specs.State.{State}
 use Rattle.books.specs.declared.book.Entry.{Entry}
 use Rattle.books.specs.declared.totals.Totals.{Totals}
 use Rattle.books.specs.Chapters.{ChapterValue, FinishedValue}
-use Rattle.books.specs.Totals.{datagrams_of, lent_of, no_totals, returned_by, totals_with, turns_of}
+use Rattle.books.specs.Totals.{changes_of, datagrams_of, lent_of, no_totals, returned_by}
+use Rattle.books.specs.Totals.{totals_with, turns_of}
 
 -- the entries of the chapters, one chapter after the other
 abbrev pub entries_of : List ChapterValue → List Entry
@@ -36,6 +37,7 @@ totals_together a b = record {
   turns = a.turns + b.turns;
   lent = a.lent + b.lent;
   returned = a.returned + b.returned;
+  changes = a.changes + b.changes;
 }
 
 -- the totals of a chapter
@@ -54,8 +56,8 @@ pub record IsJoined (chapters : List ChapterValue) (finished : FinishedValue) : 
   pub lead : ChaptersLead 0 (beginning chapters finished) chapters finished.first finished.base
   pub carried : finished.carried ≡ chapters_totals chapters
 
--- The totals of entries that lead from one state to another: how many are of datagrams and of
--- turns, and what was lent in them. What was in use before, plus what was lent, is what is in
+-- The totals of entries that lead from one state to another: how many are of datagrams, of turns
+-- and of pools that took the place of others, and what was lent in them. What was in use before, plus what was lent, is what is in
 -- use after, plus what came back.
 pub record AreTotals (base : State) (entries : List Entry) (now : State) (totals : Totals)
     : Type 0 where
@@ -64,3 +66,4 @@ pub record AreTotals (base : State) (entries : List Entry) (now : State) (totals
   pub lent : totals.lent ≡ lent_of entries
   pub returned : in_use base.tables.calls + totals.lent
       ≡ in_use now.tables.calls + totals.returned
+  pub changes : totals.changes ≡ changes_of entries

@@ -10,7 +10,7 @@ ghost use Rattle.book_audit.specs.Receipts.{receipt_entry};
 
 use crate::fault::AuditFault;
 use books::{Chapter, Entry, Receipt};
-use zone_events::{Event, Outcome};
+use zone_events::{Change, Event, Outcome, PoolChange};
 
 /// Whether the receipts of a history with these chapters, and these entries behind them, are good.
 /// The first one that isn't is the fault.
@@ -103,8 +103,36 @@ fn is_receipt_of(receipt: &Receipt, entry: &Entry) -> bool
 {
     entry.seat == receipt.seat
         && entry.call == receipt.call
-        && is_same_event(&entry.event, &receipt.event)
+        && is_same_change(&entry.event, &receipt.event)
         && is_same_outcome(&entry.outcome, &receipt.outcome)
+}
+
+/// Whether two steps are of the same: of the same event, or of the same fresh pool for the same one.
+fn is_same_change(a: &Change, b: &Change) -> bool
+    ensures { IsTrue result ↔ (a.now ≡ b.now) }
+{
+    match a {
+        Change::Event(event) => match b {
+            Change::Event(other) => is_same_event(event, other),
+            Change::PoolChange(_) => false,
+        },
+        Change::PoolChange(change) => match b {
+            Change::Event(_) => false,
+            Change::PoolChange(other) => is_same_pool_change(change, other),
+        },
+    }
+}
+
+/// Whether two pools took the place of the same one, with the same figures, at the same moment.
+fn is_same_pool_change(a: &PoolChange, b: &PoolChange) -> bool
+    ensures { IsTrue result ↔ (a.now ≡ b.now) }
+{
+    a.pool == b.pool
+        && a.offered.limit == b.offered.limit
+        && a.offered.lent == b.offered.lent
+        && a.offered.refusals == b.offered.refusals
+        && a.offered.waits == b.offered.waits
+        && a.moment == b.moment
 }
 
 /// Whether two events are the same: the same datagram from the same address at the same moment, or

@@ -8,12 +8,13 @@ use books::{Chapter, Entry, Totals, totals_of};
 
 /// Totals with those of these entries. What came back stays as it is.
 pub(crate) fn totals_after(totals: Totals, entries: &[Entry]) -> Totals
-    requires steps { totals.datagrams + totals.turns + length entries.now ≤ 2 ^ 62 }
-    requires units { totals.lent ≤ 2 ^ 64 * (totals.datagrams + totals.turns) }
+    requires steps { totals.datagrams + totals.turns + totals.changes + length entries.now
+        ≤ 2 ^ 62 }
+    requires units { totals.lent ≤ 2 ^ 64 * (totals.datagrams + totals.turns + totals.changes) }
     ensures totals { result ≡ totals_with totals entries.now 0 }
-    ensures steps { result.datagrams + result.turns
-        ≡ totals.datagrams + totals.turns + length entries.now }
-    ensures units { result.lent ≤ 2 ^ 64 * (result.datagrams + result.turns) }
+    ensures steps { result.datagrams + result.turns + result.changes
+        ≡ totals.datagrams + totals.turns + totals.changes + length entries.now }
+    ensures units { result.lent ≤ 2 ^ 64 * (result.datagrams + result.turns + result.changes) }
 {
     let more = totals_of(entries);
     Totals {
@@ -21,6 +22,7 @@ pub(crate) fn totals_after(totals: Totals, entries: &[Entry]) -> Totals
         turns: totals.turns + more.turns,
         lent: totals.lent + more.lent,
         returned: totals.returned,
+        changes: totals.changes + more.changes,
     }
 }
 
@@ -28,8 +30,9 @@ pub(crate) fn totals_after(totals: Totals, entries: &[Entry]) -> Totals
 pub(crate) fn totals_in(chapters: &[Chapter]) -> Totals
     requires { length (entries_of chapters.now) ≤ 2 ^ 62 }
     ensures totals { result ≡ totals_with no_totals (entries_of chapters.now) 0 }
-    ensures steps { result.datagrams + result.turns ≡ length (entries_of chapters.now) }
-    ensures units { result.lent ≤ 2 ^ 64 * (result.datagrams + result.turns) }
+    ensures steps { result.datagrams + result.turns + result.changes
+        ≡ length (entries_of chapters.now) }
+    ensures units { result.lent ≤ 2 ^ 64 * (result.datagrams + result.turns + result.changes) }
 {
     let mut totals = Totals::none();
     for chapter in chapters {
@@ -42,5 +45,9 @@ pub(crate) fn totals_in(chapters: &[Chapter]) -> Totals
 pub(crate) fn are_same(a: &Totals, b: &Totals) -> bool
     ensures { IsTrue result ↔ (a.now ≡ b.now) }
 {
-    a.datagrams == b.datagrams && a.turns == b.turns && a.lent == b.lent && a.returned == b.returned
+    a.datagrams == b.datagrams
+        && a.turns == b.turns
+        && a.lent == b.lent
+        && a.returned == b.returned
+        && a.changes == b.changes
 }

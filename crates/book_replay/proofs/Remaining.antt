@@ -5,21 +5,32 @@ use Rattle.std.specs.Prelude.{IsTrue, ◌↔◌}
 use Rattle.std.proofs.Math.ListN.{drop_of_length-le}
 use Rattle.std.proofs.Math.Seq.{drop-cons}
 use Rattle.keyed.proofs.Decide.{same_some}
+use Rattle.zone_events.specs.declared.change.Change.{Change}
+use Rattle.zone_events.specs.declared.change.Change.TheVariants as change
 use Rattle.zone_events.specs.declared.event.Event.{Event}
 use Rattle.zone_events.specs.declared.outcome.Outcome.{Outcome}
 use Rattle.ras_machine.specs.State.{State}
 use Rattle.ras_machine.specs.Soundness.{Sound}
 use Rattle.ras_machine.specs.Steps.{Step}
+use Rattle.ras_core.specs.Runs.{ChangeStep}
 use Rattle.books.specs.declared.book.Entry.{Entry}
 use Rattle.books.specs.Books.{BookRun}
 use Rattle.step_check.specs.Redoing.{Redoes}
 
 -- an event and an outcome leave one state
-one_after : (s : State) (event : Event) (outcome : Outcome) (a b : State)
+one_after_event : (s : State) (event : Event) (outcome : Outcome) (a b : State)
     → Step s event outcome a → Step s event outcome b → a ≡ b
-one_after s event outcome a b first second =
+one_after_event s event outcome a b first second =
     ap (λ (e : Outcome × State). e.1)
     (same_some (outcome, a) (outcome, b) (sym first.makes ∙ second.makes))
+
+-- and so do a replacement and an outcome
+one_after : (s : State) (what : Change) (outcome : Outcome) (a b : State)
+    → ChangeStep s what outcome a → ChangeStep s what outcome b → a ≡ b
+one_after s (change.Event event) outcome a b first second =
+    one_after_event s event outcome a b first second
+one_after s (change.PoolChange replacement) outcome a b first second =
+    first.makes ∙ sym second.makes
 
 -- From the state at which the machine stands, the rest of the entries leads to a state if and only
 -- if all entries lead to that state from the base.
@@ -38,7 +49,7 @@ at_first base now all is sound = record {
 
 -- the first of what is left is done
 one_less : (base now new : State) (all rest : List Entry) (e : Entry)
-    → IsLeft base all now (e ∷ rest) → Step now e.event e.outcome new → Sound new
+    → IsLeft base all now (e ∷ rest) → ChangeStep now e.event e.outcome new → Sound new
     → IsLeft base all new rest
 one_less base now new all rest e left step sound = record {
   whole = λ end run. left.whole end (new, step, run);

@@ -5,15 +5,15 @@ use Rattle.std.specs.Prelude.{slice_get}
 use Rattle.std.proofs.lemmas.List.{append-nil}
 use Rattle.std.proofs.lemmas.Bool.Decides.{Decides-eqb}
 use Rattle.ras_machine.specs.State.{State}
-use Rattle.ras_machine.specs.Steps.{Step}
+use Rattle.ras_core.specs.Runs.{ChangeStep}
 use Rattle.books.specs.declared.book.Entry.{Entry}
 use Rattle.books.specs.Books.{AreCounted, BookRun, entries_of_seat}
 
 pub run_more : (base now after : State) (entries : List Entry) (entry : Entry)
-    → BookRun base entries now → Step now entry.event entry.outcome after
+    → BookRun base entries now → ChangeStep now entry.event entry.outcome after
     → BookRun base (entries ++ entry ∷ []) after
 run_more base now after [] entry run step =
-    (after, subst (λ (s : State). Step s entry.event entry.outcome after) run step, refl)
+    (after, subst (λ (s : State). ChangeStep s entry.event entry.outcome after) run step, refl)
 run_more base now after (e ∷ entries) entry run step =
     (run.0, run.1, run_more run.0 now after entries entry run.2 step)
 

@@ -6,12 +6,17 @@ use Rattle.std.specs.Prelude.{nat_lt, if◌then◌else◌}
 use Rattle.std.proofs.lemmas.List.Sums.{sum_by-cons}
 use Rattle.keyed.proofs.Decide.{same_some}
 use Rattle.admission.specs.Calls.{in_use}
+use Rattle.zone_events.specs.declared.change.Change.{Change}
+use Rattle.zone_events.specs.declared.change.Change.TheVariants as change
+use Rattle.zone_events.specs.declared.change.PoolChange.{PoolChange}
 use Rattle.zone_events.specs.declared.event.Event.{Event}
 use Rattle.zone_events.specs.declared.outcome.Outcome.{Outcome}
+use Rattle.ras_machine.specs.Replacing.{Replaces}
 use Rattle.ras_machine.specs.State.{State}
 use Rattle.ras_machine.specs.Machine.{Ending, at_moment, course, most_steps}
 use Rattle.ras_machine.specs.Machine.{course_ending, moment_of}
 use Rattle.ras_machine.specs.Steps.{Step, choices_of}
+use Rattle.ras_core.specs.Runs.{ChangeStep}
 use Rattle.books.specs.declared.book.Entry as book
 use Rattle.books.specs.Books.{BookRun}
 use Rattle.books.specs.Totals.{lent_of, units_lent}
@@ -48,9 +53,9 @@ module _ (s : State) (now steps : ℕ) (outcome : Outcome) (after : State) where
   unclosed true e is = is
   unclosed false e is = absurd (cc is)
 
-pub step_is_fair : (s : State) (what : Event) (outcome : Outcome) (after : State)
+event_is_fair : (s : State) (what : Event) (outcome : Outcome) (after : State)
     → Step s what outcome after → IsFair s outcome after
-step_is_fair s what outcome after step =
+event_is_fair s what outcome after step =
     let now = moment_of s what in
     let choices = choices_of outcome in
     let ending = course_ending s now (course s what choices) choices in
@@ -60,6 +65,25 @@ step_is_fair s what outcome after step =
     (λ mid is. ended_by s now (course s what choices) outcome mid (along s now what choices) is)
     made in
     record { settings = both.0.settings; units = both.0.units_are; steps = both.1 }
+
+-- a pool that takes the place of another one lends nothing by that, and nothing comes back
+replacement_is_fair : (s : State) (what : PoolChange) (outcome : Outcome) (after : State)
+    → Replaces s what outcome after → IsFair s outcome after
+replacement_is_fair s what outcome after step = record {
+  settings = ap (λ (x : State). x.tables.config) step.makes;
+  units = omega (
+    arith,
+    ap (λ (x : State). in_use x.tables.calls) step.makes,
+    ap (λ (o : Outcome). units_lent o.answer) step.told,
+  );
+  steps = ap (λ (x : State). x.steps) step.makes;
+}
+
+pub step_is_fair : (s : State) (what : Change) (outcome : Outcome) (after : State)
+    → ChangeStep s what outcome after → IsFair s outcome after
+step_is_fair s (change.Event event) outcome after step = event_is_fair s event outcome after step
+step_is_fair s (change.PoolChange replacement) outcome after step =
+    replacement_is_fair s replacement outcome after step
 
 -- So it is of all steps of a book together.
 pub record AreFair (base : State) (entries : List book.Entry) (now : State) : Type 0 where

@@ -1,13 +1,13 @@
 -- What the entries of a book are.
 use Rattle.std.specs.Prelude.{ℕ, ◌≡◌, ◌==◌, List, map, filter, slice_get, Some}
-use Rattle.zone_events.specs.declared.event.Event.{Event}
+use Rattle.zone_events.specs.declared.change.Change.{Change}
 use Rattle.zone_events.specs.declared.outcome.Outcome.{Outcome}
 use Rattle.ras_machine.specs.State.{State}
 use Rattle.ras_core.specs.Runs.{Run}
 use Rattle.books.specs.declared.book.Entry.{Entry}
 
--- the event of an entry, with its outcome
-abbrev pub step_in : Entry → Event × Outcome
+-- what a step was made of, with its outcome
+abbrev pub step_in : Entry → Change × Outcome
 step_in entry = (entry.event, entry.outcome)
 
 -- The steps of the entries, one after the other, lead the machine from one state to the other.

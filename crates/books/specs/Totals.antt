@@ -3,21 +3,29 @@ use Rattle.std.specs.Prelude.{◌+◌, ◌-◌, ℕ, List, Option, None, Some, s
 use Rattle.admission.specs.Calls.{in_use}
 use Rattle.pools.specs.declared.interface.Lend.{Lend}
 use Rattle.pools.specs.declared.interface.Lend.TheVariants.{Lent, Refused, Wait}
-use Rattle.zone_events.specs.declared.event.Event.{Event}
+use Rattle.zone_events.specs.declared.change.Change.{Change}
+use Rattle.zone_events.specs.declared.change.Change.TheVariants.{Event, PoolChange}
 use Rattle.zone_events.specs.declared.event.Event.TheVariants.{Datagram, Turn}
 use Rattle.ras_machine.specs.State.{State}
 use Rattle.books.specs.declared.book.Entry.{Entry}
 use Rattle.books.specs.declared.totals.Totals.{Totals}
 
--- 1 for a datagram, and 0 for a turn
-abbrev pub datagrams_in : Event → ℕ
-datagrams_in (Datagram source bytes moment) = 1
-datagrams_in (Turn moment) = 0
+-- 1 for a datagram, and 0 for all else
+abbrev pub datagrams_in : Change → ℕ
+datagrams_in (Event (Datagram source bytes moment)) = 1
+datagrams_in (Event (Turn moment)) = 0
+datagrams_in (PoolChange replacement) = 0
 
--- 0 for a datagram, and 1 for a turn
-abbrev pub turns_in : Event → ℕ
-turns_in (Datagram source bytes moment) = 0
-turns_in (Turn moment) = 1
+-- 1 for a turn, and 0 for all else
+abbrev pub turns_in : Change → ℕ
+turns_in (Event (Datagram source bytes moment)) = 0
+turns_in (Event (Turn moment)) = 1
+turns_in (PoolChange replacement) = 0
+
+-- 1 for a pool that took the place of another one, and 0 for all else
+abbrev pub changes_in : Change → ℕ
+changes_in (Event event) = 0
+changes_in (PoolChange replacement) = 1
 
 -- the units that a pool lent by its answer
 abbrev pub units_lent : Option Lend → ℕ
@@ -26,20 +34,23 @@ units_lent (Some Refused) = 0
 units_lent (Some Wait) = 0
 units_lent None = 0
 
--- how many of the entries are of a datagram, how many of a turn, and the units that their pools
--- lent
+-- how many of the entries are of a datagram, how many of a turn, how many of a pool that took the
+-- place of another one, and the units that their pools lent
 abbrev pub datagrams_of : List Entry → ℕ
 datagrams_of entries = sum_by (λ e. datagrams_in e.event) entries
 
 abbrev pub turns_of : List Entry → ℕ
 turns_of entries = sum_by (λ e. turns_in e.event) entries
 
+abbrev pub changes_of : List Entry → ℕ
+changes_of entries = sum_by (λ e. changes_in e.event) entries
+
 abbrev pub lent_of : List Entry → ℕ
 lent_of entries = sum_by (λ e. units_lent e.outcome.answer) entries
 
 -- the totals of no entries
 abbrev pub no_totals : Totals
-no_totals = record { datagrams = 0; turns = 0; lent = 0; returned = 0 }
+no_totals = record { datagrams = 0; turns = 0; lent = 0; returned = 0; changes = 0 }
 
 -- what these entries, by which `back` units came back, add to totals
 abbrev pub totals_with : Totals → List Entry → ℕ → Totals
@@ -48,6 +59,7 @@ totals_with before entries back = record {
   turns = before.turns + turns_of entries;
   lent = before.lent + lent_of entries;
   returned = before.returned + back;
+  changes = before.changes + changes_of entries;
 }
 
 -- the units that came back in these steps: what was in use, plus what was lent, less what is in use

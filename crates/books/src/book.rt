@@ -4,15 +4,15 @@ ghost use Rattle.std.specs.Prelude.{◌≡◌, ◌<◌, ◌++◌, ◌∷◌, [],
 
 use ras_core::Snapshot;
 use std::alloc::{AllocError, Global};
-use zone_events::{Event, Outcome};
+use zone_events::{Change, Outcome};
 
 /// One step: which seat made it, the number of that seat's call, counted from 0, and the event with
-/// its outcome.
+/// its outcome. Like an event stands here a pool that took the place of another one.
 #[derive(Drop)]
 pub struct Entry {
     pub seat: usize,
     pub call: usize,
-    pub event: Event,
+    pub event: Change,
     pub outcome: Outcome,
 }
 
@@ -23,7 +23,7 @@ pub struct Receipt {
     pub seat: usize,
     pub call: usize,
     pub place: usize,
-    pub event: Event,
+    pub event: Change,
     pub outcome: Outcome,
 }
 

@@ -3,10 +3,10 @@
 
 ghost use Rattle.std.specs.Prelude.{◌≡◌, ◌≤◌, ◌+◌, ◌++◌, ◌∷◌, [], List, length};
 ghost use Rattle.admission.specs.Calls.{in_use};
-ghost use Rattle.zone_events.specs.declared.event.Event.{Event};
+ghost use Rattle.zone_events.specs.declared.change.Change.{Change};
 ghost use Rattle.zone_events.specs.declared.outcome.Outcome.{Outcome};
 ghost use Rattle.ras_machine.specs.State.{State};
-ghost use Rattle.ras_machine.specs.Steps.{Step};
+ghost use Rattle.ras_core.specs.Runs.{ChangeStep};
 ghost use Rattle.books.specs.declared.book.Entry.{Entry};
 ghost use Rattle.books.specs.Books.{AreCounted, BookRun, entries_of_seat};
 ghost use Rattle.books.specs.Totals.{lent_of, units_lent};
@@ -21,7 +21,7 @@ pub fn a_book_begins_without_entries()
 /// step. If its call is the number of entries of its seat so far, the calls stay counted.
 pub fn a_book_goes_on_by_a_step()
     ensures run { (base now after : State) (entries : List Entry) (entry : Entry)
-        → BookRun base entries now → Step now entry.event entry.outcome after
+        → BookRun base entries now → ChangeStep now entry.event entry.outcome after
         → BookRun base (entries ++ entry ∷ []) after }
     ensures counted { (entries : List Entry) (entry : Entry) → AreCounted entries
         → entry.call ≡ length (entries_of_seat entry.seat entries)
@@ -31,13 +31,13 @@ pub fn a_book_goes_on_by_a_step()
 /// After a step, no more bandwidth is in use than was in use before it, plus the units that were
 /// lent in it. The settings stay, and the machine made one step more.
 pub fn a_step_uses_no_more_than_is_lent()
-    ensures units { (s : State) (event : Event) (outcome : Outcome) (after : State)
-        → Step s event outcome after → in_use after.tables.calls
+    ensures units { (s : State) (what : Change) (outcome : Outcome) (after : State)
+        → ChangeStep s what outcome after → in_use after.tables.calls
         ≤ in_use s.tables.calls + units_lent outcome.answer }
-    ensures settings { (s : State) (event : Event) (outcome : Outcome) (after : State)
-        → Step s event outcome after → after.tables.config ≡ s.tables.config }
-    ensures steps { (s : State) (event : Event) (outcome : Outcome) (after : State)
-        → Step s event outcome after → after.steps ≡ s.steps + 1 }
+    ensures settings { (s : State) (what : Change) (outcome : Outcome) (after : State)
+        → ChangeStep s what outcome after → after.tables.config ≡ s.tables.config }
+    ensures steps { (s : State) (what : Change) (outcome : Outcome) (after : State)
+        → ChangeStep s what outcome after → after.steps ≡ s.steps + 1 }
 {}
 
 /// The same holds of all steps of a book together.

@@ -17,4 +17,4 @@ pub use laws::{
     a_step_uses_no_more_than_is_lent,
 };
 pub use shared::SharedSnapshot;
-pub use totals::{Totals, datagrams_in, totals_of, turns_in, units_lent};
+pub use totals::{Totals, changes_in, datagrams_in, totals_of, turns_in, units_lent};

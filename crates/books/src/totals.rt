@@ -1,20 +1,22 @@
 //! What the steps of a history add up to.
 
 ghost use Rattle.std.specs.Prelude.{◌≡◌, ◌≤◌, ◌<◌, ◌+◌, ◌*◌, ◌^◌, length};
-ghost use Rattle.books.specs.Totals.{datagrams_in, no_totals, totals_with, turns_in, units_lent};
+ghost use Rattle.books.specs.Totals.{changes_in, datagrams_in, no_totals, totals_with, turns_in};
+ghost use Rattle.books.specs.Totals.{units_lent};
 
 use crate::book::Entry;
 use pools::Lend;
-use zone_events::{Event, Outcome};
+use zone_events::{Change, Event, Outcome};
 
-/// How many datagrams and how many turns there were, how many units were lent, and how many came
-/// back.
+/// How many datagrams and how many turns there were, how many units were lent, how many came back,
+/// and how many pools took the place of another one.
 #[derive(Clone, Copy, Debug, PartialEq, Eq)]
 pub struct Totals {
     pub datagrams: u64,
     pub turns: u64,
     pub lent: u128,
     pub returned: u128,
+    pub changes: u64,
 }
 
 impl Totals {
@@ -27,24 +29,27 @@ impl Totals {
             turns: 0,
             lent: 0,
             returned: 0,
+            changes: 0,
         }
     }
 
     /// The totals with one step more, in which nothing came back.
-    pub fn with_step(self, event: &Event, outcome: &Outcome) -> Self
-        requires steps { self.datagrams + self.turns + 1 < 2 ^ 64 }
+    pub fn with_step(self, event: &Change, outcome: &Outcome) -> Self
+        requires steps { self.datagrams + self.turns + self.changes + 1 < 2 ^ 64 }
         requires units { self.lent + 2 ^ 64 < 2 ^ 128 }
         ensures datagrams { result.datagrams ≡ self.datagrams + datagrams_in event.now }
         ensures turns { result.turns ≡ self.turns + turns_in event.now }
         ensures lent { result.lent ≡ self.lent + units_lent outcome.now.answer }
         ensures few { units_lent outcome.now.answer < 2 ^ 64 }
         ensures returned { result.returned ≡ self.returned }
+        ensures changes { result.changes ≡ self.changes + changes_in event.now }
     {
         Totals {
             datagrams: self.datagrams + datagrams_in(event),
             turns: self.turns + turns_in(event),
             lent: self.lent + units_lent(outcome) as u128,
             returned: self.returned,
+            changes: self.changes + changes_in(event),
         }
     }
 }
@@ -61,23 +66,35 @@ pub fn totals_of(entries: &[Entry]) -> Totals
     totals
 }
 
-/// 1 for a datagram, and 0 for a turn.
-pub fn datagrams_in(event: &Event) -> u64
+/// 1 for a datagram, and 0 for all else.
+pub fn datagrams_in(event: &Change) -> u64
     ensures { result ≡ datagrams_in event.now }
 {
     match event {
-        Event::Datagram(_, _, _) => 1,
-        Event::Turn(_) => 0,
+        Change::Event(Event::Datagram(_, _, _)) => 1,
+        Change::Event(Event::Turn(_)) => 0,
+        Change::PoolChange(_) => 0,
     }
 }
 
-/// 0 for a datagram, and 1 for a turn.
-pub fn turns_in(event: &Event) -> u64
+/// 1 for a turn, and 0 for all else.
+pub fn turns_in(event: &Change) -> u64
     ensures { result ≡ turns_in event.now }
 {
     match event {
-        Event::Datagram(_, _, _) => 0,
-        Event::Turn(_) => 1,
+        Change::Event(Event::Datagram(_, _, _)) => 0,
+        Change::Event(Event::Turn(_)) => 1,
+        Change::PoolChange(_) => 0,
+    }
+}
+
+/// 1 for a pool that took the place of another one, and 0 for all else.
+pub fn changes_in(event: &Change) -> u64
+    ensures { result ≡ changes_in event.now }
+{
+    match event {
+        Change::Event(_) => 0,
+        Change::PoolChange(_) => 1,
     }
 }
 

@@ -9,8 +9,11 @@ use Rattle.zone_events.specs.declared.outcome.Outcome.{Outcome}
 use Rattle.ras_machine.specs.State.{State}
 use Rattle.ras_machine.specs.Soundness.{Sound}
 use Rattle.ras_core.specs.Running.{Running}
-use Rattle.ras_core.specs.Runs.{RunningStep}
+use Rattle.zone_events.specs.declared.change.Change.{Change}
+use Rattle.zone_events.specs.declared.change.Change.TheVariants as change
+use Rattle.ras_core.specs.Runs.{RunningChange, RunningStep}
 use Rattle.books.specs.declared.book.Entry.{Entry}
+use Rattle.books.specs.Books.{entries_of_seat}
 use Rattle.history.specs.declared.worker.Hand.{Hand}
 use Rattle.history.specs.declared.worker.Hand.TheVariants.{Idle, Holding, Done}
 use Rattle.history.specs.declared.worker.Mark.{Mark}
@@ -25,7 +28,7 @@ use Rattle.history.specs.Worlds.{Scene, IsInOrder, with_worker, entry_by, refuse
 use Rattle.history.specs.Worlds.{refused_apply, refused_post, refused_take, Receives, Applies}
 use Rattle.history.specs.Worlds.{Posts, Takes, Happens}
 use Rattle.history.proofs.Scenes.{order_with, served_receive, served_take, served_post}
-use Rattle.history.proofs.Scenes.{order_apply, few_taken}
+use Rattle.history.proofs.Scenes.{order_apply, order_beside, few_taken}
 
 -- a step that isn't refused is of a worker
 some_worker : (ws : List WorkerState) (w : ℕ) (got : WorkerState) (f : Option WorkerState
@@ -153,7 +156,7 @@ pub do_apply : (x : Scene) (w : ℕ) (got new : WorkerState) (event : Event) (ca
     → (let y : Scene = record {
       base = x.base;
       zone = after;
-      entries = x.entries ++ entry_by w call event outcome ∷ [];
+      entries = x.entries ++ entry_by w call (change.Event event) outcome ∷ [];
       workers = slice_set x.workers w new;
       capacity = x.capacity;
     } in Applies x w outcome y
@@ -161,7 +164,7 @@ pub do_apply : (x : Scene) (w : ℕ) (got new : WorkerState) (event : Event) (ca
 do_apply x w got new event call outcome after order free is held called step now =
     let there = some_worker x.workers w got (refused_apply x.zone.state) refl free is in
     let hand = event_hand got.hand event (sym held) in
-    let e : Entry = entry_by w call event outcome in (
+    let e : Entry = entry_by w call (change.Event event) outcome in (
       record {
         worker = got;
         event = event;
@@ -171,7 +174,7 @@ do_apply x w got new event call outcome after order free is held called step now
         after = λ i. record {
           base = x.base;
           zone = after;
-          entries = x.entries ++ entry_by w (called i) event outcome ∷ [];
+          entries = x.entries ++ entry_by w (called i) (change.Event event) outcome ∷ [];
           workers = slice_set x.workers w (now i);
           capacity = x.capacity;
         };
@@ -194,7 +197,7 @@ pub do_apply_to : (x : Scene) (w : ℕ) (got new : WorkerState) (copied event : 
     → got ≡ get_or x.workers w got → Some copied ≡ event_of got.hand → event_of got.hand
     ≡ Some event → call ≡ length got.settled → RunningStep x.zone copied outcome after
     → place ≡ length before → new ≡ record got { hand = Done place } → before ≡ x.entries → base
-    ≡ x.base → entries ≡ before ++ entry_by w call event outcome ∷ [] → told ≡ outcome
+    ≡ x.base → entries ≡ before ++ entry_by w call (change.Event event) outcome ∷ [] → told ≡ outcome
     → (let y : Scene = record {
       base = base;
       zone = after;
@@ -210,8 +213,8 @@ do_apply_to x w got new copied event call place outcome told after base before e
     let here : place ≡ length x.entries = at ∙ ap length before_is in
     let now_is : new ≡ record got { hand = Done (length x.entries) } = now
     ∙ ap (λ (n : ℕ). record got { hand = Done n }) here in
-    let all : entries ≡ x.entries ++ entry_by w call event outcome ∷ [] = entries_is
-    ∙ ap (λ (es : List Entry). es ++ entry_by w call event outcome ∷ []) before_is in
+    let all : entries ≡ x.entries ++ entry_by w call (change.Event event) outcome ∷ [] = entries_is
+    ∙ ap (λ (es : List Entry). es ++ entry_by w call (change.Event event) outcome ∷ []) before_is in
     let done = do_apply x w got new event call outcome after order free is held called step_is
     now_is in
     let all_done = subst (λ (es : List Entry). (let y : Scene = record {
@@ -306,3 +309,38 @@ order_opening base zone entries workers n capacity same sound none all =
         order = refl;
       });
     }))
+
+-- a pool was replaced: the step is the last entry of a book that was given room
+pub do_replace : (x : Scene) (seat call : ℕ) (what : Change) (outcome : Outcome) (after : Running)
+    (base : State) (read before entries : List Entry) → IsInOrder x → seat ≡ length x.workers
+    → call ≡ length (entries_of_seat seat read) → read ≡ before → before ≡ x.entries
+    → base ≡ x.base → entries ≡ before ++ entry_by seat call what outcome ∷ []
+    → RunningChange x.zone what outcome after
+    → IsInOrder (record {
+      base = base;
+      zone = after;
+      entries = entries;
+      workers = x.workers;
+      capacity = x.capacity;
+    })
+do_replace x seat call what outcome after base read before entries order seat_is called read_is
+    before_is base_is entries_is step =
+    let e : Entry = entry_by seat call what outcome in
+    let all : entries ≡ x.entries ++ e ∷ [] = entries_is
+    ∙ ap (λ (es : List Entry). es ++ e ∷ []) before_is in
+    let call_is = called ∙ ap (λ (es : List Entry). length (entries_of_seat seat es))
+    (read_is ∙ before_is) in
+    subst (λ (b : State). IsInOrder (record {
+      base = b;
+      zone = after;
+      entries = entries;
+      workers = x.workers;
+      capacity = x.capacity;
+    })) (sym base_is)
+    (subst (λ (es : List Entry). IsInOrder (record {
+      base = x.base;
+      zone = after;
+      entries = es;
+      workers = x.workers;
+      capacity = x.capacity;
+    })) (sym all) (order_beside x e after order seat_is call_is step))

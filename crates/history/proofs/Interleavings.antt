@@ -5,10 +5,13 @@ use Rattle.std.proofs.Common.{Some, None}
 use Rattle.std.specs.Prelude.{Option, slice_get, nat_lt}
 use Rattle.std.proofs.lemmas.List.{append-nil}
 use Rattle.std.proofs.lemmas.Bool.{ltb-false}
+use Rattle.zone_events.specs.declared.change.Change.TheVariants as change
+use Rattle.zone_events.specs.declared.change.PoolChange.{PoolChange}
 use Rattle.zone_events.specs.declared.event.Event.{Event}
 use Rattle.zone_events.specs.declared.outcome.Datagram.{Datagram}
 use Rattle.zone_events.specs.declared.outcome.Outcome.{Outcome}
 use Rattle.books.specs.declared.book.Entry.{Entry}
+use Rattle.books.specs.Books.{entries_of_seat}
 use Rattle.history.specs.declared.worker.Hand.{Hand}
 use Rattle.history.specs.declared.worker.Hand.TheVariants.{Idle, Holding, Done}
 use Rattle.history.specs.declared.worker.Mark.{Mark}
@@ -20,10 +23,12 @@ use Rattle.history.specs.declared.world.WorldStep.TheVariants.{Receive, Apply, P
 use Rattle.history.specs.Workers.{WorkerState, IsInHand, kept_outputs, unless_dropped}
 use Rattle.history.specs.Workers.{listed, mark_of, posted}
 use Rattle.history.specs.Worlds.{Scene, IsInOrder, entry_by, Receives, Applies, Posts}
-use Rattle.history.specs.Worlds.{Takes, Happens}
-use Rattle.history.specs.Orders.{Interleaving, outputs_so_far, outputs_of_worker, output_held}
+use Rattle.history.specs.Worlds.{Takes, Happens, ReplacesPool}
+use Rattle.history.specs.Orders.{Deed, Acting, Replacing, IsDone, Interleaving, outputs_so_far}
+use Rattle.history.specs.Orders.{outputs_of_worker, output_held}
 use Rattle.history.specs.Orders.{output_in, AreServedInOrder}
 use Rattle.history.proofs.Scenes.{order_with, served_receive, served_take, served_post, order_apply}
+use Rattle.history.proofs.Scenes.{order_beside}
 
 received_in_order : (x y : Scene) (w : ℕ) (event : Event) → IsInOrder x → Receives x w event y
     → IsInOrder y × (y.base ≡ x.base)
@@ -38,7 +43,7 @@ received_in_order x y w event order h =
 applied_in_order : (x y : Scene) (w : ℕ) (outcome : Outcome) → IsInOrder x → Applies x w outcome y
     → IsInOrder y × (y.base ≡ x.base)
 applied_in_order x y w outcome order h =
-    let e : Entry = entry_by w (length h.worker.settled) h.event outcome in (
+    let e : Entry = entry_by w (length h.worker.settled) (change.Event h.event) outcome in (
       subst IsInOrder (sym h.after)
           (order_apply x w h.worker h.event e y.zone order h.there refl refl h.holding h.step),
       ap (λ (s : Scene). s.base) h.after,
@@ -94,12 +99,28 @@ happens_in_order x y (Take w) acted.Dropped order h = absurd h
 happens_in_order x y (Take w) acted.Nothing order h = absurd h
 happens_in_order x y (Take w) (acted.Took output) order h = taken_in_order x y w output order h
 
-pub interleaved_in_order : (x y : Scene) (steps : List (WorldStep × Acted)) → IsInOrder x
-    → Interleaving x steps y → IsInOrder y × (y.base ≡ x.base)
+replaced_in_order : (x y : Scene) (replacement : PoolChange) (outcome : Outcome) → IsInOrder x
+    → ReplacesPool x replacement outcome y → IsInOrder y × (y.base ≡ x.base)
+replaced_in_order x y replacement outcome order h =
+    let seat = length x.workers in
+    let e : Entry = entry_by seat (length (entries_of_seat seat x.entries))
+    (change.PoolChange replacement) outcome in (
+      subst IsInOrder (sym h.after) (order_beside x e y.zone order refl refl h.step),
+      ap (λ (s : Scene). s.base) h.after,
+    )
+
+done_in_order : (x y : Scene) (deed : Deed) → IsInOrder x → IsDone x deed y
+    → IsInOrder y × (y.base ≡ x.base)
+done_in_order x y (Acting step told) order h = happens_in_order x y step told order h
+done_in_order x y (Replacing replacement outcome) order h =
+    replaced_in_order x y replacement outcome order h
+
+pub interleaved_in_order : (x y : Scene) (deeds : List Deed) → IsInOrder x
+    → Interleaving x deeds y → IsInOrder y × (y.base ≡ x.base)
 interleaved_in_order x y [] order h = (subst IsInOrder (sym h) order, ap (λ (s : Scene). s.base) h)
-interleaved_in_order x y (s ∷ steps) order h =
-    let one = happens_in_order x h.0 s.0 s.1 order h.1 in
-    let all = interleaved_in_order h.0 y steps one.0 h.2 in
+interleaved_in_order x y (deed ∷ deeds) order h =
+    let one = done_in_order x h.0 deed order h.1 in
+    let all = interleaved_in_order h.0 y deeds one.0 h.2 in
     (all.0, all.1 ∙ one.1)
 
 -- what is not settled is behind what is

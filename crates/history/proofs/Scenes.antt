@@ -4,10 +4,15 @@ use Rattle.std.proofs.Common.{false, List, [], ◌∷◌, ◌++◌, length, refl
 use Rattle.std.proofs.Common.{arith, append_assoc, Some, None}
 use Rattle.std.specs.Prelude.{Option, slice_get, slice_set, nat_lt}
 use Rattle.std.proofs.lemmas.List.{length-append, append-nil}
+use Rattle.std.proofs.lemmas.Option.{slice_get_within}
 use Rattle.zone_events.specs.declared.event.Event.{Event}
 use Rattle.zone_events.specs.declared.outcome.Datagram.{Datagram}
 use Rattle.ras_core.specs.Running.{Running}
-use Rattle.ras_core.specs.Runs.{RunningStep}
+use Rattle.zone_events.specs.declared.change.Change.{Change}
+use Rattle.zone_events.specs.declared.change.Change.TheVariants as change
+use Rattle.zone_events.specs.declared.outcome.Outcome.{Outcome}
+use Rattle.ras_machine.specs.Soundness.{Sound}
+use Rattle.ras_core.specs.Runs.{ChangeStep, RunningChange}
 use Rattle.books.specs.declared.book.Entry.{Entry}
 use Rattle.books.specs.Books.{entries_of_seat}
 use Rattle.books.proofs.Entries.{run_more, counted_more, of_seat_more, of_own_seat, of_other_seat}
@@ -177,9 +182,20 @@ settled_all es w k event s holding =
     ∙ (ap (λ xs. s.past ++ xs) none ∙ append-nil s.past) in
     sym s.marked ∙ ap length (sym split)
 
+-- A step of a zone is one of its machine, and leads to a sound state.
+step_of : (old : Running) (what : Change) (outcome : Outcome) (new : Running)
+    → RunningChange old what outcome new → ChangeStep old.state what outcome new.state
+step_of old (change.Event event) outcome new step = step.step
+step_of old (change.PoolChange replacement) outcome new step = step.step
+
+sound_after : (old : Running) (what : Change) (outcome : Outcome) (new : Running)
+    → RunningChange old what outcome new → Sound new.state
+sound_after old (change.Event event) outcome new step = step.sound
+sound_after old (change.PoolChange replacement) outcome new step = step.sound
+
 pub order_apply : (x : Scene) (w : ℕ) (k : WorkerState) (event : Event) (e : Entry)
     (after : Running) → IsInOrder x → slice_get x.workers w ≡ Some k → e.seat ≡ w → e.call
-    ≡ length k.settled → k.hand ≡ Holding event → RunningStep x.zone e.event e.outcome after
+    ≡ length k.settled → k.hand ≡ Holding event → RunningChange x.zone e.event e.outcome after
     → IsInOrder (record {
       base = x.base;
       zone = after;
@@ -190,11 +206,12 @@ pub order_apply : (x : Scene) (w : ℕ) (k : WorkerState) (event : Event) (e : E
 order_apply x w k event e after order there own call holding step =
     let new : WorkerState = record k { hand = Done (length x.entries) } in
     record {
-      run = run_more x.base x.zone.state after.state x.entries e order.run step.step;
+      run = run_more x.base x.zone.state after.state x.entries e order.run
+          (step_of x.zone e.event e.outcome after step);
       counted = counted_more x.entries e order.counted (call
           ∙ (settled_all x.entries w k event (order.served w k there) holding
           ∙ ap (λ s. length (entries_of_seat s x.entries)) (sym own)));
-      sound = step.sound;
+      sound = sound_after x.zone e.event e.outcome after step;
       served = λ v j h. elim (set_get x.workers w new v j h) [
         | inl here ↦ subst (λ (u : ℕ). IsServed (x.entries ++ e ∷ []) u j) (sym here.0)
             (subst (IsServed (x.entries ++ e ∷ []) w) (sym here.1)
@@ -203,6 +220,27 @@ order_apply x w k event e after order there own call holding step =
             (order.served v j old.0)
       ];
     }
+
+-- an entry that no worker has made leaves the workers in order
+pub order_beside : (x : Scene) (e : Entry) (after : Running) → IsInOrder x
+    → e.seat ≡ length x.workers → e.call ≡ length (entries_of_seat e.seat x.entries)
+    → RunningChange x.zone e.event e.outcome after
+    → IsInOrder (record {
+      base = x.base;
+      zone = after;
+      entries = x.entries ++ e ∷ [];
+      workers = x.workers;
+      capacity = x.capacity;
+    })
+order_beside x e after order beside call step = record {
+  run = run_more x.base x.zone.state after.state x.entries e order.run
+      (step_of x.zone e.event e.outcome after step);
+  counted = counted_more x.entries e order.counted call;
+  sound = sound_after x.zone e.event e.outcome after step;
+  served = λ v j h. (let within = slice_get_within x.workers v j h in
+      served_other x.entries v j e (λ same. omega (arith, within, beside, same))
+      (order.served v j h));
+}
 
 -- no more were taken than there are entries
 kept_few : (es : List Entry) (ms : List Mark) → length (kept_outputs es ms) ≤ length es

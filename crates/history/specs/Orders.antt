@@ -1,6 +1,8 @@
 -- What any order of steps of a world comes to.
 use Rattle.std.specs.Prelude.{◌≡◌, ℕ, List, [], ◌∷◌, ◌++◌, length, Option, None, Some, slice_get}
+use Rattle.zone_events.specs.declared.change.PoolChange.{PoolChange}
 use Rattle.zone_events.specs.declared.outcome.Datagram.{Datagram}
+use Rattle.zone_events.specs.declared.outcome.Outcome.{Outcome}
 use Rattle.books.specs.declared.book.Entry.{Entry}
 use Rattle.books.specs.Books.{entries_of_seat}
 use Rattle.history.specs.declared.worker.Hand.{Hand}
@@ -9,13 +11,24 @@ use Rattle.history.specs.declared.worker.Mark.{Mark}
 use Rattle.history.specs.declared.world.Acted.{Acted}
 use Rattle.history.specs.declared.world.WorldStep.{WorldStep}
 use Rattle.history.specs.Workers.{WorkerState, listed, unless_dropped}
-use Rattle.history.specs.Worlds.{Scene, Happens}
+use Rattle.history.specs.Worlds.{Scene, Happens, ReplacesPool}
 
--- Any steps, of any workers, one after the other, each with what is told of it. (A step that is
+-- What is done with a world: a step of a worker, with what is told of it; or a pool of the zone is
+-- replaced, with the outcome of that.
+pub data Deed : Type 0 where
+  Acting : WorldStep → Acted → Deed
+  Replacing : PoolChange → Outcome → Deed
+
+abbrev pub IsDone : Scene → Deed → Scene → Type 0
+IsDone x (Acting step told) y = Happens x step told y
+IsDone x (Replacing replacement outcome) y = ReplacesPool x replacement outcome y
+
+-- Any steps, of any workers, and any replacements between them, one after the other. (What is
 -- refused changes nothing, and so it has no place here.)
-abbrev pub Interleaving : Scene → List (WorldStep × Acted) → Scene → Type 0
+abbrev pub Interleaving : Scene → List Deed → Scene → Type 0
 Interleaving x [] y = y ≡ x
-Interleaving x (s ∷ steps) y = (mid : Scene) × Happens x s.0 s.1 mid × Interleaving mid steps y
+Interleaving x (deed ∷ deeds) y =
+    (mid : Scene) × IsDone x deed mid × Interleaving mid deeds y
 
 -- The outputs of a worker's entries that were not dropped, in order. An outcome that is not settled
 -- was not dropped.

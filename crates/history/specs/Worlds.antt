@@ -2,6 +2,9 @@
 use Rattle.std.specs.Prelude.{◌≡◌, ◌≤◌, ◌+◌, ◌==◌, ℕ, List, [], ◌∷◌, ◌++◌, length, Option, None}
 use Rattle.std.specs.Prelude.{Some, Bool, true, false}
 use Rattle.std.specs.Prelude.{slice_get, slice_set, if◌then◌else◌}
+use Rattle.zone_events.specs.declared.change.Change.{Change}
+use Rattle.zone_events.specs.declared.change.Change.TheVariants as change
+use Rattle.zone_events.specs.declared.change.PoolChange.{PoolChange}
 use Rattle.zone_events.specs.declared.event.Event.{Event}
 use Rattle.zone_events.specs.declared.outcome.Datagram.{Datagram}
 use Rattle.zone_events.specs.declared.outcome.Outcome.{Outcome}
@@ -9,9 +12,9 @@ use Rattle.ras_machine.specs.State.{State}
 use Rattle.ras_machine.specs.Machine.{most_steps}
 use Rattle.ras_machine.specs.Soundness.{Sound}
 use Rattle.ras_core.specs.Running.{Running}
-use Rattle.ras_core.specs.Runs.{RunningStep}
+use Rattle.ras_core.specs.Runs.{RunningReplacement, RunningStep}
 use Rattle.books.specs.declared.book.Entry.{Entry}
-use Rattle.books.specs.Books.{AreCounted, BookRun}
+use Rattle.books.specs.Books.{AreCounted, BookRun, entries_of_seat}
 use Rattle.history.specs.declared.fault.WorldFault.{WorldFault}
 use Rattle.history.specs.declared.fault.WorldFault.TheVariants.{Closed, NoWorker, NotIdle, NoEvent}
 use Rattle.history.specs.declared.fault.WorldFault.TheVariants.{NoOutcome, RingEmpty}
@@ -107,7 +110,7 @@ pub record Receives (x : Scene) (w : ℕ) (event : Event) (y : Scene) : Type 0 w
   pub after : y ≡ with_worker x w (record worker { hand = Holding event })
 
 -- The entry of a step of the worker with this number, of which `call` outcomes were settled before.
-abbrev pub entry_by : ℕ → ℕ → Event → Outcome → Entry
+abbrev pub entry_by : ℕ → ℕ → Change → Outcome → Entry
 entry_by w call event outcome = record {
   seat = w;
   call = call;
@@ -126,7 +129,8 @@ pub record Applies (x : Scene) (w : ℕ) (outcome : Outcome) (y : Scene) : Type 
   pub after : y ≡ record {
     base = x.base;
     zone = y.zone;
-    entries = x.entries ++ entry_by w (length worker.settled) event outcome ∷ [];
+    entries = x.entries
+        ++ entry_by w (length worker.settled) (change.Event event) outcome ∷ [];
     workers = slice_set x.workers w (record worker { hand = Done (length x.entries) });
     capacity = x.capacity;
   }
@@ -160,3 +164,19 @@ Happens x (Post w) acted.Dropped y = Posts x w mark.Dropped y
 Happens x (Post w) acted.Nothing y = Posts x w mark.Silent y
 Happens x (Take w) (acted.Took output) y = Takes x w output y
 Happens x step told y = ⊥
+
+-- A fresh pool takes the place of one of the zone's, by one step, which is the last entry of the
+-- book. No worker has made it: its seat is the number of workers, and its call is the number of such
+-- steps before it. The workers stay as they are.
+pub record ReplacesPool (x : Scene) (replacement : PoolChange) (outcome : Outcome) (y : Scene)
+    : Type 0 where
+  pub step : RunningReplacement x.zone replacement outcome y.zone
+  pub after : y ≡ record {
+    base = x.base;
+    zone = y.zone;
+    entries = x.entries ++ entry_by (length x.workers)
+        (length (entries_of_seat (length x.workers) x.entries)) (change.PoolChange replacement)
+        outcome ∷ [];
+    workers = x.workers;
+    capacity = x.capacity;
+  }

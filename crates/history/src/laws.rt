@@ -4,16 +4,17 @@ ghost use Rattle.std.specs.Prelude.{◌≡◌, ◌≤◌, ℕ, List, Some, lengt
 ghost use Rattle.zone_events.specs.declared.outcome.Datagram.{Datagram};
 ghost use Rattle.history.specs.Workers.{WorkerState};
 ghost use Rattle.history.specs.Worlds.{Happens, IsInOrder, Scene};
-ghost use Rattle.history.specs.Orders.{AreServedInOrder, Interleaving, outputs_of_worker};
+ghost use Rattle.history.specs.Orders.{AreServedInOrder, Deed, Interleaving, outputs_of_worker};
 
 use crate::world::{Acted, WorldStep};
 
-/// Whatever the workers do, in whichever order: the book leads from where the world began to the
+/// Whatever the workers do, in whichever order, and whichever pools are replaced meanwhile: the book
+/// leads from where the world began to the
 /// zone's state, the zone is sound, and each worker's replies are served in order. Where the world
 /// began stays.
 pub fn every_interleaving_is_in_order()
-    ensures { (x y : Scene) (steps : List (WorldStep × Acted)) → IsInOrder x
-        → Interleaving x steps y → IsInOrder y × (y.base ≡ x.base) }
+    ensures { (x y : Scene) (deeds : List Deed) → IsInOrder x
+        → Interleaving x deeds y → IsInOrder y × (y.base ≡ x.base) }
 {}
 
 /// Of each worker's outputs that were not dropped, the first were taken, the next wait in its ring,

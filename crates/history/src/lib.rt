@@ -4,6 +4,7 @@
 
 mod fault;
 mod laws;
+mod replacing;
 mod worker;
 mod world;
 

@@ -13,7 +13,7 @@ use pools::Pool;
 use ras_core::Zone;
 use std::alloc::{AllocError, Global};
 use std::marker::Model;
-use zone_events::{Datagram, Event, Outcome};
+use zone_events::{Change, Datagram, Event, Outcome};
 
 /// What may happen next, and of which worker: it receives an event; it has the zone make a step of
 /// the event that it holds; it posts the output of that step, if there is one, into its ring; or
@@ -46,9 +46,9 @@ const MAX_OUTPUT: usize = 20_000;
 /// A zone with its book, and workers with a ring each.
 #[derive(Drop)]
 pub struct World<P: Pool> {
-    zone: Zone<P>,
-    book: Book,
-    workers: Vec<Worker>,
+    pub(crate) zone: Zone<P>,
+    pub(crate) book: Book,
+    pub(crate) workers: Vec<Worker>,
     capacity: usize,
 }
 
@@ -250,7 +250,7 @@ impl<P: Pool> World<P> {
         self.book.add_reserved(Entry {
             seat: w,
             call,
-            event,
+            event: Change::Event(event),
             outcome,
         });
         Ok(Acted::Applied(told))

@@ -4,6 +4,9 @@ use Rattle.std.proofs.Common.{subst, sym, ◌∙◌}
 use Rattle.std.specs.Prelude.{IfSome, Option, if◌then◌else◌, nat_lt}
 use Rattle.keyed.proofs.Decide.{same_some}
 use Rattle.pools.specs.declared.interface.Lend.{Lend}
+use Rattle.zone_events.specs.declared.change.Change.{Change}
+use Rattle.zone_events.specs.declared.change.Change.TheVariants as change
+use Rattle.zone_events.specs.declared.change.PoolChange.{PoolChange}
 use Rattle.zone_events.specs.declared.event.Event.{Event}
 use Rattle.zone_events.specs.declared.event.Event.TheVariants as event
 use Rattle.zone_events.specs.declared.outcome.Outcome.{Outcome}
@@ -15,26 +18,28 @@ use Rattle.ras_machine.specs.Machine.{Ending, at_moment, course, course_ending, 
 use Rattle.ras_machine.specs.Machine.{most_steps, plan_ending, with_answer}
 use Rattle.ras_machine.specs.State.{State}
 use Rattle.ras_machine.specs.Steps.{IsAllowed, IsUnusedIn, MayChoose, Step, choices_of}
-use Rattle.ras_core.specs.Runs.{Run}
+use Rattle.ras_machine.specs.Replacing.{Replaces}
+use Rattle.ras_core.specs.Runs.{ChangeStep, Run}
 use Rattle.ras_core.proofs.Lawful.{repeated}
 use Rattle.sound_steps.specs.Runs.{EachStepOf, HandsOutUnused, RepeatsKeptReply}
 
-pub of_each_step : (P : State → Event → Outcome → State → Type 0)
-    → ((s : State) (event : Event) (outcome : Outcome) (after : State)
-    → Step s event outcome after → P s event outcome after)
-    → (s : State) (entries : List (Event × Outcome)) (after : State) (run : Run s entries after)
+pub of_each_step : (P : State → Change → Outcome → State → Type 0)
+    → ((s : State) (what : Change) (outcome : Outcome) (after : State)
+    → ChangeStep s what outcome after → P s what outcome after)
+    → (s : State) (entries : List (Change × Outcome)) (after : State) (run : Run s entries after)
     → EachStepOf P s entries after run
 of_each_step P so s [] after run = tt
 of_each_step P so s (entry ∷ entries) after run =
     (so s entry.0 entry.1 run.0 run.1, of_each_step P so run.0 entries after run.2)
 
-pub repeats_kept : (s : State) (event : Event) (outcome : Outcome) (after : State)
-    → Step s event outcome after → RepeatsKeptReply s event outcome after
-repeats_kept s (event.Datagram source bytes moment) outcome after step =
+pub repeats_kept : (s : State) (what : Change) (outcome : Outcome) (after : State)
+    → ChangeStep s what outcome after → RepeatsKeptReply s what outcome after
+repeats_kept s (change.Event (event.Datagram source bytes moment)) outcome after step =
     λ request entry few read served there repeat.
     (repeated s source bytes moment request entry outcome after few read served there repeat
     step).0
-repeats_kept s (event.Turn moment) outcome after step = tt
+repeats_kept s (change.Event (event.Turn moment)) outcome after step = tt
+repeats_kept s (change.PoolChange replacement) outcome after step = tt
 
 module _ (s : State) (now : ℕ) (outcome : Outcome) (mid : State) where
   -- an outcome that hands out nothing
@@ -86,9 +91,23 @@ module _ (s : State) (now steps : ℕ) (c : Course) (outcome : Outcome) (after :
   made true is = stamped (course_ending s now c (choices_of outcome)) refl is
   made false is = absurd (cc is)
 
-pub hands_out_unused : (s : State) (event : Event) (outcome : Outcome) (after : State)
-    → Step s event outcome after → HandsOutUnused s event outcome after
-hands_out_unused s event outcome after step =
+event_hands_out_unused : (s : State) (event : Event) (outcome : Outcome) (after : State)
+    → Step s event outcome after → IfSome outcome.given (IsUnusedIn s)
+event_hands_out_unused s event outcome after step =
     let choices = choices_of outcome in
     made s (moment_of s event) (s.steps + 1) (course s event choices) outcome after step.allowed
     (nat_lt s.steps most_steps) step.makes
+
+-- a pool that takes the place of another one hands out none
+replacement_hands_out_none : (s : State) (replacement : PoolChange) (outcome : Outcome)
+    (after : State) → Replaces s replacement outcome after → IfSome outcome.given (IsUnusedIn s)
+replacement_hands_out_none s replacement outcome after step =
+    subst (λ (given : Option (List ℕ)). IfSome given (IsUnusedIn s))
+    (sym (ap (λ (o : Outcome). o.given) step.told)) tt
+
+pub hands_out_unused : (s : State) (what : Change) (outcome : Outcome) (after : State)
+    → ChangeStep s what outcome after → HandsOutUnused s what outcome after
+hands_out_unused s (change.Event event) outcome after step =
+    event_hands_out_unused s event outcome after step
+hands_out_unused s (change.PoolChange replacement) outcome after step =
+    replacement_hands_out_none s replacement outcome after step

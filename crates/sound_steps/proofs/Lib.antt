@@ -13,3 +13,4 @@ pub mod Steps
 pub mod Along
 pub mod Clocks
 pub mod EachStep
+pub mod TakenOver

@@ -3,7 +3,9 @@ use Rattle.std.proofs.Common.{◌≡◌, ◌<◌, ◌+◌, ◌^◌, All, ℕ, Bo
 use Rattle.std.proofs.Common.{Some, None, arith, subst}
 use Rattle.std.specs.Prelude.{if◌then◌else◌, max, nat_lt}
 use Rattle.keyed.proofs.Decide.{same_some}
-use Rattle.zone_events.specs.Events.{moment_in}
+use Rattle.zone_events.specs.Events.{moment_in, moment_of_change}
+use Rattle.zone_events.specs.declared.change.Change.{Change}
+use Rattle.zone_events.specs.declared.change.Change.TheVariants as change
 use Rattle.zone_events.specs.declared.event.Event.{Event}
 use Rattle.zone_events.specs.declared.outcome.Outcome.{Outcome}
 use Rattle.zone_tables.specs.Soundness.{HasCounts}
@@ -12,8 +14,10 @@ use Rattle.ras_machine.specs.Machine.{most_steps}
 use Rattle.ras_machine.specs.Soundness.{Sound}
 use Rattle.ras_machine.specs.State.{State}
 use Rattle.ras_machine.specs.Steps.{Step, choices_of}
+use Rattle.ras_core.specs.Runs.{ChangeStep}
 use Rattle.sound_steps.proofs.Courses.{along}
 use Rattle.sound_steps.proofs.Endings.{IsSoundEnd, ended_sound}
+use Rattle.sound_steps.proofs.TakenOver.{replacement_is_sound}
 use Rattle.sound_steps.proofs.Tests.{below}
 
 module _ (s : State) (sound : Sound s) (now : ℕ) (moment : now < 2 ^ 53) (outcome : Outcome)
@@ -63,7 +67,7 @@ later : (m n : ℕ) → m < 2 ^ 53 → n < 2 ^ 53 → max m n < 2 ^ 53
 later m n few fewer = omega arith
 
 -- the course of an event, by choices that may be made, leaves a sound state
-pub step_is_sound : (s : State) (event : Event) (outcome : Outcome) (after : State)
+step_is_sound : (s : State) (event : Event) (outcome : Outcome) (after : State)
     → moment_in event < 2 ^ 53 → Sound s → Step s event outcome after → Sound after
 step_is_sound s event outcome after moment sound step =
     let now = moment_of s event in
@@ -73,3 +77,11 @@ step_is_sound s event outcome after moment sound step =
     (nat_lt s.steps most_steps) refl (course_ending s now c choices)
     (λ mid is. ended_sound s sound now c choices outcome mid (along s sound now event choices)
     step.allowed is) step.makes
+
+-- and so does a step of either kind
+pub change_is_sound : (s : State) (what : Change) (outcome : Outcome) (after : State)
+    → moment_of_change what < 2 ^ 53 → Sound s → ChangeStep s what outcome after → Sound after
+change_is_sound s (change.Event event) outcome after moment sound step =
+    step_is_sound s event outcome after moment sound step
+change_is_sound s (change.PoolChange replacement) outcome after moment sound step =
+    replacement_is_sound s replacement outcome after moment sound step

@@ -72,6 +72,7 @@ notes_decide (note.Ignored a) (note.Ignored b) =
 notes_decide (note.Done a) (note.Done b) =
     (λ h. ap note.Done ((items_decide a b).0 h), λ e. (items_decide a b).1 (cc e))
 notes_decide note.Idle note.Idle = search rules
+notes_decide (note.Replaced a) (note.Replaced b) = search rules
 notes_decide a b = (λ h. never h, λ e. absurd (cc e))
 
 answers : (a b : Option Lend) → Decides (option_eq (lend_eq.ghosts).eq a b) (a ≡ b)

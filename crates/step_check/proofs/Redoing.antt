@@ -10,6 +10,8 @@ use Rattle.pools.specs.declared.interface.Figures.{Figures}
 use Rattle.pools.specs.declared.interface.Lend.{Lend}
 use Rattle.pools.specs.Account.{IsAnswer}
 use Rattle.kept_replies.specs.Kept.{Passes, is_over}
+use Rattle.zone_events.specs.declared.change.Change.{Change}
+use Rattle.zone_events.specs.declared.change.Change.TheVariants as change
 use Rattle.zone_events.specs.declared.event.Event.{Event}
 use Rattle.zone_events.specs.Events.{moment_in}
 use Rattle.zone_events.specs.declared.outcome.Datagram.{Datagram}
@@ -226,7 +228,7 @@ module _ (s : State) (now : ℕ) where
 -- A step of this event with this outcome, by the course that the outcome shows.
 module _ (s : State) (event : Event) (outcome : Outcome) where
   -- a machine that is closed makes none
-  pub closed_makes_none : s.steps ≡ most_steps → NoStep s event outcome
+  pub closed_makes_none : s.steps ≡ most_steps → NoStep s (change.Event event) outcome
   closed_makes_none closed after step =
       let shut : nat_lt s.steps most_steps ≡ false = grind (arith, nat_tests) in
       let now = moment_of s event in
@@ -262,7 +264,7 @@ module _ (s : State) (event : Event) (outcome : Outcome) where
         )
 
     -- there is none if the choices that the outcome shows may not be made
-    pub absent : CannotBeChosen s now event outcome → NoStep s event outcome
+    pub absent : CannotBeChosen s now event outcome → NoStep s (change.Event event) outcome
     absent cannot after step =
         let ends = step_ends after step in
         cannot ends.1.0 ends.0 ends.1.1
@@ -284,7 +286,7 @@ module _ (s : State) (event : Event) (outcome : Outcome) where
           }
 
       -- there is none if the identifier may not be handed out
-      pub unnamed : (MayBeNamed s called outcome.given → ⊥) → NoStep s event outcome
+      pub unnamed : (MayBeNamed s called outcome.given → ⊥) → NoStep s (change.Event event) outcome
       unnamed cannot after step =
           let ends = step_ends after step in
           cannot (named_allowed s now outcome ends.1.0 called shown.calls.stands
@@ -315,7 +317,7 @@ module _ (s : State) (event : Event) (outcome : Outcome) where
           → IfSome again.given (λ id. outcome.given ≡ Some id)
           → IsAskedOnce lends_again (record { answer = outcome.answer }) s.tables.pools
           (ask_in (course_of s now called)) again.answer lender
-          → Redoes s event outcome b new
+          → Redoes s (change.Event event) outcome b new
       redoes again new lender true is performs handed asked =
           step_made new (subst (λ o. Performs s now (course_of s now called) o new)
           ((outcomes_decide again outcome).0 (sym is)) performs)
@@ -350,8 +352,8 @@ at_its_moment s now clock moment same event is later clock_is moment_is =
     later ∙ (λ j. max (clock_is j) ((moment_is ∙ ap moment_in is) j))
 
 -- a copy that has no such step tells that the original has none
-pub refused : (s copy new : State) (event : Event) (outcome : Outcome) (b : Bool) → b ≡ false
-    → copy ≡ s → Redoes copy event outcome b new → NoStep s event outcome
-refused s copy new event outcome true is_false is redoes = absurd (cc is_false)
-refused s copy new event outcome false is_false is none =
-    subst (λ (z : State). NoStep z event outcome) is none
+pub refused : (s copy new : State) (what : Change) (outcome : Outcome) (b : Bool) → b ≡ false
+    → copy ≡ s → Redoes copy what outcome b new → NoStep s what outcome
+refused s copy new what outcome true is_false is redoes = absurd (cc is_false)
+refused s copy new what outcome false is_false is none =
+    subst (λ (z : State). NoStep z what outcome) is none

@@ -72,6 +72,6 @@ fn item_of(note: Note) -> Option<DueItem>
 {
     match note {
         Note::Done(item) => Some(item),
-        Note::Served | Note::Kept | Note::Ignored(_) | Note::Idle => None,
+        Note::Served | Note::Kept | Note::Ignored(_) | Note::Idle | Note::Replaced(_) => None,
     }
 }

@@ -11,15 +11,29 @@ use pools::Pool;
 use ras_core::{Snapshot, Zone};
 use ras_machine::{Machine, prepare};
 use std::alloc::AllocError;
-use zone_events::{Event, Outcome};
+use zone_events::{Change, Event, Outcome, PoolChange};
 
-/// Does a recorded step again. True is returned if and only if the machine has a step with this
-/// event and this outcome from where it stands; then the machine stands at the state after that
+/// Does a recorded step again. True is returned if and only if the machine has a step of this
+/// change with this outcome from where it stands; then the machine stands at the state after that
 /// step. If false is returned, the machine may have made another step.
-pub fn redo(machine: &mut Machine, event: &Event, outcome: &Outcome) -> Result<bool, AllocError>
+pub fn redo(machine: &mut Machine, change: &Change, outcome: &Outcome) -> Result<bool, AllocError>
     requires { Sound machine.old }
     ensures redoes { IfOk result
-        (λ is_step. Redoes machine.old event.now outcome.now is_step machine.new) }
+        (λ is_step. Redoes machine.old change.now outcome.now is_step machine.new) }
+    ensures err { OnErr result (machine.new ≡ machine.old) }
+    ensures sound { Sound machine.new }
+{
+    match change {
+        Change::Event(event) => redo_event(machine, event, outcome),
+        Change::PoolChange(replacement) => Ok(redo_replacement(machine, replacement, outcome)),
+    }
+}
+
+/// The same of a step that an event calls for.
+fn redo_event(machine: &mut Machine, event: &Event, outcome: &Outcome) -> Result<bool, AllocError>
+    requires { Sound machine.old }
+    ensures redoes { IfOk result (λ is_step.
+        Redoes machine.old (Change.Event event.now) outcome.now is_step machine.new) }
     ensures err { OnErr result (machine.new ≡ machine.old) }
     ensures sound { Sound machine.new }
 {
@@ -41,20 +55,37 @@ pub fn redo(machine: &mut Machine, event: &Event, outcome: &Outcome) -> Result<b
     Ok(again == *outcome)
 }
 
-/// Does a recorded step again, if the machine has one with this event and this outcome from that
+/// The same of a step in which a fresh pool takes the place of another one.
+fn redo_replacement(machine: &mut Machine, replacement: &PoolChange, outcome: &Outcome) -> bool
+    requires { Sound machine.old }
+    ensures redoes { Redoes machine.old (Change.PoolChange replacement.now) outcome.now result
+        machine.new }
+    ensures sound { Sound machine.new }
+{
+    if machine.is_closed()
+        || !machine
+            .pools()
+            .may_replace(replacement.pool, replacement.offered)
+    {
+        return false;
+    }
+    machine.replace_pool(replacement) == *outcome
+}
+
+/// Does a recorded step again, if the machine has one of this change with this outcome from that
 /// state: then it returns true, and the snapshot is the state after it. Else it returns false, and
 /// the snapshot is as it was.
 pub fn accepts(
     snapshot: &mut Snapshot,
-    event: &Event,
+    change: &Change,
     outcome: &Outcome,
 ) -> Result<bool, AllocError>
     ensures accepts { IfOk result
-        (λ is_step. Accepts snapshot.old event.now outcome.now is_step snapshot.new) }
+        (λ is_step. Accepts snapshot.old change.now outcome.now is_step snapshot.new) }
     ensures err { OnErr result (snapshot.new ≡ snapshot.old) }
 {
     let mut machine = snapshot.copy()?.into_machine();
-    if redo(&mut machine, event, outcome)? {
+    if redo(&mut machine, change, outcome)? {
         *snapshot = Snapshot::of(machine);
         Ok(true)
     } else {

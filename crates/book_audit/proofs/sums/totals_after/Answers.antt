@@ -17,12 +17,20 @@ overflow_add-result-2 c = omega (
   ap (λ (t : Totals). t.turns) c.totals_of-more.ensures.totals,
 )
 
+pub overflow_add-result-4 : goal.overflow_add-result-4
+overflow_add-result-4 c = omega (
+  arith,
+  counts c.args.entries.now,
+  ap (λ (t : Totals). t.changes) c.totals_of-more.ensures.totals,
+)
+
 pub returns-clause-steps : goal.returns-clause-steps
 returns-clause-steps c = omega (
   arith,
   counts c.args.entries.now,
   ap (λ (t : Totals). t.datagrams) c.totals_of-more.ensures.totals,
   ap (λ (t : Totals). t.turns) c.totals_of-more.ensures.totals,
+  ap (λ (t : Totals). t.changes) c.totals_of-more.ensures.totals,
 )
 
 pub returns-clause-units : goal.returns-clause-units
@@ -31,4 +39,5 @@ returns-clause-units c = omega (
   counts c.args.entries.now,
   ap (λ (t : Totals). t.datagrams) c.totals_of-more.ensures.totals,
   ap (λ (t : Totals). t.turns) c.totals_of-more.ensures.totals,
+  ap (λ (t : Totals). t.changes) c.totals_of-more.ensures.totals,
 )

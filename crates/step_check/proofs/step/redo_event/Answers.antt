@@ -1,10 +1,10 @@
-use Rattle.std.proofs.Common.{◌≡◌, ◌<◌, ◌∙◌, subst, sym}
+use Rattle.std.proofs.Common.{◌∙◌, subst, sym}
 use Rattle.zone_events.specs.Events.{moment_in}
-use Rattle.ras_machine.specs.Machine.{most_steps, moment_of}
+use Rattle.ras_machine.specs.Machine.{most_steps}
 use Rattle.ras_machine.specs.Courses.{IsReady}
 use Rattle.step_check.proofs.Redoing.{absent, at_its_moment, found_shown, none_found, open_below}
 use Rattle.step_check.proofs.Redoing.{redoes, unnamed}
-use Rattle.step_check.proofs.step.redo.Goals as goal
+use Rattle.step_check.proofs.step.redo_event.Goals as goal
 
 pub returns-in_default-clause-redoes : goal.returns-in_default-clause-redoes
 returns-in_default-clause-redoes c =
