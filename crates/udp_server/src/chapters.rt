@@ -35,9 +35,9 @@ impl Chapters {
 
     /// Ends a chapter if one is due by the plan: a step was the entry at this place. If no chapter
     /// is kept, none is made: the entries are let go, once the lock is free.
-    pub(crate) fn end_if_due<P: Pool, D: Hall, T: Ledger, U: Ledger, R: Wait, G: Gate>(
+    pub(crate) fn end_if_due<P: Pool, D: Hall, T: Ledger, U: Ledger, V: Ledger, R: Wait, G: Gate>(
         &mut self,
-        shared: &Shared<'_, P, D, T, U, R, G>,
+        shared: &Shared<'_, P, D, T, U, V, R, G>,
         place: usize,
     ) -> Result<(), AllocError> {
         let entries = place.saturating_sub(self.first).saturating_add(1);
@@ -58,9 +58,9 @@ impl Chapters {
     }
 
     /// Lets the entries so far go, once the lock is free.
-    fn let_go<P: Pool, D: Hall, T: Ledger, U: Ledger, R: Wait, G: Gate>(
+    fn let_go<P: Pool, D: Hall, T: Ledger, U: Ledger, V: Ledger, R: Wait, G: Gate>(
         &mut self,
-        shared: &Shared<'_, P, D, T, U, R, G>,
+        shared: &Shared<'_, P, D, T, U, V, R, G>,
     ) {
         let room = mem::replace(&mut self.room, Vec::new(shared.alloc));
         let Discarded {

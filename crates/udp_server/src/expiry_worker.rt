@@ -3,6 +3,7 @@
 use crate::chapters::Chapters;
 use crate::gate::Gate;
 use crate::moments::Moments;
+use crate::orders::Orders;
 use crate::worker::{Shared, StepResult, Worker, WorkerRecord};
 use pools::Pool;
 use ras_core::Event;
@@ -15,31 +16,53 @@ use zone_lock::Hall;
 /// How many turns are made at most at one tick.
 const MOST_TURNS: usize = 1_000;
 
-/// Makes the turns that are due at each tick, until this many other workers have ended, or no step
-/// may be made any more.
-pub(crate) fn expire<P: Pool, D: Hall, T: Ledger, U: Ledger, R: Wait + Clock, G: Gate, C: Moments>(
-    shared: &Shared<'_, P, D, T, U, R, G>,
+/// What the expiry worker leaves at its end: what each worker does, and what came back of the
+/// orders.
+#[derive(Drop)]
+pub(crate) struct ExpiryRecord<P: Pool, D: Hall, T: Ledger, U: Ledger, V: Ledger> {
+    pub(crate) worker: WorkerRecord<D, T, U, V>,
+    pub(crate) boxes: Vec<(usize, P, bool)>,
+}
+
+/// At each tick carries out the orders whose moment is reached, and makes the turns that are due,
+/// until this many other workers have ended, or no step may be made any more.
+pub(crate) fn expire<
+    P: Pool,
+    D: Hall,
+    T: Ledger,
+    U: Ledger,
+    V: Ledger,
+    R: Wait + Clock,
+    G: Gate,
+    C: Moments,
+>(
+    shared: &Shared<'_, P, D, T, U, V, R, G>,
     others: usize,
-    worker: Worker<D, T, U, C>,
-) -> WorkerRecord<D, T, U> {
-    let mut worker = worker;
+    worker: Worker<D, T, U, V, C>,
+    orders: Orders<P>,
+) -> ExpiryRecord<P, D, T, U, V> {
+    let (mut worker, mut orders) = (worker, orders);
     let mut chapters = Chapters::new(shared.alloc);
     if shared.board.may_begin(shared.rt) {
         let tick = Duration::from_millis(shared.plan.tick);
         for _ in shared.rt.forever() {
             let have_ended = shared.board.wait_for_tick(shared.rt, others, tick);
+            orders.carry_out(shared, &mut worker);
             if !goes_on(shared, &mut worker, &mut chapters) || have_ended {
                 break;
             }
         }
     }
-    worker.end(shared, chapters.into_latest())
+    ExpiryRecord {
+        worker: worker.end(shared, chapters.into_latest()),
+        boxes: orders.into_boxes(),
+    }
 }
 
 /// Makes turns until nothing is due, or one is refused. Whether the worker goes on.
-fn goes_on<P: Pool, D: Hall, T: Ledger, U: Ledger, R: Wait, G: Gate, C: Moments>(
-    shared: &Shared<'_, P, D, T, U, R, G>,
-    worker: &mut Worker<D, T, U, C>,
+fn goes_on<P: Pool, D: Hall, T: Ledger, U: Ledger, V: Ledger, R: Wait, G: Gate, C: Moments>(
+    shared: &Shared<'_, P, D, T, U, V, R, G>,
+    worker: &mut Worker<D, T, U, V, C>,
     chapters: &mut Chapters,
 ) -> bool {
     for _ in 0..MOST_TURNS {

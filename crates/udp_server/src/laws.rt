@@ -7,9 +7,9 @@ ghost use Rattle.ras_machine.specs.State.{State};
 ghost use Rattle.udp_server.specs.Headline.{Headline};
 ghost use Rattle.udp_server.specs.Served.{IsServed};
 
-/// What `serve_zone` leaves of a zone, which is always sound, is as the headline says. `datagrams`
-/// and `turns` are the totals that its report tells.
+/// What `serve_zone` leaves of a zone, which is always sound, is as the headline says. `datagrams`,
+/// `turns` and `changes` are the totals that its report tells.
 pub fn the_headline()
-    ensures { (opened : State) (f : FinishedValue) (datagrams turns : ℕ)
-        → Sound opened → IsServed opened f datagrams turns → Headline opened f }
+    ensures { (opened : State) (f : FinishedValue) (datagrams turns changes : ℕ)
+        → Sound opened → IsServed opened f datagrams turns changes → Headline opened f }
 {}

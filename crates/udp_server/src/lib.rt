@@ -1,5 +1,5 @@
 //! The server of a zone behind a lock: a worker for each end that receives datagrams, one worker
-//! for the turns of the timers, and a sender. Each worker makes its steps under the lock and hands
+//! for the turns of the timers and the pools that are replaced, and a sender. Each worker makes its steps under the lock and hands
 //! replies to the sender over a ring of its own.
 #![tactic(auto)]
 
@@ -10,6 +10,7 @@ mod expiry_worker;
 mod gate;
 mod laws;
 mod moments;
+mod orders;
 mod plan;
 mod receiver;
 mod report;
@@ -22,6 +23,7 @@ pub use datagrams::{Datagrams, DeviceFault, MOST_RECEIVED, Received};
 pub use gate::{Gate, Open, Stage};
 pub use laws::the_headline;
 pub use moments::Moments;
+pub use orders::PoolOrder;
 pub use plan::Plan;
 pub use report::{Report, ServeFault};
 pub use server::{serve, serve_zone};

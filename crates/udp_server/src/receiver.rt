@@ -30,15 +30,16 @@ pub(crate) fn work<
     D: Hall,
     T: Ledger,
     U: Ledger,
+    V: Ledger,
     R: Wait,
     N: Datagrams,
     G: Gate,
     C: Moments,
 >(
-    shared: &Shared<'_, P, D, T, U, R, G>,
+    shared: &Shared<'_, P, D, T, U, V, R, G>,
     end: N,
-    worker: Worker<D, T, U, C>,
-) -> WorkerRecord<D, T, U> {
+    worker: Worker<D, T, U, V, C>,
+) -> WorkerRecord<D, T, U, V> {
     let mut worker = worker;
     let mut receiver = Receiver {
         end,
@@ -56,10 +57,20 @@ pub(crate) fn work<
 }
 
 /// Waits for a datagram, and makes its step. Whether the worker goes on.
-fn goes_on<P: Pool, D: Hall, T: Ledger, U: Ledger, R: Wait, N: Datagrams, G: Gate, C: Moments>(
-    shared: &Shared<'_, P, D, T, U, R, G>,
+fn goes_on<
+    P: Pool,
+    D: Hall,
+    T: Ledger,
+    U: Ledger,
+    V: Ledger,
+    R: Wait,
+    N: Datagrams,
+    G: Gate,
+    C: Moments,
+>(
+    shared: &Shared<'_, P, D, T, U, V, R, G>,
     receiver: &mut Receiver<N>,
-    worker: &mut Worker<D, T, U, C>,
+    worker: &mut Worker<D, T, U, V, C>,
 ) -> bool {
     match receiver.end.receive(&mut receiver.buffer) {
         Ok(Received::Stopped) => false,

@@ -13,11 +13,14 @@ pub struct Report<P: Pool> {
     pub datagrams: u64,
     /// How many turns of the timers were made, idle ones too.
     pub turns: u64,
+    /// In how many steps a fresh pool took the place of another one.
+    pub changes: u64,
     /// How many replies were sent.
     pub sent: u64,
     /// How many replies found no place in their ring.
     pub dropped: u64,
-    /// How many steps weren't made, and how many chapters didn't end, for want of memory.
+    /// How many steps weren't made, those of orders too, and how many chapters didn't end, for want
+    /// of memory.
     pub refused: u64,
     /// How many receives failed.
     pub receive_faults: u64,
@@ -29,6 +32,9 @@ pub struct Report<P: Pool> {
     pub chapters: Vec<Chapter>,
     /// The receipts of all steps, seat by seat, if the plan asks for them.
     pub receipts: Vec<Receipt>,
+    /// For each order, in their order, the pool's number and the pool that came back: true beside
+    /// it, if that is the old one; false, if it is the fresh one, which didn't take its place.
+    pub boxes: Vec<(usize, P, bool)>,
 }
 
 // Written by hand, so that whoever owns a report makes one call at each exit.
@@ -37,6 +43,7 @@ impl<P: Pool> Drop for Report<P> {
         let Report {
             datagrams: _,
             turns: _,
+            changes: _,
             sent: _,
             dropped: _,
             refused: _,
@@ -45,6 +52,7 @@ impl<P: Pool> Drop for Report<P> {
             finished: _,
             chapters: _,
             receipts: _,
+            boxes: _,
         } = self;
     }
 }

@@ -1,7 +1,7 @@
 //! Running a server.
 
 ghost use Rattle.std.specs.Prelude.{◌≡◌, ◌≢◌, ◌≤◌, ◌+◌, ◌^◌, ◌↔◌, Err, IfOk, length, vec_len};
-ghost use Rattle.books.specs.Totals.{datagrams_of, turns_of};
+ghost use Rattle.books.specs.Totals.{changes_of, datagrams_of, turns_of};
 ghost use Rattle.udp_server.specs.Faults.{AreCounts, AreCountsOfEnds};
 ghost use Rattle.udp_server.specs.Plans.{IsPlan};
 ghost use Rattle.udp_server.specs.Served.{IsServed};
@@ -10,6 +10,7 @@ use crate::board::Board;
 use crate::datagrams::Datagrams;
 use crate::gate::Gate;
 use crate::moments::Moments;
+use crate::orders::{Orders, PoolOrder};
 use crate::plan::Plan;
 use crate::report::{Report, ServeFault};
 use crate::sender::SendCounts;
@@ -29,12 +30,15 @@ use zone_lock::{Blanks, Hall, OpenFault, Seat, ZoneLock};
 
 /// Serves the zone of a lock until each receiving end has stopped. It takes all seats of the lock:
 /// one for each receiving end, in order, and the last one for the turns of the timers; and a clock
-/// for each seat. What is refused is let go.
+/// for each seat. The worker of the timers carries out the orders, each once its clock has reached
+/// the order's moment, in their order: a fresh pool takes the place of one of the zone's, or comes
+/// back. What is refused is let go.
 pub fn serve<
     P: Pool + Send,
     D: Hall + Send + Sync,
     T: Ledger + Send + Sync,
     U: Ledger + Send + Sync,
+    V: Ledger + Send + Sync,
     R: Threads + Wait + Clock + Sync,
     N: Datagrams + Send,
     G: Gate + Sync,
@@ -42,17 +46,19 @@ pub fn serve<
 >(
     rt: &R,
     alloc: Global,
-    lock: ZoneLock<P, D, T, U>,
-    seats: Vec<Seat<D, T, U>>,
+    lock: ZoneLock<P, D, T, U, V>,
+    seats: Vec<Seat<D, T, U, V>>,
     receivers: Vec<N>,
     sender: N,
     gate: &G,
     clocks: Vec<C>,
+    orders: Vec<PoolOrder<P>>,
     plan: Plan,
 ) -> Result<Report<P>, ServeFault>
     requires seats { (vec_len seats ≡ D.all) × (vec_len seats ≤ 16) }
     requires plan { IsPlan plan }
-    ensures served { IfOk result (λ r. IsServed D.opened r.finished r.datagrams r.turns) }
+    ensures served { IfOk result (λ r. IsServed D.opened r.finished r.datagrams r.turns
+        r.changes) }
     ensures wrong_counts { (result ≡ Err ServeFault.WrongCounts)
         ↔ ¬ AreCounts (vec_len seats) (vec_len receivers) (vec_len clocks) }
 {
@@ -63,7 +69,7 @@ pub fn serve<
     let Ok((outlets, inlets)) = rings(alloc, count, plan.ring) else {
         return Err(ServeFault::Memory);
     };
-    let Ok(crew) = crew_of(alloc, seats, receivers, clocks, outlets) else {
+    let Ok(crew) = crew_of(alloc, seats, receivers, clocks, outlets, orders) else {
         return Err(ServeFault::Memory);
     };
     let board = Board::new();
@@ -82,13 +88,14 @@ pub fn serve<
 }
 
 /// Who makes steps: each has its seat, its clock and its ring.
-fn crew_of<D: Hall, T: Ledger, U: Ledger, N: Datagrams, C: Moments>(
+fn crew_of<P: Pool, D: Hall, T: Ledger, U: Ledger, V: Ledger, N: Datagrams, C: Moments>(
     alloc: Global,
-    seats: Vec<Seat<D, T, U>>,
+    seats: Vec<Seat<D, T, U, V>>,
     receivers: Vec<N>,
     clocks: Vec<C>,
     outlets: Vec<Outlet>,
-) -> Result<Crew<D, T, U, N, C>, AllocError> {
+    orders: Vec<PoolOrder<P>>,
+) -> Result<Crew<P, D, T, U, V, N, C>, AllocError> {
     let mut workers = Vec::with_capacity(alloc, seats.len())?;
     let parts = seats.into_iter().zip(clocks).zip(outlets);
     for (number, ((seat, clock), outlet)) in parts.enumerate() {
@@ -107,22 +114,23 @@ fn crew_of<D: Hall, T: Ledger, U: Ledger, N: Datagrams, C: Moments>(
         receivers,
         workers,
         expiry,
+        orders: Orders::new(alloc, orders)?,
     })
 }
 
 /// What all workers leave together.
 #[derive(Drop)]
-struct JointRecord<D: Hall, T: Ledger, U: Ledger> {
-    seats: Vec<Seat<D, T, U>>,
+struct JointRecord<D: Hall, T: Ledger, U: Ledger, V: Ledger> {
+    seats: Vec<Seat<D, T, U, V>>,
     receipts: Vec<Receipt>,
     chapters: Vec<Chapter>,
     counts: Counts,
 }
 
-fn join_records<D: Hall, T: Ledger, U: Ledger>(
+fn join_records<D: Hall, T: Ledger, U: Ledger, V: Ledger>(
     alloc: Global,
-    workers: Vec<WorkerRecord<D, T, U>>,
-) -> Result<JointRecord<D, T, U>, AllocError> {
+    workers: Vec<WorkerRecord<D, T, U, V>>,
+) -> Result<JointRecord<D, T, U, V>, AllocError> {
     let mut joint = JointRecord {
         seats: Vec::with_capacity(alloc, workers.len())?,
         receipts: Vec::new(alloc),
@@ -145,27 +153,34 @@ fn join_records<D: Hall, T: Ledger, U: Ledger>(
 }
 
 /// The report of what the threads left, with the zone that is taken out of its lock.
-fn report_of<P: Pool, D: Hall, T: Ledger, U: Ledger>(
+fn report_of<P: Pool, D: Hall, T: Ledger, U: Ledger, V: Ledger>(
     alloc: Global,
-    lock: ZoneLock<P, D, T, U>,
-    record: CrewRecord<D, T, U>,
+    lock: ZoneLock<P, D, T, U, V>,
+    record: CrewRecord<P, D, T, U, V>,
 ) -> Result<Report<P>, ServeFault>
-    ensures served { IfOk result (λ r. IsServed D.opened r.finished r.datagrams r.turns) }
+    ensures served { IfOk result (λ r. IsServed D.opened r.finished r.datagrams r.turns
+        r.changes) }
     ensures counts { result ≢ Err ServeFault.WrongCounts }
 {
-    let CrewRecord { workers, sent } = record;
+    let CrewRecord {
+        workers,
+        boxes,
+        sent,
+    } = record;
     match join_records(alloc, workers) {
-        Ok(joint) => report_with(lock, joint, sent),
+        Ok(joint) => report_with(lock, joint, boxes, sent),
         Err(AllocError) => Err(ServeFault::Memory),
     }
 }
 
-fn report_with<P: Pool, D: Hall, T: Ledger, U: Ledger>(
-    lock: ZoneLock<P, D, T, U>,
-    joint: JointRecord<D, T, U>,
+fn report_with<P: Pool, D: Hall, T: Ledger, U: Ledger, V: Ledger>(
+    lock: ZoneLock<P, D, T, U, V>,
+    joint: JointRecord<D, T, U, V>,
+    boxes: Vec<(usize, P, bool)>,
     sent: SendCounts,
 ) -> Result<Report<P>, ServeFault>
-    ensures served { IfOk result (λ r. IsServed D.opened r.finished r.datagrams r.turns) }
+    ensures served { IfOk result (λ r. IsServed D.opened r.finished r.datagrams r.turns
+        r.changes) }
     ensures counts { result ≢ Err ServeFault.WrongCounts }
 {
     let JointRecord {
@@ -177,10 +192,11 @@ fn report_with<P: Pool, D: Hall, T: Ledger, U: Ledger>(
     let Ok(finished) = lock.finish(seats) else {
         return Err(ServeFault::NotFinished);
     };
-    let (datagrams, turns) = counted(&finished);
+    let (datagrams, turns, changes) = counted(&finished);
     Ok(Report {
         datagrams,
         turns,
+        changes,
         sent: sent.replies,
         dropped: counts.dropped,
         refused: counts.refused,
@@ -189,23 +205,28 @@ fn report_with<P: Pool, D: Hall, T: Ledger, U: Ledger>(
         finished,
         chapters,
         receipts,
+        boxes,
     })
 }
 
-/// How many datagrams and how many turns a whole history has.
-fn counted<P: Pool>(finished: &Finished<P>) -> (u64, u64)
+/// How many datagrams and how many turns a whole history has, and how many steps in which a fresh
+/// pool took the place of another one.
+fn counted<P: Pool>(finished: &Finished<P>) -> (u64, u64, u64)
     requires first { finished.now.carried.datagrams + finished.now.carried.turns
-        ≡ finished.now.first }
+        + finished.now.carried.changes ≡ finished.now.first }
     requires few { finished.now.first + length finished.now.entries ≤ 2 ^ 62 }
     ensures datagrams { result.0
         ≡ finished.now.carried.datagrams + datagrams_of finished.now.entries }
     ensures turns { result.1 ≡ finished.now.carried.turns + turns_of finished.now.entries }
+    ensures changes { result.2
+        ≡ finished.now.carried.changes + changes_of finished.now.entries }
 {
     let carried = finished.carried();
     let since = totals_of(finished.entries());
     (
         carried.datagrams + since.datagrams,
         carried.turns + since.turns,
+        carried.changes + since.changes,
     )
 }
 
@@ -225,10 +246,12 @@ pub fn serve_zone<
     sender: N,
     gate: &G,
     clocks: Vec<C>,
+    orders: Vec<PoolOrder<P>>,
     plan: Plan,
 ) -> Result<Report<P>, ServeFault>
     requires plan { IsPlan plan }
-    ensures served { IfOk result (λ r. IsServed zone.state r.finished r.datagrams r.turns) }
+    ensures served { IfOk result (λ r. IsServed zone.state r.finished r.datagrams r.turns
+        r.changes) }
     ensures wrong_counts { (result ≡ Err ServeFault.WrongCounts)
         ↔ ¬ AreCountsOfEnds (vec_len receivers) (vec_len clocks) }
 {
@@ -237,8 +260,8 @@ pub fn serve_zone<
     }
     let seats = receivers.len() + 1;
     let blanks = Blanks::new(seats);
-    open_and_serve::<P, Brand, Brand, Brand, R, N, G, C>(
-        rt, alloc, zone, seats, blanks, receivers, sender, gate, clocks, plan,
+    open_and_serve::<P, Brand, Brand, Brand, Brand, R, N, G, C>(
+        rt, alloc, zone, seats, blanks, receivers, sender, gate, clocks, orders, plan,
     )
 }
 
@@ -248,6 +271,7 @@ fn open_and_serve<
     D: Hall + Send + Sync,
     T: Ledger + Send + Sync,
     U: Ledger + Send + Sync,
+    V: Ledger + Send + Sync,
     R: Threads + Wait + Clock + Sync,
     N: Datagrams + Send,
     G: Gate + Sync,
@@ -262,6 +286,7 @@ fn open_and_serve<
     sender: N,
     gate: &G,
     clocks: Vec<C>,
+    orders: Vec<PoolOrder<P>>,
     plan: Plan,
 ) -> Result<Report<P>, ServeFault>
     requires datagrams { (blanks.datagrams.name ≡ D.name)
@@ -270,16 +295,19 @@ fn open_and_serve<
         × (blanks.turns.parts ≡ T.parts) × (T.parts ≡ seats) }
     requires lent { (blanks.lent.name ≡ U.name)
         × (blanks.lent.parts ≡ U.parts) × (U.parts ≡ seats) }
+    requires changes { (blanks.changes.name ≡ V.name)
+        × (blanks.changes.parts ≡ V.parts) × (V.parts ≡ seats) }
     requires opened { (D.all ≡ seats) × (D.opened ≡ zone.state) }
     requires seats { (1 ≤ seats) × (seats ≤ 16) }
     requires counts { AreCounts seats (vec_len receivers) (vec_len clocks) }
     requires plan { IsPlan plan }
-    ensures served { IfOk result (λ r. IsServed zone.state r.finished r.datagrams r.turns) }
+    ensures served { IfOk result (λ r. IsServed zone.state r.finished r.datagrams r.turns
+        r.changes) }
     ensures counts { result ≢ Err ServeFault.WrongCounts }
 {
-    match ZoneLock::<P, D, T, U>::open(alloc, zone, seats, blanks) {
+    match ZoneLock::<P, D, T, U, V>::open(alloc, zone, seats, blanks) {
         Ok((lock, seats)) => serve(
-            rt, alloc, lock, seats, receivers, sender, gate, clocks, plan,
+            rt, alloc, lock, seats, receivers, sender, gate, clocks, orders, plan,
         ),
         Err((_, OpenFault::BadSeats)) => Err(ServeFault::WrongCounts),
         Err((_, OpenFault::Memory)) => Err(ServeFault::Memory),

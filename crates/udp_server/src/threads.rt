@@ -3,9 +3,10 @@
 ghost use Rattle.std.specs.Thread.{IsSend};
 
 use crate::datagrams::Datagrams;
-use crate::expiry_worker::expire;
+use crate::expiry_worker::{ExpiryRecord, expire};
 use crate::gate::Gate;
 use crate::moments::Moments;
+use crate::orders::Orders;
 use crate::receiver::work;
 use crate::sender::{SendCounts, send_all};
 use crate::worker::{Shared, Worker, WorkerRecord};
@@ -19,18 +20,30 @@ use std::thread;
 use std::thread::{JoinHandle, Scope, Threads};
 use zone_lock::Hall;
 
-/// Who makes steps: a worker for each receiving end, in order, and the expiry worker.
+/// Who makes steps: a worker for each receiving end, in order, and the expiry worker, with its
+/// orders.
 #[derive(Drop)]
-pub(crate) struct Crew<D: Hall, T: Ledger, U: Ledger, N: Datagrams, C: Moments> {
+pub(crate) struct Crew<
+    P: Pool,
+    D: Hall,
+    T: Ledger,
+    U: Ledger,
+    V: Ledger,
+    N: Datagrams,
+    C: Moments,
+> {
     pub(crate) receivers: Vec<N>,
-    pub(crate) workers: Vec<Worker<D, T, U, C>>,
-    pub(crate) expiry: Worker<D, T, U, C>,
+    pub(crate) workers: Vec<Worker<D, T, U, V, C>>,
+    pub(crate) expiry: Worker<D, T, U, V, C>,
+    pub(crate) orders: Orders<P>,
 }
 
-/// What the threads leave: what each worker leaves, in order, and what was sent.
+/// What the threads leave: what each worker leaves, in order; what came back of the orders; and what
+/// was sent.
 #[derive(Drop)]
-pub(crate) struct CrewRecord<D: Hall, T: Ledger, U: Ledger> {
-    pub(crate) workers: Vec<WorkerRecord<D, T, U>>,
+pub(crate) struct CrewRecord<P: Pool, D: Hall, T: Ledger, U: Ledger, V: Ledger> {
+    pub(crate) workers: Vec<WorkerRecord<D, T, U, V>>,
+    pub(crate) boxes: Vec<(usize, P, bool)>,
     pub(crate) sent: SendCounts,
 }
 
@@ -40,23 +53,24 @@ pub(crate) fn run<
     D: Hall + Send + Sync,
     T: Ledger + Send + Sync,
     U: Ledger + Send + Sync,
+    V: Ledger + Send + Sync,
     R: Threads + Wait + Clock + Sync,
     N: Datagrams + Send,
     G: Gate + Sync,
     C: Moments + Send,
 >(
-    shared: &Shared<'_, P, D, T, U, R, G>,
-    crew: Crew<D, T, U, N, C>,
+    shared: &Shared<'_, P, D, T, U, V, R, G>,
+    crew: Crew<P, D, T, U, V, N, C>,
     inlets: Vec<Inlet>,
     sender: N,
-) -> Result<CrewRecord<D, T, U>, AllocError> {
+) -> Result<CrewRecord<P, D, T, U, V>, AllocError> {
     let room = crew.workers.len();
     let handles = Vec::with_capacity(shared.alloc, room)?;
     let workers = Vec::with_capacity(shared.alloc, room.saturating_add(1))?;
     let record = thread::scope(
         thread::scope_env(),
         shared.rt,
-        |scope| -> Option<CrewRecord<D, T, U>>
+        |scope| -> Option<CrewRecord<P, D, T, U, V>>
             requires { IsSend P.row × IsSend D.row × IsSend T.row × IsSend U.row × IsSend N.row
                 × IsSend C.row }
         { run_in(scope, shared, crew, inlets, sender, handles, workers) },
@@ -73,23 +87,25 @@ fn run_in<
     D: Hall + Send + Sync + 's,
     T: Ledger + Send + Sync + 's,
     U: Ledger + Send + Sync + 's,
+    V: Ledger + Send + Sync + 's,
     R: Threads + Wait + Clock + Sync + 's,
     N: Datagrams + Send + 's,
     G: Gate + Sync + 's,
     C: Moments + Send + 's,
 >(
     scope: &'s Scope<'s, E>,
-    shared: &'s Shared<'s, P, D, T, U, R, G>,
-    crew: Crew<D, T, U, N, C>,
+    shared: &'s Shared<'s, P, D, T, U, V, R, G>,
+    crew: Crew<P, D, T, U, V, N, C>,
     inlets: Vec<Inlet>,
     sender: N,
-    handles: Vec<JoinHandle<WorkerRecord<D, T, U>>>,
-    records: Vec<WorkerRecord<D, T, U>>,
-) -> Option<CrewRecord<D, T, U>> {
+    handles: Vec<JoinHandle<WorkerRecord<D, T, U, V>>>,
+    records: Vec<WorkerRecord<D, T, U, V>>,
+) -> Option<CrewRecord<P, D, T, U, V>> {
     let Crew {
         receivers,
         workers,
         expiry,
+        orders,
     } = crew;
     let others = workers.len();
     let (mut handles, mut records) = (handles, records);
@@ -104,7 +120,7 @@ fn run_in<
             }
         }
     }
-    let Some(last) = start_expiry(scope, shared, others, expiry) else {
+    let Some(last) = start_expiry(scope, shared, others, expiry, orders) else {
         shared.board.cancel(shared.rt);
         return None;
     };
@@ -114,9 +130,11 @@ fn run_in<
     for handle in handles {
         let _ = records.push(handle.join(shared.rt));
     }
-    let _ = records.push(last.join(shared.rt));
+    let ExpiryRecord { worker, boxes } = last.join(shared.rt);
+    let _ = records.push(worker);
     Some(CrewRecord {
         workers: records,
+        boxes,
         sent,
     })
 }
@@ -129,16 +147,17 @@ fn start_worker<
     D: Hall + Send + Sync + 's,
     T: Ledger + Send + Sync + 's,
     U: Ledger + Send + Sync + 's,
+    V: Ledger + Send + Sync + 's,
     R: Threads + Wait + Clock + Sync + 's,
     N: Datagrams + Send + 's,
     G: Gate + Sync + 's,
     C: Moments + Send + 's,
 >(
     scope: &'s Scope<'s, E>,
-    shared: &'s Shared<'s, P, D, T, U, R, G>,
+    shared: &'s Shared<'s, P, D, T, U, V, R, G>,
     end: N,
-    worker: Worker<D, T, U, C>,
-) -> Option<JoinHandle<WorkerRecord<D, T, U>>> {
+    worker: Worker<D, T, U, V, C>,
+) -> Option<JoinHandle<WorkerRecord<D, T, U, V>>> {
     scope.spawn(move || work(shared, end, worker)).ok()
 }
 
@@ -150,14 +169,18 @@ fn start_expiry<
     D: Hall + Send + Sync + 's,
     T: Ledger + Send + Sync + 's,
     U: Ledger + Send + Sync + 's,
+    V: Ledger + Send + Sync + 's,
     R: Threads + Wait + Clock + Sync + 's,
     G: Gate + Sync + 's,
     C: Moments + Send + 's,
 >(
     scope: &'s Scope<'s, E>,
-    shared: &'s Shared<'s, P, D, T, U, R, G>,
+    shared: &'s Shared<'s, P, D, T, U, V, R, G>,
     others: usize,
-    worker: Worker<D, T, U, C>,
-) -> Option<JoinHandle<WorkerRecord<D, T, U>>> {
-    scope.spawn(move || expire(shared, others, worker)).ok()
+    worker: Worker<D, T, U, V, C>,
+    orders: Orders<P>,
+) -> Option<JoinHandle<ExpiryRecord<P, D, T, U, V>>> {
+    scope
+        .spawn(move || expire(shared, others, worker, orders))
+        .ok()
 }

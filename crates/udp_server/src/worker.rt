@@ -1,6 +1,6 @@
 //! One who makes steps of the zone, and hands the replies to the sender.
 
-ghost use Rattle.std.specs.Prelude.{◌≡◌, ◌+◌, min, IfOk};
+ghost use Rattle.std.specs.Prelude.{◌≡◌, ◌<◌, ◌+◌, min, IfOk, vec_capacity, vec_len};
 ghost use Rattle.std.specs.Option.{ForSome};
 ghost use Rattle.ras_machine.specs.Steps.{HasFewOctets};
 ghost use Rattle.udp_server.specs.Ends.{fault_count};
@@ -11,12 +11,13 @@ use crate::gate::{Gate, Stage};
 use crate::moments::Moments;
 use crate::plan::Plan;
 use books::{Chapter, Receipt};
-use pools::Pool;
+use pools::{Pool, ReplaceFault};
 use ras_core::{Event, Outcome, Prepared, StepFault, prepare};
 use reply_queues::Outlet;
 use std::alloc::{AllocError, Global};
 use std::sync::Wait;
 use std::sync::ledger::Ledger;
+use zone_config::Moment;
 use zone_events::{Datagram, Note};
 use zone_lock::{Hall, Seat, ZoneLock};
 
@@ -25,10 +26,10 @@ const MOST_SENT: usize = 20_000;
 
 /// What all threads of a server share.
 #[derive(Drop)]
-pub(crate) struct Shared<'a, P: Pool, D: Hall, T: Ledger, U: Ledger, R, G> {
+pub(crate) struct Shared<'a, P: Pool, D: Hall, T: Ledger, U: Ledger, V: Ledger, R, G> {
     pub(crate) rt: &'a R,
     pub(crate) alloc: Global,
-    pub(crate) lock: &'a ZoneLock<P, D, T, U>,
+    pub(crate) lock: &'a ZoneLock<P, D, T, U, V>,
     pub(crate) board: &'a Board,
     pub(crate) gate: &'a G,
     pub(crate) plan: Plan,
@@ -76,9 +77,9 @@ impl Counts {
 }
 
 /// One who makes steps.
-pub(crate) struct Worker<D: Hall, T: Ledger, U: Ledger, C: Moments> {
+pub(crate) struct Worker<D: Hall, T: Ledger, U: Ledger, V: Ledger, C: Moments> {
     pub(crate) number: usize,
-    pub(crate) seat: Seat<D, T, U>,
+    pub(crate) seat: Seat<D, T, U, V>,
     pub(crate) clock: C,
     pub(crate) outlet: Outlet,
     pub(crate) receipts: Vec<Receipt>,
@@ -86,7 +87,7 @@ pub(crate) struct Worker<D: Hall, T: Ledger, U: Ledger, C: Moments> {
 }
 
 // Written by hand, so that whoever owns a worker makes one call at each exit.
-impl<D: Hall, T: Ledger, U: Ledger, C: Moments> Drop for Worker<D, T, U, C> {
+impl<D: Hall, T: Ledger, U: Ledger, V: Ledger, C: Moments> Drop for Worker<D, T, U, V, C> {
     fn drop(self) {
         let Worker {
             number: _,
@@ -101,8 +102,8 @@ impl<D: Hall, T: Ledger, U: Ledger, C: Moments> Drop for Worker<D, T, U, C> {
 
 /// What a worker leaves at its end.
 #[derive(Drop)]
-pub(crate) struct WorkerRecord<D: Hall, T: Ledger, U: Ledger> {
-    pub(crate) seat: Seat<D, T, U>,
+pub(crate) struct WorkerRecord<D: Hall, T: Ledger, U: Ledger, V: Ledger> {
+    pub(crate) seat: Seat<D, T, U, V>,
     pub(crate) receipts: Vec<Receipt>,
     pub(crate) chapters: Vec<Chapter>,
     pub(crate) counts: Counts,
@@ -119,12 +120,12 @@ pub(crate) enum StepResult {
     Closed,
 }
 
-impl<D: Hall, T: Ledger, U: Ledger, C: Moments> Worker<D, T, U, C> {
+impl<D: Hall, T: Ledger, U: Ledger, V: Ledger, C: Moments> Worker<D, T, U, V, C> {
     /// Makes the step of an event, and hands its reply to the sender. What is needed of memory is
     /// there before the step.
     pub(crate) fn step<P: Pool, R: Wait, G: Gate>(
         &mut self,
-        shared: &Shared<'_, P, D, T, U, R, G>,
+        shared: &Shared<'_, P, D, T, U, V, R, G>,
         event: Event,
     ) -> StepResult {
         match self.ready(shared, event) {
@@ -140,7 +141,7 @@ impl<D: Hall, T: Ledger, U: Ledger, C: Moments> Worker<D, T, U, C> {
     /// a reply.
     fn ready<P: Pool, R: Wait, G: Gate>(
         &mut self,
-        shared: &Shared<'_, P, D, T, U, R, G>,
+        shared: &Shared<'_, P, D, T, U, V, R, G>,
         event: Event,
     ) -> Result<(Prepared, Option<Vec<u8>>), AllocError>
         ensures event { IfOk result (λ ready. ready.0 ≡ event) }
@@ -160,7 +161,7 @@ impl<D: Hall, T: Ledger, U: Ledger, C: Moments> Worker<D, T, U, C> {
     #[tactic(auto, using(crate::proofs::Steps::few_of))]
     fn apply<P: Pool, R: Wait, G: Gate>(
         &mut self,
-        shared: &Shared<'_, P, D, T, U, R, G>,
+        shared: &Shared<'_, P, D, T, U, V, R, G>,
         prepared: Prepared,
         buffer: Option<Vec<u8>>,
     ) -> StepResult
@@ -185,6 +186,38 @@ impl<D: Hall, T: Ledger, U: Ledger, C: Moments> Worker<D, T, U, C> {
         StepResult::Made { place, is_idle }
     }
 
+    /// Puts a fresh pool in the place of the zone's pool with this number. The old pool comes back.
+    /// If that can't be, the fresh one does: a want of memory is counted.
+    pub(crate) fn replace<P: Pool, R: Wait, G: Gate>(
+        &mut self,
+        shared: &Shared<'_, P, D, T, U, V, R, G>,
+        pool: usize,
+        fresh: P,
+        now: Moment,
+    ) -> Result<P, P> {
+        if shared.plan.receipts && self.receipts.reserve(1).is_err() {
+            self.counts.refuse();
+            return Err(fresh);
+        }
+        match shared
+            .lock
+            .replace(shared.rt, &mut self.seat, pool, fresh, now)
+        {
+            Ok((receipt, old)) => {
+                if shared.plan.receipts {
+                    self.keep(receipt);
+                }
+                Ok(old)
+            }
+            Err((fresh, fault)) => {
+                if fault == ReplaceFault::Memory {
+                    self.counts.refuse();
+                }
+                Err(fresh)
+            }
+        }
+    }
+
     /// What is sent. The receipt is kept if there is a buffer for the copy of what is sent.
     fn reply_of(&mut self, receipt: Receipt, buffer: Option<Vec<u8>>) -> Option<Datagram>
         requires few { HasFewOctets receipt.outcome.output }
@@ -201,8 +234,15 @@ impl<D: Hall, T: Ledger, U: Ledger, C: Moments> Worker<D, T, U, C> {
             Some(output) => Some(output.copy_into(buffer)),
             None => None,
         };
-        self.receipts.push_reserved(receipt);
+        self.keep(receipt);
         reply
+    }
+
+    /// Keeps a receipt, for which there is room.
+    fn keep(&mut self, receipt: Receipt)
+        requires { vec_len self.old.receipts < vec_capacity self.old.receipts }
+    {
+        self.receipts.push_reserved(receipt);
     }
 
     /// The same reply in memory of its own length, if there is any: the seat gets the buffer back,
@@ -221,7 +261,7 @@ impl<D: Hall, T: Ledger, U: Ledger, C: Moments> Worker<D, T, U, C> {
     /// Hands a reply to the sender. One that finds no place in the ring is dropped.
     fn post<P: Pool, R: Wait, G: Gate>(
         &mut self,
-        shared: &Shared<'_, P, D, T, U, R, G>,
+        shared: &Shared<'_, P, D, T, U, V, R, G>,
         reply: Datagram,
     ) {
         if self.outlet.offer(reply).is_err() {
@@ -233,9 +273,9 @@ impl<D: Hall, T: Ledger, U: Ledger, C: Moments> Worker<D, T, U, C> {
     /// Hands nothing more to the sender, and says so.
     pub(crate) fn end<P: Pool, R: Wait, G: Gate>(
         self,
-        shared: &Shared<'_, P, D, T, U, R, G>,
+        shared: &Shared<'_, P, D, T, U, V, R, G>,
         chapters: Vec<Chapter>,
-    ) -> WorkerRecord<D, T, U> {
+    ) -> WorkerRecord<D, T, U, V> {
         let Worker {
             number: _,
             seat,

@@ -5,29 +5,35 @@ use Rattle.std.specs.Prelude.{Option, None, Some}
 use Rattle.std.proofs.Common.{length-append}
 use Rattle.std.proofs.lemmas.List.Sums.{sum_by-append}
 use Rattle.admission.specs.Calls.{in_use}
+use Rattle.zone_events.specs.declared.change.Change.{Change}
+use Rattle.zone_events.specs.declared.change.Change.TheVariants.{Event, PoolChange}
+use Rattle.zone_events.specs.declared.outcome.Outcome.{Outcome}
 use Rattle.ras_machine.specs.State.{State}
 use Rattle.ras_core.specs.Running.{Running}
-use Rattle.ras_core.specs.Runs.{RunningStep}
+use Rattle.ras_core.specs.Runs.{ChangeStep, RunningChange}
 use Rattle.books.specs.declared.book.Entry.{Entry}
 use Rattle.books.specs.declared.totals.Totals.{Totals}
 use Rattle.books.specs.Books.{BookRun}
-use Rattle.books.specs.Totals.{datagrams_in, datagrams_of, lent_of, no_totals, returned_by}
+use Rattle.books.specs.Totals.{changes_in, changes_of, datagrams_in, datagrams_of, lent_of}
+use Rattle.books.specs.Totals.{no_totals, returned_by}
 use Rattle.books.specs.Totals.{totals_with, turns_in, turns_of, units_lent}
 use Rattle.books.proofs.Entries.{run_more, run_on}
 use Rattle.books.proofs.Spending.{book_is_fair, step_is_fair}
 use Rattle.ras_machine.specs.Soundness.{Sound}
 use Rattle.zone_lock.specs.Held.{AreCarriedOn, Held, IsInside, IsKept}
-use Rattle.zone_lock.proofs.Counted.{datagrams_more, turns_more, lent_more, all_counted, same_totals}
+use Rattle.zone_lock.proofs.Counted.{all_counted, changes_more, datagrams_more, lent_more}
+use Rattle.zone_lock.proofs.Counted.{same_totals, turns_more}
 
--- the totals so far have as many datagrams and turns as there are entries
-pub so_many : (opened : State) (h : Held) (sums : Totals) (units d t u : ℕ)
-    → IsInside opened h sums units d t u
-    → (sums.datagrams + sums.turns ≡ h.first + length h.entries)
+-- the totals so far have as many steps as there are entries
+pub so_many : (opened : State) (h : Held) (sums : Totals) (units d t u v : ℕ)
+    → IsInside opened h sums units d t u v
+    → (sums.datagrams + sums.turns + sums.changes ≡ h.first + length h.entries)
     × (h.first + length h.entries ≤ 2 ^ 62) × (sums.lent ≤ 2 ^ 64 * 2 ^ 62)
-so_many opened h sums units d t u is =
+so_many opened h sums units d t u v is =
     let ds = ap (λ (x : Totals). x.datagrams) is.so_far in
-    let ts = ap (λ (x : Totals). x.turns) is.so_far in (
-      omega (arith, ds, ts, all_counted h.entries, is.kept.first),
+    let ts = ap (λ (x : Totals). x.turns) is.so_far in
+    let cs = ap (λ (x : Totals). x.changes) is.so_far in (
+      omega (arith, ds, ts, cs, all_counted h.entries, is.kept.first),
       omega (arith, is.kept.few, is.kept.sound.steps),
       omega (arith, is.kept.few, is.kept.sound.steps, is.few_lent),
     )
@@ -42,39 +48,52 @@ longer h entry after = record {
   zone = after;
 }
 
+-- A step of a zone is one of its machine, and leads to a sound state.
+step_of : (old : Running) (event : Change) (outcome : Outcome) (new : Running)
+    → RunningChange old event outcome new → ChangeStep old.state event outcome new.state
+step_of old (Event event) outcome new step = step.step
+step_of old (PoolChange replacement) outcome new step = step.step
+
+sound_after : (old : Running) (event : Change) (outcome : Outcome) (new : Running)
+    → RunningChange old event outcome new → Sound new.state
+sound_after old (Event event) outcome new step = step.sound
+sound_after old (PoolChange replacement) outcome new step = step.sound
+
 kept_more : (opened : State) (h : Held) (entry : Entry) (after : Running) → IsKept opened h
-    → RunningStep h.zone entry.event entry.outcome after → IsKept opened (longer h entry after)
-kept_more opened h entry after kept step =
-    let fair = step_is_fair h.zone.state entry.event entry.outcome after.state step.step in record {
+    → RunningChange h.zone entry.event entry.outcome after → IsKept opened (longer h entry after)
+kept_more opened h entry after kept change =
+    let step = step_of h.zone entry.event entry.outcome after change in
+    let fair = step_is_fair h.zone.state entry.event entry.outcome after.state step in record {
       past = kept.past;
       began = kept.began;
       before = kept.before;
       places = kept.places;
       totals = kept.totals;
       base = kept.base;
-      run = run_more kept.began h.zone.state after.state h.entries entry kept.run step.step;
+      run = run_more kept.began h.zone.state after.state h.entries entry kept.run step;
       first = kept.first;
       opened_before = kept.opened_before;
       opened_at = kept.opened_at;
       settings = kept.settings;
       carried = kept.carried;
       backed = omega (arith, kept.backed, fair.units, lent_more h.entries entry);
-      sound = step.sound;
+      sound = sound_after h.zone entry.event entry.outcome after change;
       few = omega (arith, kept.few, fair.steps, length-append h.entries (entry ∷ []));
     }
 
-pub inside_more : (opened : State) (h : Held) (sums next : Totals) (units d t u d1 t1 u1 : ℕ)
-    (entry : Entry) (after : Running) → IsInside opened h sums units d t u
-    → RunningStep h.zone entry.event entry.outcome after
+pub inside_more : (opened : State) (h : Held) (sums next : Totals) (units d t u v d1 t1 u1 v1 : ℕ)
+    (entry : Entry) (after : Running) → IsInside opened h sums units d t u v
+    → RunningChange h.zone entry.event entry.outcome after
     → units_lent entry.outcome.answer < 2 ^ 64
     → next.datagrams ≡ sums.datagrams + datagrams_in entry.event
     → next.turns ≡ sums.turns + turns_in entry.event
     → next.lent ≡ sums.lent + units_lent entry.outcome.answer → next.returned ≡ sums.returned
+    → next.changes ≡ sums.changes + changes_in entry.event
     → d1 ≡ d + datagrams_in entry.event → t1 ≡ t + turns_in entry.event
-    → u1 ≡ u + units_lent entry.outcome.answer
-    → IsInside opened (longer h entry after) next units d1 t1 u1
-inside_more opened h sums next units d t u d1 t1 u1 entry after is step few ds ts us rs dt tt
-    ut = record {
+    → u1 ≡ u + units_lent entry.outcome.answer → v1 ≡ v + changes_in entry.event
+    → IsInside opened (longer h entry after) next units d1 t1 u1 v1
+inside_more opened h sums next units d t u v d1 t1 u1 v1 entry after is step few ds ts us rs cs dt
+    tt ut vt = record {
       kept = kept_more opened h entry after is.kept step;
       opened_units = is.opened_units;
       so_far = same_totals next (totals_with h.carried (h.entries ++ entry ∷ []) 0)
@@ -87,10 +106,17 @@ inside_more opened h sums next units d t u d1 t1 u1 entry after is step few ds t
           ))
           (omega (arith, ts, turns_more h.entries entry, ap (λ (x : Totals). x.turns) is.so_far))
           (omega (arith, us, lent_more h.entries entry, ap (λ (x : Totals). x.lent) is.so_far))
-          (rs ∙ ap (λ (x : Totals). x.returned) is.so_far);
+          (rs ∙ ap (λ (x : Totals). x.returned) is.so_far)
+          (omega (
+            arith,
+            cs,
+            changes_more h.entries entry,
+            ap (λ (x : Totals). x.changes) is.so_far,
+          ));
       datagrams = omega (arith, dt, ds, is.datagrams);
       turns = omega (arith, tt, ts, is.turns);
       lent = omega (arith, ut, us, is.lent);
+      changes = omega (arith, vt, cs, is.changes);
       few_lent = omega (arith, us, is.few_lent, few, length-append h.entries (entry ∷ []));
     }
 
@@ -109,9 +135,9 @@ no_entries [] is = refl
 no_entries (e ∷ es) is = absurd (cc is)
 
 -- no more is in use than was lent since the zone was locked, beside what was in use then
-pub backed_all : (opened : State) (h : Held) (sums : Totals) (units d t u : ℕ)
-    → IsInside opened h sums units d t u → in_use h.zone.state.tables.calls ≤ units + sums.lent
-backed_all opened h sums units d t u is =
+pub backed_all : (opened : State) (h : Held) (sums : Totals) (units d t u v : ℕ)
+    → IsInside opened h sums units d t u v → in_use h.zone.state.tables.calls ≤ units + sums.lent
+backed_all opened h sums units d t u v is =
     omega (
       arith,
       is.kept.backed,
@@ -120,10 +146,11 @@ backed_all opened h sums units d t u is =
       ap (λ (x : Totals). x.lent) is.so_far,
     )
 
-module _ (opened : State) (h : Held) (sums carried : Totals) (units d t u : ℕ)
-    (is : IsInside opened h sums units d t u) (ds : carried.datagrams ≡ sums.datagrams)
+module _ (opened : State) (h : Held) (sums carried : Totals) (units d t u v : ℕ)
+    (is : IsInside opened h sums units d t u v) (ds : carried.datagrams ≡ sums.datagrams)
     (ts : carried.turns ≡ sums.turns) (us : carried.lent ≡ sums.lent)
-    (rs : carried.returned ≡ units + sums.lent - in_use h.zone.state.tables.calls) where
+    (rs : carried.returned ≡ units + sums.lent - in_use h.zone.state.tables.calls)
+    (cs : carried.changes ≡ sums.changes) where
   pub carried_is : carried
       ≡ totals_with h.carried h.entries (returned_by is.kept.began h.entries h.zone.state)
   carried_is =
@@ -140,6 +167,7 @@ module _ (opened : State) (h : Held) (sums carried : Totals) (units d t u : ℕ)
         is.kept.backed,
         ap (λ (x : Totals). x.lent) is.so_far,
       ))
+      (cs ∙ ap (λ (x : Totals). x.changes) is.so_far)
 
   at_opening : h.first + length h.entries ≡ 0 → (h.zone.state ≡ opened) × (carried ≡ no_totals)
   at_opening none =
@@ -148,7 +176,7 @@ module _ (opened : State) (h : Held) (sums carried : Totals) (units d t u : ℕ)
       let now : h.zone.state ≡ is.kept.began =
       subst (λ (es : List Entry). BookRun is.kept.began es h.zone.state) empty is.kept.run in
       let same : h.zone.state ≡ opened = now ∙ (is.kept.opened_at begun).0 in
-      let many = so_many opened h sums units d t u is in (
+      let many = so_many opened h sums units d t u v is in (
         same,
         same_totals carried no_totals
             (omega (arith, ds, many.0, none))
@@ -161,7 +189,8 @@ module _ (opened : State) (h : Held) (sums carried : Totals) (units d t u : ℕ)
               none,
               is.opened_units,
               ap (λ (s : State). in_use s.tables.calls) same,
-            )),
+            ))
+            (omega (arith, cs, many.0, none)),
       )
 
   totals_joined : AreCarriedOn no_totals (is.kept.past ++ h.entries) carried
@@ -188,6 +217,13 @@ module _ (opened : State) (h : Held) (sums carried : Totals) (units d t u : ℕ)
           is.kept.totals.lent,
           sum_by-append (λ (x : Entry). units_lent x.outcome.answer) past h.entries,
         );
+        changes = omega (
+          arith,
+          cs,
+          ap (λ (x : Totals). x.changes) is.so_far,
+          is.kept.totals.changes,
+          sum_by-append (λ (x : Entry). changes_in x.event) past h.entries,
+        );
       }
 
   kept_cut : IsKept opened (cut_so (h.first + length h.entries) carried None [] h.zone)
@@ -202,18 +238,18 @@ module _ (opened : State) (h : Held) (sums carried : Totals) (units d t u : ℕ)
         totals = totals_joined;
         base = λ s is_base. absurd (cc is_base);
         run = refl;
-        first = omega (arith, ds, ts, (so_many opened h sums units d t u is).0);
+        first = omega (arith, ds, ts, cs, (so_many opened h sums units d t u v is).0);
         opened_before = is.kept.opened_before;
         opened_at = at_opening;
         settings = fair.settings ∙ is.kept.settings;
-        carried = omega (arith, rs, us, is.opened_units, backed_all opened h sums units d t u is);
+        carried = omega (arith, rs, us, is.opened_units, backed_all opened h sums units d t u v is);
         backed = omega (arith, none);
         sound = is.kept.sound;
         few = omega (arith, is.kept.few);
       }
 
   pub inside_cut : IsInside opened (cut_so (h.first + length h.entries) carried None [] h.zone)
-      carried units d t u
+      carried units d t u v
   inside_cut = record {
     kept = kept_cut;
     opened_units = is.opened_units;
@@ -221,27 +257,30 @@ module _ (opened : State) (h : Held) (sums carried : Totals) (units d t u : ℕ)
         (let none : datagrams_of [] ≡ 0 = refl in omega (arith, none))
         (let none : turns_of [] ≡ 0 = refl in omega (arith, none))
         (let none : lent_of [] ≡ 0 = refl in omega (arith, none))
-        (omega arith);
+        (omega arith)
+        (let none : changes_of [] ≡ 0 = refl in omega (arith, none));
     datagrams = is.datagrams ∙ sym ds;
     turns = is.turns ∙ sym ts;
     lent = is.lent ∙ sym us;
+    changes = is.changes ∙ sym cs;
     few_lent = omega (arith, us, is.few_lent);
   }
 
 -- A zone that is locked, before its first step.
 pub inside_opened : (opened : State) (zone : Running) (base : State) (es : List Entry)
-    (carried sums : Totals) (units d t u : ℕ) → opened ≡ zone.state → Sound zone.state
+    (carried sums : Totals) (units d t u v : ℕ) → opened ≡ zone.state → Sound zone.state
     → base ≡ zone.state → es ≡ [] → carried ≡ no_totals → sums ≡ no_totals
-    → units ≡ in_use zone.state.tables.calls → d ≡ 0 → t ≡ 0 → u ≡ 0
-    → IsInside opened (cut_so 0 carried (Some base) es zone) sums units d t u
-inside_opened opened zone base es carried sums units d t u at sound based none nothing sum used ds
-    ts us =
+    → units ≡ in_use zone.state.tables.calls → d ≡ 0 → t ≡ 0 → u ≡ 0 → v ≡ 0
+    → IsInside opened (cut_so 0 carried (Some base) es zone) sums units d t u v
+inside_opened opened zone base es carried sums units d t u v at sound based none nothing sum used
+    ds ts us vs =
     let same : zone.state ≡ opened = sym at in
     let backs : in_use zone.state.tables.calls ≡ in_use opened.tables.calls =
     ap (λ (s : State). in_use s.tables.calls) same in
     let d0 = ap (λ (x : Totals). x.datagrams) nothing in
     let t0 = ap (λ (x : Totals). x.turns) nothing in
     let l0 = ap (λ (x : Totals). x.lent) nothing in
+    let c0 = ap (λ (x : Totals). x.changes) nothing in
     let r0 = ap (λ (x : Totals). x.returned) nothing in
     let n0 : length es ≡ 0 = ap length none in
     let e0 : lent_of es ≡ 0 = ap lent_of none in record {
@@ -254,10 +293,11 @@ inside_opened opened zone base es carried sums units d t u at sound based none n
           datagrams = omega (arith, d0);
           turns = omega (arith, t0);
           lent = omega (arith, l0);
+          changes = omega (arith, c0);
         };
         base = λ s is_base. (let it : base ≡ s = cc is_base in sym it ∙ based);
         run = subst (λ (xs : List Entry). BookRun zone.state xs zone.state) (sym none) refl;
-        first = omega (arith, d0, t0);
+        first = omega (arith, d0, t0, c0);
         opened_before = subst Sound same sound;
         opened_at = λ _. (same, nothing);
         settings = ap (λ (s : State). s.tables.config) same;
@@ -272,15 +312,16 @@ inside_opened opened zone base es carried sums units d t u at sound based none n
       datagrams = omega (arith, ds, ap (λ (x : Totals). x.datagrams) sum);
       turns = omega (arith, ts, ap (λ (x : Totals). x.turns) sum);
       lent = omega (arith, us, ap (λ (x : Totals). x.lent) sum);
+      changes = omega (arith, vs, ap (λ (x : Totals). x.changes) sum);
       few_lent = omega (arith, ap (λ (x : Totals). x.lent) sum);
     }
 
 -- Without entries, the book begins in the state of the zone, and a copy of it may be kept.
-pub inside_based : (opened : State) (h : Held) (sums : Totals) (units d t u : ℕ)
+pub inside_based : (opened : State) (h : Held) (sums : Totals) (units d t u v : ℕ)
     (next : Option State)
-    → IsInside opened h sums units d t u → h.entries ≡ [] → next ≡ Some h.zone.state
-    → IsInside opened (cut_so h.first h.carried next h.entries h.zone) sums units d t u
-inside_based opened h sums units d t u next is none same =
+    → IsInside opened h sums units d t u v → h.entries ≡ [] → next ≡ Some h.zone.state
+    → IsInside opened (cut_so h.first h.carried next h.entries h.zone) sums units d t u v
+inside_based opened h sums units d t u v next is none same =
     let now : h.zone.state ≡ is.kept.began =
     subst (λ (es : List Entry). BookRun is.kept.began es h.zone.state) none is.kept.run in record {
       kept = record {
@@ -307,5 +348,6 @@ inside_based opened h sums units d t u next is none same =
       datagrams = is.datagrams;
       turns = is.turns;
       lent = is.lent;
+      changes = is.changes;
       few_lent = is.few_lent;
     }

@@ -1,10 +1,14 @@
 -- What is told of the zone that was locked.
-use Rattle.std.proofs.Common.{◌≡◌, ◌+◌, [], ◌∷◌, ◌++◌}
+use Rattle.std.proofs.Common.{◌≡◌, ◌+◌, ℕ, [], ◌∷◌, ◌++◌}
 use Rattle.std.proofs.Common.{length, ap, subst, Ok, Err, IfOk}
-use Rattle.std.specs.Prelude.{Result, None, Some, ◌↔◌}
-use Rattle.zone_events.specs.declared.event.Event.{Event}
+use Rattle.std.specs.Prelude.{Result, None, Some, IfErr, MatchResult, ◌↔◌}
+use Rattle.pools.specs.Account.{Account}
+use Rattle.pools.specs.declared.fault.ReplaceFault.{ReplaceFault}
+use Rattle.zone_events.specs.declared.change.Change.{Change}
+use Rattle.zone_events.specs.declared.change.Change.TheVariants as change
 use Rattle.ras_machine.specs.State.{State}
-use Rattle.ras_core.specs.Runs.{RunningStep}
+use Rattle.ras_core.specs.Replacing.{IsOldPool, IsRefusalOrMemory, change_by, fault_unasked}
+use Rattle.ras_core.specs.Runs.{RunningChange, RunningReplacement}
 use Rattle.books.specs.declared.book.Receipt.{Receipt}
 use Rattle.books.specs.Chapters.{ChapterValue}
 use Rattle.ras_machine.specs.Machine.{most_steps}
@@ -12,15 +16,15 @@ use Rattle.ras_core.specs.declared.fault.StepFault.{StepFault}
 use Rattle.zone_lock.specs.declared.listing.Listing.{Listing}
 use Rattle.zone_lock.specs.Held.{Held, IsKept}
 use Rattle.zone_lock.specs.Held.{IsChapterUnderLock, IsClosed, IsOpen}
-use Rattle.zone_lock.specs.Held.{IsStepUnderLock}
+use Rattle.zone_lock.specs.Held.{IsRefusedUnderLock, IsReplacedUnderLock, IsStepUnderLock}
 use Rattle.zone_lock.specs.Held.{IsWithoutBase, entry_by, receipt_at}
 use Rattle.zone_lock.specs.Listings.{IsListing, IsListingUnderLock}
 use Rattle.zone_lock.specs.Seats.{Seated}
 
 -- a step of the zone that was locked is one of some sound zone
 pub step_under_lock : (opened : State) (r : Result Receipt StepFault) (old new : Held) (s : Seated)
-    (event : Event) → IsKept opened old → IsKept opened new
-    → IfOk r (λ receipt. RunningStep old.zone event receipt.outcome new.zone)
+    (event : Change) → IsKept opened old → IsKept opened new
+    → IfOk r (λ receipt. RunningChange old.zone event receipt.outcome new.zone)
     → IfOk r (λ receipt. new.entries
     ≡ old.entries ++ entry_by s.number s.calls event receipt.outcome ∷ [])
     → IfOk r (λ receipt. receipt ≡ receipt_at (old.first + length old.entries)
@@ -41,8 +45,8 @@ step_under_lock opened (Err fault) old new s event before after step entries tol
 
 -- the same, of the seat and the event that were handed in
 pub step_told : (opened : State) (r : Result Receipt StepFault) (old new : Held) (t s : Seated)
-    (made event : Event) → t ≡ s → made ≡ event → IsKept opened old → IsKept opened new
-    → IfOk r (λ receipt. RunningStep old.zone made receipt.outcome new.zone)
+    (made event : Change) → t ≡ s → made ≡ event → IsKept opened old → IsKept opened new
+    → IfOk r (λ receipt. RunningChange old.zone made receipt.outcome new.zone)
     → IfOk r (λ receipt. new.entries
     ≡ old.entries ++ entry_by t.number t.calls made receipt.outcome ∷ [])
     → IfOk r (λ receipt. receipt ≡ receipt_at (old.first + length old.entries)
@@ -52,7 +56,7 @@ pub step_told : (opened : State) (r : Result Receipt StepFault) (old new : Held)
 step_told opened r old new t s made event same_seat same before after step entries told first =
     subst (λ (x : Seated). IfOk r (λ receipt. IsStepUnderLock opened receipt.place
     (entry_by x.number x.calls event receipt.outcome))) same_seat
-    (subst (λ (e : Event). IfOk r (λ receipt. IsStepUnderLock opened receipt.place
+    (subst (λ (e : Change). IfOk r (λ receipt. IsStepUnderLock opened receipt.place
     (entry_by t.number t.calls e receipt.outcome))) same
     (step_under_lock opened r old new t made before after step entries told first))
 
@@ -99,3 +103,45 @@ chapter_under_lock opened E (Ok chapter) h kept is begun = record {
   end = ap (λ (x : ChapterValue). x.end) is;
 }
 chapter_under_lock opened E (Err fault) h kept is begun = tt
+
+-- A pool of the zone that was locked was replaced: that is a step of some sound zone, and its old
+-- pool comes back.
+module _ {P : Type 0} (account : P → Account) (opened : State) where
+  pub replaced_under_lock : (r : Result (Receipt × P) (P × ReplaceFault)) (old new : Held)
+      (s : Seated) (pool : ℕ) (fresh : Account) (moment : ℕ) → IsKept opened old → IsKept opened new
+      → IfOk r (λ done. RunningReplacement old.zone (change_by pool fresh moment) done.0.outcome
+      new.zone)
+      → IfOk r (λ done. IsOldPool old.zone pool (account done.1))
+      → IfOk r (λ done. new.entries ≡ old.entries ++ entry_by s.number s.calls
+      (change.PoolChange (change_by pool fresh moment)) done.0.outcome ∷ [])
+      → IfOk r (λ done. done.0 ≡ receipt_at (old.first + length old.entries)
+      (entry_by s.number s.calls (change.PoolChange (change_by pool fresh moment)) done.0.outcome))
+      → new.first ≡ old.first
+      → IfOk r (λ done. IsReplacedUnderLock opened done.0.place
+      (entry_by s.number s.calls (change.PoolChange (change_by pool fresh moment)) done.0.outcome)
+      pool (account done.1))
+  replaced_under_lock (Ok done) old new s pool fresh moment before after step back entries told
+      first = record {
+        made = record {
+          old = old;
+          new = new;
+          before = before;
+          after = after;
+          step = step;
+          entries = entries;
+          first = first;
+          is_at = ap (λ (x : Receipt). x.place) told;
+        };
+        old_pool = back;
+      }
+  replaced_under_lock (Err refused) old new s pool fresh moment before after step back entries told
+      first = tt
+
+  pub refused_under_lock : (r : Result (Receipt × P) (P × ReplaceFault)) (h : Held) (pool : ℕ)
+      (fresh : Account) → IsKept opened h
+      → MatchResult r (λ _. fault_unasked h.zone.state pool fresh ≡ None)
+      (λ refused. IsRefusalOrMemory h.zone.state pool fresh (account refused.0) refused.1)
+      → IfErr r (λ refused. IsRefusedUnderLock opened pool fresh (account refused.0) refused.1)
+  refused_under_lock (Ok done) h pool fresh kept refusal = tt
+  refused_under_lock (Err refused) h pool fresh kept refusal =
+      record { held = h; kept = kept; refusal = refusal }

@@ -3,20 +3,24 @@ use Rattle.std.specs.Prelude.{◌≡◌, ◌≢◌, ◌≤◌, ◌+◌, ◌*◌,
 use Rattle.std.specs.Prelude.{None, Some}
 use Rattle.std.specs.Option.{ForSome}
 use Rattle.admission.specs.Calls.{in_use}
+use Rattle.pools.specs.Account.{Account}
+use Rattle.pools.specs.declared.fault.ReplaceFault.{ReplaceFault}
 use Rattle.zone_config.specs.Defaults.{default_parts}
-use Rattle.zone_events.specs.declared.event.Event.{Event}
+use Rattle.zone_events.specs.declared.change.Change.{Change}
 use Rattle.zone_events.specs.declared.outcome.Outcome.{Outcome}
 use Rattle.ras_machine.specs.State.{State, opening}
 use Rattle.ras_machine.specs.Machine.{most_steps}
 use Rattle.ras_machine.specs.Soundness.{Sound}
 use Rattle.ras_core.specs.Running.{Running}
-use Rattle.ras_core.specs.Runs.{RunningStep}
+use Rattle.ras_core.specs.Replacing.{IsOldPool, IsRefusalOrMemory}
+use Rattle.ras_core.specs.Runs.{RunningChange}
 use Rattle.books.specs.declared.book.Entry.{Entry}
 use Rattle.books.specs.declared.book.Receipt.{Receipt}
 use Rattle.books.specs.declared.totals.Totals.{Totals}
 use Rattle.books.specs.Books.{BookRun}
 use Rattle.books.specs.Chapters.{ChapterValue, FinishedValue}
-use Rattle.books.specs.Totals.{datagrams_of, lent_of, no_totals, totals_with, turns_of}
+use Rattle.books.specs.Totals.{changes_of, datagrams_of, lent_of, no_totals, totals_with}
+use Rattle.books.specs.Totals.{turns_of}
 
 -- a state of a zone without pools
 abbrev pub idle_state : State
@@ -43,6 +47,7 @@ pub record AreCarriedOn (before : Totals) (entries : List Entry) (after : Totals
   pub datagrams : after.datagrams ≡ before.datagrams + datagrams_of entries
   pub turns : after.turns ≡ before.turns + turns_of entries
   pub lent : after.lent ≡ before.lent + lent_of entries
+  pub changes : after.changes ≡ before.changes + changes_of entries
 
 -- What holds whenever the lock is free. The steps before the book, kept or not, are a run from the
 -- state in which the zone was locked to the one in which the book began: as many as the place of
@@ -58,7 +63,7 @@ pub record IsKept (opened : State) (h : Held) : Type 0 where
   pub totals : AreCarriedOn no_totals past h.carried
   pub base : ForSome h.base (λ base. base ≡ began)
   pub run : BookRun began h.entries h.zone.state
-  pub first : h.carried.datagrams + h.carried.turns ≡ h.first
+  pub first : h.carried.datagrams + h.carried.turns + h.carried.changes ≡ h.first
   pub opened_before : Sound opened
   pub opened_at : h.first ≡ 0 → (began ≡ opened) × (h.carried ≡ no_totals)
   pub settings : began.tables.config ≡ opened.tables.config
@@ -71,17 +76,18 @@ pub record IsKept (opened : State) (h : Held) : Type 0 where
 -- was locked; the totals so far are those before the book with what its entries add, and each
 -- ledger has the total of its kind; no step lends 2^64 units.
 pub record IsInside (opened : State) (h : Held) (sums : Totals)
-    (units all_datagrams all_turns all_lent : ℕ) : Type 0 where
+    (units all_datagrams all_turns all_lent all_changes : ℕ) : Type 0 where
   pub kept : IsKept opened h
   pub opened_units : units ≡ in_use opened.tables.calls
   pub so_far : sums ≡ totals_with h.carried h.entries 0
   pub datagrams : all_datagrams ≡ sums.datagrams
   pub turns : all_turns ≡ sums.turns
   pub lent : all_lent ≡ sums.lent
+  pub changes : all_changes ≡ sums.changes
   pub few_lent : sums.lent ≤ 2 ^ 64 * (h.first + length h.entries)
 
 -- an entry of a seat, by its number and by how many steps it made before
-abbrev pub entry_by : ℕ → ℕ → Event → Outcome → Entry
+abbrev pub entry_by : ℕ → ℕ → Change → Outcome → Entry
 entry_by seat call event outcome = record {
   seat = seat;
   call = call;
@@ -109,10 +115,24 @@ pub record IsStepUnderLock (opened : State) (place : ℕ) (entry : Entry) : Type
   pub new : Held
   pub before : IsKept opened old
   pub after : IsKept opened new
-  pub step : RunningStep old.zone entry.event entry.outcome new.zone
+  pub step : RunningChange old.zone entry.event entry.outcome new.zone
   pub entries : new.entries ≡ old.entries ++ entry ∷ []
   pub first : new.first ≡ old.first
   pub is_at : place ≡ old.first + length old.entries
+
+-- a pool was replaced by one step: its entry stands behind the others then, and the old pool, seen as
+-- this account, came back with nothing lent
+pub record IsReplacedUnderLock (opened : State) (place : ℕ) (entry : Entry) (pool : ℕ)
+    (back : Account) : Type 0 where
+  pub made : IsStepUnderLock opened place entry
+  pub old_pool : IsOldPool made.old.zone pool back
+
+-- no pool was replaced, for this reason
+pub record IsRefusedUnderLock (opened : State) (pool : ℕ) (fresh back : Account)
+    (fault : ReplaceFault) : Type 0 where
+  pub held : Held
+  pub kept : IsKept opened held
+  pub refusal : IsRefusalOrMemory held.zone.state pool fresh back fault
 
 -- as many steps were made as there may be
 pub record IsClosed (opened : State) : Type 0 where

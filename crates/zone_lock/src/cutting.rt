@@ -48,8 +48,8 @@ impl CutFault {
 /// copied once, is the end of the chapter and the base of what comes. It is refused as NoBase if
 /// and only if the state in which the chapter would begin was let go. If it is refused, nothing has
 /// changed.
-pub fn cut_locked<P: Pool, D: Hall, T: Ledger, U: Ledger>(
-    locked: &mut Locked<P, D, T, U>,
+pub fn cut_locked<P: Pool, D: Hall, T: Ledger, U: Ledger, V: Ledger>(
+    locked: &mut Locked<P, D, T, U, V>,
 ) -> Result<Chapter, CutFault>
     ensures chapter { IfOk result (λ chapter. chapter ≡ record {
       first = locked.old.first;
@@ -112,8 +112,8 @@ fn ends_of<P: Pool>(
 /// Takes the entries so far out, with the copy of the state in which they began, if there is one.
 /// The state to which they lead isn't copied: what comes next begins there, and no copy says so.
 /// The entries that come next stand in `room`, which has none yet. This takes no memory.
-pub fn discard_locked<P: Pool, D: Hall, T: Ledger, U: Ledger>(
-    locked: &mut Locked<P, D, T, U>,
+pub fn discard_locked<P: Pool, D: Hall, T: Ledger, U: Ledger, V: Ledger>(
+    locked: &mut Locked<P, D, T, U, V>,
     room: Vec<Entry>,
 ) -> Discarded
     requires { room.items ≡ [] }

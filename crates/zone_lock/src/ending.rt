@@ -4,7 +4,7 @@ ghost use Rattle.std.specs.Prelude.{◌≡◌, ◌≤◌, ◌+◌, ◌^◌, [], 
 ghost use Rattle.std.specs.Prelude.{OnSome};
 ghost use Rattle.ras_machine.specs.Soundness.{Sound};
 ghost use Rattle.books.specs.Books.{BookRun};
-ghost use Rattle.books.specs.Totals.{datagrams_of, lent_of, returned_by, turns_of};
+ghost use Rattle.books.specs.Totals.{changes_of, datagrams_of, lent_of, returned_by, turns_of};
 ghost use Rattle.zone_lock.specs.Held.{IsKept, IsLedInUse, IsLeft, IsWholeHistory};
 
 use crate::cutting::discard_locked;
@@ -17,15 +17,16 @@ use std::sync::ledger::Ledger;
 /// Takes the zone out of what stood behind a lock, with its history since the last chapter. If
 /// entries were discarded, so are those since then, and the history is left without entries. This
 /// takes no memory.
-pub fn finish_locked<P: Pool, D: Hall, T: Ledger, U: Ledger>(
-    locked: Locked<P, D, T, U>,
+pub fn finish_locked<P: Pool, D: Hall, T: Ledger, U: Ledger, V: Ledger>(
+    locked: Locked<P, D, T, U, V>,
 ) -> Finished<P>
     ensures left { IsLeft locked result }
     ensures history { IsWholeHistory D.opened result }
     ensures run { BookRun result.base result.entries result.zone.state }
     ensures sound { Sound result.zone.state }
     ensures opened { result.first ≡ 0 → result.base ≡ D.opened }
-    ensures first { result.carried.datagrams + result.carried.turns ≡ result.first }
+    ensures first { result.carried.datagrams + result.carried.turns + result.carried.changes
+        ≡ result.first }
     ensures few { result.first + length result.entries ≤ 2 ^ 62 }
     ensures datagrams { result.carried.datagrams + datagrams_of result.entries
         ≡ locked.carried.datagrams + datagrams_of locked.entries }
@@ -33,6 +34,8 @@ pub fn finish_locked<P: Pool, D: Hall, T: Ledger, U: Ledger>(
         ≡ locked.carried.turns + turns_of locked.entries }
     ensures lent { result.carried.lent + lent_of result.entries
         ≡ locked.carried.lent + lent_of locked.entries }
+    ensures changes { result.carried.changes + changes_of result.entries
+        ≡ locked.carried.changes + changes_of locked.entries }
     ensures in_use { IsLedInUse D.opened result.zone.state
         (result.carried.lent + lent_of result.entries)
         (result.carried.returned + returned_by result.base result.entries result.zone.state) }
@@ -53,7 +56,9 @@ pub fn finish_locked<P: Pool, D: Hall, T: Ledger, U: Ledger>(
 
 /// What stood behind a lock. If no copy of the state in which its entries begin is kept, they are
 /// let go, and it begins in the state of the zone.
-fn settled<P: Pool, D: Hall, T: Ledger, U: Ledger>(locked: Locked<P, D, T, U>) -> Locked<P, D, T, U>
+fn settled<P: Pool, D: Hall, T: Ledger, U: Ledger, V: Ledger>(
+    locked: Locked<P, D, T, U, V>,
+) -> Locked<P, D, T, U, V>
     ensures kept { IsKept D.opened result }
     ensures left { OnSome locked.base (result ≡ locked) }
     ensures begun { result.base ≡ None → result.entries ≡ [] }
@@ -66,6 +71,8 @@ fn settled<P: Pool, D: Hall, T: Ledger, U: Ledger>(locked: Locked<P, D, T, U>) -
         ≡ locked.carried.turns + turns_of locked.entries }
     ensures lent { result.carried.lent + lent_of result.entries
         ≡ locked.carried.lent + lent_of locked.entries }
+    ensures changes { result.carried.changes + changes_of result.entries
+        ≡ locked.carried.changes + changes_of locked.entries }
 {
     let mut locked = locked;
     if locked.base.is_none() {

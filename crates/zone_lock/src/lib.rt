@@ -11,6 +11,7 @@ mod listing;
 mod lock;
 mod locked;
 mod order;
+mod replacing;
 mod seat;
 
 pub use cutting::{CutFault, Discarded, cut_locked, discard_locked};
@@ -18,4 +19,5 @@ pub use ending::finish_locked;
 pub use listing::Listing;
 pub use lock::{Blanks, OpenFault, ZoneLock};
 pub use locked::{Locked, apply_locked, list_locked};
+pub use replacing::replace_locked;
 pub use seat::{Hall, Seat};

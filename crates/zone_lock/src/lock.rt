@@ -2,12 +2,14 @@
 
 ghost use Rattle.std.specs.Prelude.{◌≡◌, ◌≢◌, ◌≤◌, ◌+◌, ◌<◌, ℕ, Some, slice_get, sum_by, vec_len};
 ghost use Rattle.std.specs.Prelude.{◌^◌, length, IfOk, IfErr, OnOk, OnErr, vec_capacity, ◌⊎◌, []};
+ghost use Rattle.pools.specs.Replacing.{IsHandedBack};
 ghost use Rattle.ras_machine.specs.Soundness.{Sound};
+ghost use Rattle.ras_core.specs.Replacing.{change_by};
 ghost use Rattle.books.specs.Books.{BookRun};
-ghost use Rattle.books.specs.Totals.{datagrams_of, lent_of, returned_by, turns_of};
+ghost use Rattle.books.specs.Totals.{changes_of, datagrams_of, lent_of, returned_by, turns_of};
 ghost use Rattle.zone_lock.specs.Held.{IsBookUnderLock, IsChapterUnderLock, IsClosed};
 ghost use Rattle.zone_lock.specs.Held.{IsLedInUse, IsOpen, IsStepUnderLock, IsWholeHistory};
-ghost use Rattle.zone_lock.specs.Held.{IsWithoutBase};
+ghost use Rattle.zone_lock.specs.Held.{IsRefusedUnderLock, IsReplacedUnderLock, IsWithoutBase};
 ghost use Rattle.zone_lock.specs.Held.{entry_by, receipt_at};
 ghost use Rattle.zone_lock.specs.Faults.{open_fault_number};
 ghost use Rattle.zone_lock.specs.Listings.{IsListingUnderLock};
@@ -19,25 +21,26 @@ use crate::ledgers::Ledgers;
 use crate::listing::Listing;
 use crate::locked::{Locked, fault_without_order, list_locked, make_step};
 use crate::order::Order;
+use crate::replacing::replace_locked;
 use crate::seat::{Hall, Seat};
 use books::{Chapter, Entry, Finished, Receipt, SharedSnapshot, Totals};
-use pools::Pool;
-use ras_core::{Prepared, StepFault, Zone};
+use pools::{Pool, ReplaceFault};
+use ras_core::{Change, Moment, Prepared, StepFault, Zone};
 use std::alloc::{AllocError, Global};
 use std::sync::ledger::{Blank, Ledger, Share};
 use std::sync::{Mutex, Wait};
 
 /// A zone behind a lock.
-pub struct ZoneLock<P: Pool, D: Hall, T: Ledger, U: Ledger> {
+pub struct ZoneLock<P: Pool, D: Hall, T: Ledger, U: Ledger, V: Ledger> {
     alloc: Global,
     seats: usize,
-    inner: Mutex<Locked<P, D, T, U>>,
+    inner: Mutex<Locked<P, D, T, U, V>>,
     ghost some: { 0 < seats },
     ghost all: { seats ≡ D.all },
 }
 
 // Written by hand, so that whoever owns a lock makes one call at each exit.
-impl<P: Pool, D: Hall, T: Ledger, U: Ledger> Drop for ZoneLock<P, D, T, U> {
+impl<P: Pool, D: Hall, T: Ledger, U: Ledger, V: Ledger> Drop for ZoneLock<P, D, T, U, V> {
     fn drop(self) {
         let ZoneLock {
             alloc: _,
@@ -47,12 +50,14 @@ impl<P: Pool, D: Hall, T: Ledger, U: Ledger> Drop for ZoneLock<P, D, T, U> {
     }
 }
 
-/// Three new ledgers, with a part for each seat: of datagrams, of turns, and of units lent.
+/// Four new ledgers, with a part for each seat: of datagrams, of turns, of units lent, and of pools
+/// that took the place of others.
 #[derive(Drop)]
 pub struct Blanks {
     pub datagrams: Blank,
     pub turns: Blank,
     pub lent: Blank,
+    pub changes: Blank,
 }
 
 impl Blanks {
@@ -61,11 +66,13 @@ impl Blanks {
         ensures datagrams { result.datagrams.parts ≡ seats }
         ensures turns { result.turns.parts ≡ seats }
         ensures lent { result.lent.parts ≡ seats }
+        ensures changes { result.changes.parts ≡ seats }
     {
         Blanks {
             datagrams: Blank::new(seats as u64),
             turns: Blank::new(seats as u64),
             lent: Blank::new(seats as u64),
+            changes: Blank::new(seats as u64),
         }
     }
 }
@@ -90,7 +97,7 @@ impl OpenFault {
     }
 }
 
-impl<P: Pool, D: Hall, T: Ledger, U: Ledger> ZoneLock<P, D, T, U> {
+impl<P: Pool, D: Hall, T: Ledger, U: Ledger, V: Ledger> ZoneLock<P, D, T, U, V> {
     /// Locks a zone, and makes its seats, which made no step yet. If there are not 1 to 16 of them,
     /// or if there is no memory, the zone comes back.
     pub fn open(
@@ -98,17 +105,19 @@ impl<P: Pool, D: Hall, T: Ledger, U: Ledger> ZoneLock<P, D, T, U> {
         zone: Zone<P>,
         seats: usize,
         blanks: Blanks,
-    ) -> Result<(Self, Vec<Seat<D, T, U>>), (Zone<P>, OpenFault)>
+    ) -> Result<(Self, Vec<Seat<D, T, U, V>>), (Zone<P>, OpenFault)>
         requires datagrams { (blanks.datagrams.name ≡ D.name)
             × (blanks.datagrams.parts ≡ D.parts) × (D.parts ≡ seats) }
         requires turns { (blanks.turns.name ≡ T.name)
             × (blanks.turns.parts ≡ T.parts) × (T.parts ≡ seats) }
         requires lent { (blanks.lent.name ≡ U.name)
             × (blanks.lent.parts ≡ U.parts) × (U.parts ≡ seats) }
+        requires changes { (blanks.changes.name ≡ V.name)
+            × (blanks.changes.parts ≡ V.parts) × (V.parts ≡ seats) }
         requires opened { (D.all ≡ seats) × (D.opened ≡ zone.state) }
         ensures len { IfOk result (λ made. vec_len made.1 ≡ seats) }
         ensures seats { IfOk result (λ made. (k : ℕ) → k < seats
-            → slice_get made.1.items k ≡ Some (seated k 0 0 0 0)) }
+            → slice_get made.1.items k ≡ Some (seated k 0 0 0 0 0)) }
         ensures range { OnOk result (IsSeatCount seats) }
         ensures handed_back { IfErr result (λ fault. fault.0 ≡ zone) }
         ensures fault { IfErr result (λ fault.
@@ -151,15 +160,15 @@ impl<P: Pool, D: Hall, T: Ledger, U: Ledger> ZoneLock<P, D, T, U> {
     pub fn apply<R: Wait>(
         &self,
         rt: &R,
-        seat: &mut Seat<D, T, U>,
+        seat: &mut Seat<D, T, U, V>,
         prepared: Prepared,
     ) -> Result<Receipt, StepFault>
         ensures receipt { IfOk result (λ receipt. receipt ≡ receipt_at receipt.place
-            (entry_by seat.old.number seat.old.calls prepared receipt.outcome)) }
+            (entry_by seat.old.number seat.old.calls (Change.Event prepared) receipt.outcome)) }
         ensures step { IfOk result (λ receipt. IsStepUnderLock D.opened receipt.place
-            (entry_by seat.old.number seat.old.calls prepared receipt.outcome)) }
+            (entry_by seat.old.number seat.old.calls (Change.Event prepared) receipt.outcome)) }
         ensures seat { IfOk result (λ receipt.
-            seat.new ≡ seated_after seat.old prepared receipt.outcome) }
+            seat.new ≡ seated_after seat.old (Change.Event prepared) receipt.outcome) }
         ensures closed { result ≡ Err StepFault.Closed → IsClosed D.opened }
         ensures memory { result ≡ Err StepFault.Memory → IsOpen D.opened }
         ensures err { OnErr result (seat.new ≡ seat.old) }
@@ -168,6 +177,37 @@ impl<P: Pool, D: Hall, T: Ledger, U: Ledger> ZoneLock<P, D, T, U> {
             Ok(order) => make_step(&mut *self.inner.lock(rt), seat, order),
             Err(_) => Err(fault_without_order(&*self.inner.lock(rt))),
         }
+    }
+
+    /// Waits for the lock and puts a fresh pool in the place of the zone's pool with this number, as
+    /// `replace_locked` does. The old pool comes back with nothing lent; or nothing changes, and the
+    /// fresh pool comes back.
+    pub fn replace<R: Wait>(
+        &self,
+        rt: &R,
+        seat: &mut Seat<D, T, U, V>,
+        pool: usize,
+        fresh: P,
+        moment: Moment,
+    ) -> Result<(Receipt, P), (P, ReplaceFault)>
+        ensures receipt { IfOk result (λ done. done.0 ≡ receipt_at done.0.place
+            (entry_by seat.old.number seat.old.calls
+            (Change.PoolChange (change_by pool (P.account fresh) moment)) done.0.outcome)) }
+        ensures step { IfOk result (λ done. IsReplacedUnderLock D.opened done.0.place
+            (entry_by seat.old.number seat.old.calls
+            (Change.PoolChange (change_by pool (P.account fresh) moment)) done.0.outcome)
+            pool (P.account done.1)) }
+        ensures seat { IfOk result (λ done. seat.new ≡ seated_after seat.old
+            (Change.PoolChange (change_by pool (P.account fresh) moment)) done.0.outcome) }
+        ensures fault { IfErr result (λ refused. IsRefusedUnderLock D.opened pool
+            (P.account fresh) (P.account refused.0) refused.1) }
+        ensures unasked { IfErr result (λ refused. refused.1 ≢ ReplaceFault.NotLent →
+            refused.0 ≡ fresh) }
+        ensures handed_back { IfErr result (λ refused. refused.1 ≡ ReplaceFault.NotLent →
+            IsHandedBack (P.account fresh) (P.account refused.0)) }
+        ensures err { OnErr result (seat.new ≡ seat.old) }
+    {
+        replace_locked(&mut *self.inner.lock(rt), seat, pool, fresh, moment)
     }
 
     /// Waits for the lock and lists what the zone has.
@@ -201,14 +241,15 @@ impl<P: Pool, D: Hall, T: Ledger, U: Ledger> ZoneLock<P, D, T, U> {
     /// the seats are not all of this lock's; lock and seats then come back.
     pub fn finish(
         self,
-        seats: Vec<Seat<D, T, U>>,
-    ) -> Result<Finished<P>, (Self, Vec<Seat<D, T, U>>)>
+        seats: Vec<Seat<D, T, U, V>>,
+    ) -> Result<Finished<P>, (Self, Vec<Seat<D, T, U, V>>)>
         ensures all { OnOk result (vec_len seats ≡ D.all) }
         ensures history { IfOk result (IsWholeHistory D.opened) }
         ensures run { IfOk result (λ f. BookRun f.base f.entries f.zone.state) }
         ensures sound { IfOk result (λ f. Sound f.zone.state) }
         ensures opened { IfOk result (λ f. f.first ≡ 0 → f.base ≡ D.opened) }
-        ensures first { IfOk result (λ f. f.carried.datagrams + f.carried.turns ≡ f.first) }
+        ensures first { IfOk result (λ f.
+            f.carried.datagrams + f.carried.turns + f.carried.changes ≡ f.first) }
         ensures few { IfOk result (λ f. f.first + length f.entries ≤ 2 ^ 62) }
         ensures datagrams { IfOk result (λ f.
             f.carried.datagrams + datagrams_of f.entries
@@ -217,6 +258,8 @@ impl<P: Pool, D: Hall, T: Ledger, U: Ledger> ZoneLock<P, D, T, U> {
             ≡ sum_by (λ s. s.turns) seats.items) }
         ensures lent { IfOk result (λ f. f.carried.lent + lent_of f.entries
             ≡ sum_by (λ s. s.lent) seats.items) }
+        ensures changes { IfOk result (λ f. f.carried.changes + changes_of f.entries
+            ≡ sum_by (λ s. s.changes) seats.items) }
         ensures in_use { IfOk result (λ f. IsLedInUse D.opened f.zone.state
             (f.carried.lent + lent_of f.entries)
             (f.carried.returned + returned_by f.base f.entries f.zone.state)) }
@@ -240,25 +283,28 @@ impl<P: Pool, D: Hall, T: Ledger, U: Ledger> ZoneLock<P, D, T, U> {
 }
 
 /// Changes nothing: the seats of a lock have together made what the totals of its history say.
-fn audit_all<P: Pool, D: Hall, T: Ledger, U: Ledger>(
-    locked: &mut Locked<P, D, T, U>,
-    seats: Vec<Seat<D, T, U>>,
+fn audit_all<P: Pool, D: Hall, T: Ledger, U: Ledger, V: Ledger>(
+    locked: &mut Locked<P, D, T, U, V>,
+    seats: Vec<Seat<D, T, U, V>>,
 )
     requires some { 0 < vec_len seats }
     requires all { (D.parts ≡ vec_len seats) × (T.parts ≡ vec_len seats)
-        × (U.parts ≡ vec_len seats) }
+        × (U.parts ≡ vec_len seats) × (V.parts ≡ vec_len seats) }
     ensures datagrams { locked.old.carried.datagrams + datagrams_of locked.old.entries
         ≡ sum_by (λ s. s.datagrams) seats.items }
     ensures turns { locked.old.carried.turns + turns_of locked.old.entries
         ≡ sum_by (λ s. s.turns) seats.items }
     ensures lent { locked.old.carried.lent + lent_of locked.old.entries
         ≡ sum_by (λ s. s.lent) seats.items }
+    ensures changes { locked.old.carried.changes + changes_of locked.old.entries
+        ≡ sum_by (λ s. s.changes) seats.items }
     ensures same { locked.new ≡ locked.old }
 {
-    let (mut my_datagrams, mut my_turns, mut my_lent) = merged(seats);
+    let (mut my_datagrams, mut my_turns, mut my_lent, mut my_changes) = merged(seats);
     locked.ledgers.datagrams.audit(&mut my_datagrams);
     locked.ledgers.turns.audit(&mut my_turns);
     locked.ledgers.lent.audit(&mut my_lent);
+    locked.ledgers.changes.audit(&mut my_changes);
 }
 
 /// The state of a zone, which is the base of its history.
@@ -273,35 +319,40 @@ fn base_of<P: Pool>(alloc: Global, zone: &Zone<P>) -> Result<SharedSnapshot, All
 }
 
 /// This many seats, which made no step, with the books of their ledgers.
-fn seats_of<D: Hall, T: Ledger, U: Ledger>(
+fn seats_of<D: Hall, T: Ledger, U: Ledger, V: Ledger>(
     alloc: Global,
-    room: Vec<Seat<D, T, U>>,
+    room: Vec<Seat<D, T, U, V>>,
     seats: usize,
     blanks: Blanks,
-) -> (Ledgers<D, T, U>, Vec<Seat<D, T, U>>)
+) -> (Ledgers<D, T, U, V>, Vec<Seat<D, T, U, V>>)
     requires datagrams { (blanks.datagrams.name ≡ D.name)
         × (blanks.datagrams.parts ≡ D.parts) × (D.parts ≡ seats) }
     requires turns { (blanks.turns.name ≡ T.name)
         × (blanks.turns.parts ≡ T.parts) × (T.parts ≡ seats) }
     requires lent { (blanks.lent.name ≡ U.name)
         × (blanks.lent.parts ≡ U.parts) × (U.parts ≡ seats) }
+    requires changes { (blanks.changes.name ≡ V.name)
+        × (blanks.changes.parts ≡ V.parts) × (V.parts ≡ seats) }
     requires room { (vec_len room ≡ 0) × (seats ≤ vec_capacity room) }
     ensures datagrams { result.0.datagrams.total ≡ 0 }
     ensures turns { result.0.turns.total ≡ 0 }
     ensures lent { result.0.lent.total ≡ 0 }
+    ensures changes { result.0.changes.total ≡ 0 }
     ensures len { vec_len result.1 ≡ seats }
     ensures seats { (k : ℕ) → k < seats → slice_get result.1.items k
-        ≡ Some (seated k 0 0 0 0) }
+        ≡ Some (seated k 0 0 0 0 0) }
 {
     let mut all = room;
     let Blanks {
         datagrams,
         turns,
         lent,
+        changes,
     } = blanks;
     let (datagrams, mut my_datagrams) = datagrams.open::<D>();
     let (turns, mut my_turns) = turns.open::<T>();
     let (lent, mut my_lent) = lent.open::<U>();
+    let (changes, mut my_changes) = changes.open::<V>();
     for number in 0..seats {
         all.push_reserved(Seat {
             number,
@@ -309,6 +360,7 @@ fn seats_of<D: Hall, T: Ledger, U: Ledger>(
             datagrams: my_datagrams.split_off(1, 0),
             turns: my_turns.split_off(1, 0),
             lent: my_lent.split_off(1, 0),
+            changes: my_changes.split_off(1, 0),
             buffer: Vec::new(alloc),
         });
     }
@@ -317,21 +369,23 @@ fn seats_of<D: Hall, T: Ledger, U: Ledger>(
             datagrams,
             turns,
             lent,
+            changes,
         },
         all,
     )
 }
 
 /// What the seats have together.
-fn merged<D: Hall, T: Ledger, U: Ledger>(
-    seats: Vec<Seat<D, T, U>>,
-) -> (Share<D>, Share<T>, Share<U>)
+fn merged<D: Hall, T: Ledger, U: Ledger, V: Ledger>(
+    seats: Vec<Seat<D, T, U, V>>,
+) -> (Share<D>, Share<T>, Share<U>, Share<V>)
     requires { 0 < vec_len seats }
     ensures parts { (result.0.parts ≡ vec_len seats) × (result.1.parts ≡ vec_len seats)
-        × (result.2.parts ≡ vec_len seats) }
+        × (result.2.parts ≡ vec_len seats) × (result.3.parts ≡ vec_len seats) }
     ensures datagrams { result.0.amount ≡ sum_by (λ s. s.datagrams) seats.items }
     ensures turns { result.1.amount ≡ sum_by (λ s. s.turns) seats.items }
     ensures lent { result.2.amount ≡ sum_by (λ s. s.lent) seats.items }
+    ensures changes { result.3.amount ≡ sum_by (λ s. s.changes) seats.items }
 {
     let mut seats = seats;
     let Some(first) = seats.pop() else {
@@ -343,6 +397,7 @@ fn merged<D: Hall, T: Ledger, U: Ledger>(
         mut datagrams,
         mut turns,
         mut lent,
+        mut changes,
         buffer: _,
     } = first;
     while let Some(seat) = seats.pop() {
@@ -352,11 +407,13 @@ fn merged<D: Hall, T: Ledger, U: Ledger>(
             datagrams: d,
             turns: t,
             lent: u,
+            changes: v,
             buffer: _,
         } = seat;
         datagrams.merge(d);
         turns.merge(t);
         lent.merge(u);
+        changes.merge(v);
     }
-    (datagrams, turns, lent)
+    (datagrams, turns, lent, changes)
 }

@@ -15,7 +15,7 @@ use crate::order::Order;
 use crate::seat::{Hall, Seat};
 use books::{Entry, Receipt, SharedSnapshot, Totals};
 use pools::Pool;
-use ras_core::{Outcome, Prepared, StepFault, Zone};
+use ras_core::{Change, Outcome, Prepared, StepFault, Zone};
 use std::alloc::AllocError;
 use std::marker::Model;
 use std::sync::ledger::Ledger;
@@ -25,7 +25,7 @@ use std::sync::ledger::Ledger;
 /// counted when a chapter ends), the units that were in use when the zone was locked, the state in
 /// which it begins, if a copy of it is kept, its entries, the zone, and the ledgers.
 #[derive(Drop)]
-pub struct Locked<P: Pool, D: Hall, T: Ledger, U: Ledger> {
+pub struct Locked<P: Pool, D: Hall, T: Ledger, U: Ledger, V: Ledger> {
     pub(crate) first: usize,
     pub(crate) carried: Totals,
     pub(crate) so_far: Totals,
@@ -33,10 +33,10 @@ pub struct Locked<P: Pool, D: Hall, T: Ledger, U: Ledger> {
     pub(crate) base: Option<SharedSnapshot>,
     pub(crate) entries: Vec<Entry>,
     pub(crate) zone: Zone<P>,
-    pub(crate) ledgers: Ledgers<D, T, U>,
+    pub(crate) ledgers: Ledgers<D, T, U, V>,
 }
 
-impl<P: Pool, D: Hall, T: Ledger, U: Ledger> Model for Locked<P, D, T, U> {
+impl<P: Pool, D: Hall, T: Ledger, U: Ledger, V: Ledger> Model for Locked<P, D, T, U, V> {
     ghost use Rattle.std.specs.Coded.{codes};
     ghost use Rattle.std.specs.FinMap as map;
     ghost use Rattle.zone_lock.specs.Held.{Held, IsInside};
@@ -62,25 +62,26 @@ impl<P: Pool, D: Hall, T: Ledger, U: Ledger> Model for Locked<P, D, T, U> {
       zone = l.zone;
     }) l.so_far l.opened_units
         l.ledgers.datagrams.total l.ledgers.turns.total l.ledgers.lent.total
-        × HavePartForEach D.all D.parts T.parts U.parts };
+        l.ledgers.changes.total
+        × HavePartForEach D.all D.parts T.parts U.parts V.parts };
 }
 
 /// Makes one step of the locked zone, which is the last entry afterwards, or changes nothing. It is
 /// refused as Closed if and only if 2^62 steps were made. All memory is there before the step.
-pub fn apply_locked<P: Pool, D: Hall, T: Ledger, U: Ledger>(
-    locked: &mut Locked<P, D, T, U>,
-    seat: &mut Seat<D, T, U>,
+pub fn apply_locked<P: Pool, D: Hall, T: Ledger, U: Ledger, V: Ledger>(
+    locked: &mut Locked<P, D, T, U, V>,
+    seat: &mut Seat<D, T, U, V>,
     prepared: Prepared,
 ) -> Result<Receipt, StepFault>
     ensures step { IfOk result (λ receipt.
         RunningStep locked.old.zone prepared receipt.outcome locked.new.zone) }
     ensures entry { IfOk result (λ receipt. locked.new.entries ≡ locked.old.entries
-        ++ entry_by seat.old.number seat.old.calls prepared receipt.outcome ∷ []) }
+        ++ entry_by seat.old.number seat.old.calls (Change.Event prepared) receipt.outcome ∷ []) }
     ensures receipt { IfOk result (λ receipt. receipt
         ≡ receipt_at (locked.old.first + length locked.old.entries)
-        (entry_by seat.old.number seat.old.calls prepared receipt.outcome)) }
+        (entry_by seat.old.number seat.old.calls (Change.Event prepared) receipt.outcome)) }
     ensures seat { IfOk result (λ receipt.
-        seat.new ≡ seated_after seat.old prepared receipt.outcome) }
+        seat.new ≡ seated_after seat.old (Change.Event prepared) receipt.outcome) }
     ensures first { locked.new.first ≡ locked.old.first }
     ensures carried { locked.new.carried ≡ locked.old.carried }
     ensures base { locked.new.base ≡ locked.old.base }
@@ -98,24 +99,24 @@ pub fn apply_locked<P: Pool, D: Hall, T: Ledger, U: Ledger>(
 }
 
 /// The step of an order.
-pub(crate) fn make_step<P: Pool, D: Hall, T: Ledger, U: Ledger>(
-    locked: &mut Locked<P, D, T, U>,
-    seat: &mut Seat<D, T, U>,
+pub(crate) fn make_step<P: Pool, D: Hall, T: Ledger, U: Ledger, V: Ledger>(
+    locked: &mut Locked<P, D, T, U, V>,
+    seat: &mut Seat<D, T, U, V>,
     order: Order,
 ) -> Result<Receipt, StepFault>
-    requires kept { order.kept ≡ order.prepared }
-    requires told { order.told ≡ order.prepared }
+    requires kept { order.kept ≡ Change.Event order.prepared }
+    requires told { order.told ≡ Change.Event order.prepared }
     requires empty { order.buffer.items ≡ [] }
     requires room { 20000 ≤ vec_capacity order.buffer }
     ensures step { IfOk result (λ receipt.
         RunningStep locked.old.zone order.prepared receipt.outcome locked.new.zone) }
     ensures entry { IfOk result (λ receipt. locked.new.entries ≡ locked.old.entries
-        ++ entry_by seat.old.number seat.old.calls order.prepared receipt.outcome ∷ []) }
+        ++ entry_by seat.old.number seat.old.calls (Change.Event order.prepared) receipt.outcome ∷ []) }
     ensures receipt { IfOk result (λ receipt. receipt
         ≡ receipt_at (locked.old.first + length locked.old.entries)
-        (entry_by seat.old.number seat.old.calls order.prepared receipt.outcome)) }
+        (entry_by seat.old.number seat.old.calls (Change.Event order.prepared) receipt.outcome)) }
     ensures seat { IfOk result (λ receipt.
-        seat.new ≡ seated_after seat.old order.prepared receipt.outcome) }
+        seat.new ≡ seated_after seat.old (Change.Event order.prepared) receipt.outcome) }
     ensures first { locked.new.first ≡ locked.old.first }
     ensures carried { locked.new.carried ≡ locked.old.carried }
     ensures base { locked.new.base ≡ locked.old.base }
@@ -158,8 +159,8 @@ pub(crate) fn make_step<P: Pool, D: Hall, T: Ledger, U: Ledger>(
 
 /// Why no step is made if there is no memory for what it needs: as many steps were made as there
 /// may be, or that want of memory alone.
-pub(crate) fn fault_without_order<P: Pool, D: Hall, T: Ledger, U: Ledger>(
-    locked: &Locked<P, D, T, U>,
+pub(crate) fn fault_without_order<P: Pool, D: Hall, T: Ledger, U: Ledger, V: Ledger>(
+    locked: &Locked<P, D, T, U, V>,
 ) -> StepFault
     ensures closed { (result ≡ StepFault.Closed)
         ↔ (locked.now.zone.state.steps ≡ most_steps) }
@@ -183,8 +184,8 @@ fn copy_of(outcome: &Outcome, buffer: Vec<u8>) -> Outcome
 }
 
 /// Lists what the locked zone has.
-pub fn list_locked<P: Pool, D: Hall, T: Ledger, U: Ledger>(
-    locked: &Locked<P, D, T, U>,
+pub fn list_locked<P: Pool, D: Hall, T: Ledger, U: Ledger, V: Ledger>(
+    locked: &Locked<P, D, T, U, V>,
 ) -> Result<Listing, AllocError>
     ensures listing { IfOk result (λ listing. IsListing locked.now.zone.state listing) }
     ensures kept { IsKept D.opened locked.now }

@@ -3,7 +3,7 @@
 ghost use Rattle.std.specs.Prelude.{◌≡◌, ◌≤◌, [], IfOk, vec_capacity};
 
 use crate::seat::{Hall, Seat};
-use ras_core::{Event, Prepared};
+use ras_core::{Change, Prepared};
 use std::alloc::{AllocError, Global};
 use std::mem;
 use std::sync::ledger::Ledger;
@@ -16,28 +16,28 @@ const MAX_OUTPUT: usize = 20_000;
 #[derive(Drop)]
 pub(crate) struct Order {
     pub(crate) prepared: Prepared,
-    pub(crate) kept: Event,
-    pub(crate) told: Event,
+    pub(crate) kept: Change,
+    pub(crate) told: Change,
     pub(crate) buffer: Vec<u8>,
 }
 
 impl Order {
     /// What a step of this event by a seat needs. The buffer is the one that the seat has, if it is
     /// large enough.
-    pub(crate) fn new<D: Hall, T: Ledger, U: Ledger>(
+    pub(crate) fn new<D: Hall, T: Ledger, U: Ledger, V: Ledger>(
         alloc: Global,
         prepared: Prepared,
-        seat: &mut Seat<D, T, U>,
+        seat: &mut Seat<D, T, U, V>,
     ) -> Result<Self, AllocError>
         ensures seat { seat.new ≡ seat.old }
         ensures prepared { IfOk result (λ order. order.prepared ≡ prepared) }
-        ensures kept { IfOk result (λ order. order.kept ≡ prepared) }
-        ensures told { IfOk result (λ order. order.told ≡ prepared) }
+        ensures kept { IfOk result (λ order. order.kept ≡ Change.Event prepared) }
+        ensures told { IfOk result (λ order. order.told ≡ Change.Event prepared) }
         ensures empty { IfOk result (λ order. order.buffer.items ≡ []) }
         ensures room { IfOk result (λ order. 20000 ≤ vec_capacity order.buffer) }
     {
-        let kept = prepared.event()?;
-        let told = prepared.event()?;
+        let kept = Change::Event(prepared.event()?);
+        let told = Change::Event(prepared.event()?);
         let mut buffer = mem::replace(&mut seat.buffer, Vec::new(alloc));
         buffer.clear();
         buffer.reserve(MAX_OUTPUT)?;

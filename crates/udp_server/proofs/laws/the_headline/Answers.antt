@@ -6,7 +6,7 @@ use Rattle.sound_steps.proofs.EachStep.{hands_out_unused, of_each_step, repeats_
 use Rattle.udp_server.proofs.laws.the_headline.Goals as goal
 
 pub returns : goal.returns
-returns c opened f datagrams turns sound served =
+returns c opened f datagrams turns changes sound served =
     let history = served.history in
     let entries = map step_in (history.past ++ f.entries) in
     record {

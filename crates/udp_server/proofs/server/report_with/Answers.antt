@@ -10,4 +10,5 @@ returns-clause-served g c = record {
   in_use = c.in-Ok.ensures.in_use;
   all_datagrams = c.counted-datagrams.ensures.datagrams;
   all_turns = c.counted-datagrams.ensures.turns;
+  all_changes = c.counted-datagrams.ensures.changes;
 }

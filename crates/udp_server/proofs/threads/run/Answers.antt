@@ -25,6 +25,8 @@ scoped-record-requires g c = record {
       search sendable depth 20,
       search sendable depth 20,
       search sendable depth 20,
+      search sendable depth 20,
+      search sendable depth 20,
     ),
   );
 }

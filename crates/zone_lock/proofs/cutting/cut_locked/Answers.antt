@@ -16,7 +16,7 @@ invariant_of-locked g c =
     let next : c.in_ok-end.next ≡ l.zone.state =
     c.in_ok-end.ensures.both.1 ∙ sym (ap (λ (z : Running). z.state) zone) in (
       inside_based g.D.Hall.opened (cut_so l.first l.carried l.base l.entries.items l.zone) l.so_far
-          l.opened_units _ _ _ (Some c.in_ok-end.next) c.locked-2.invariant.0 none (ap Some next),
+          l.opened_units _ _ _ _ (Some c.in_ok-end.next) c.locked-2.invariant.0 none (ap Some next),
       c.locked-2.invariant.1,
     )
 

@@ -13,6 +13,9 @@ invariant-loop-seat g l = record {
   lent : (l.lent.parts + vec_len l.seats ≡ vec_len l.fn.seats)
       × (l.lent.amount + sum_by (λ s. s.lent) l.seats.items
       ≡ sum_by (λ s. s.lent) l.fn.seats.items);
+  changes : (l.changes.parts + vec_len l.seats ≡ vec_len l.fn.seats)
+      × (l.changes.amount + sum_by (λ s. s.changes) l.seats.items
+      ≡ sum_by (λ s. s.changes) l.fn.seats.items);
 }
 
 abbrev pub decreases-loop-seat : goal.decreases-loop-seat

@@ -8,7 +8,8 @@ invariant-loop-number g l = record {
   datagrams : (l.my_datagrams.parts + l.number ≡ l.seats) × (l.my_datagrams.amount ≡ 0);
   turns : (l.my_turns.parts + l.number ≡ l.seats) × (l.my_turns.amount ≡ 0);
   lent : (l.my_lent.parts + l.number ≡ l.seats) × (l.my_lent.amount ≡ 0);
+  changes : (l.my_changes.parts + l.number ≡ l.seats) × (l.my_changes.amount ≡ 0);
   len : vec_len l.all ≡ l.number;
   room : l.seats ≤ vec_capacity l.all;
-  made : (k : ℕ) → k < l.number → slice_get l.all.items k ≡ Some (seated k 0 0 0 0);
+  made : (k : ℕ) → k < l.number → slice_get l.all.items k ≡ Some (seated k 0 0 0 0 0);
 }

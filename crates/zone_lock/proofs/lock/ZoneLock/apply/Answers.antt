@@ -1,4 +1,5 @@
-use Rattle.std.proofs.Common.{◌≡◌}
+use Rattle.std.proofs.Common.{◌≡◌, ap}
+use Rattle.zone_events.specs.declared.change.Change.TheVariants as change
 use Rattle.ras_core.specs.declared.fault.StepFault.TheVariants.{Closed, Memory}
 use Rattle.zone_lock.proofs.UnderLock.{closed_under_lock, open_under_lock, step_told}
 use Rattle.zone_lock.proofs.lock.ZoneLock.apply.Goals as goal
@@ -7,7 +8,7 @@ pub returns-in-Ok-clause-step : goal.returns-in-Ok-clause-step
 returns-in-Ok-clause-step g c =
     let told = c.make_step.ensures in
     step_told g.D.Hall.opened c.make_step.result _ _ _ _ _ _ c.in-Ok.ensures.seat
-    c.in-Ok.ensures.prepared told.before told.kept told.step told.entry told.receipt told.first
+    (ap change.Event c.in-Ok.ensures.prepared) told.before told.kept told.step told.entry told.receipt told.first
 
 pub returns-in-Ok-clause-closed : goal.returns-in-Ok-clause-closed
 returns-in-Ok-clause-closed g c is =

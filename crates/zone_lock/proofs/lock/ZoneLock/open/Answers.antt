@@ -17,13 +17,14 @@ returns-then-seats-eq0-clause-fault g c = inl (
 pub invariant_of-locked : goal.invariant_of-locked
 invariant_of-locked g c = (
   inside_opened g.D.Hall.opened c.args.zone c.in-Ok.base c.new.result.items c.none.result
-      c.none-2.result c.in_use.result _ _ _ c.requires.opened.1 c.in-Ok.ensures.sound
+      c.none-2.result c.in_use.result _ _ _ _ c.requires.opened.1 c.in-Ok.ensures.sound
       c.in-Ok.ensures.base c.new.ensures.items c.none.ensures c.none-2.ensures c.in_use.ensures.sum
       c.seats_of-ledgers.ensures.datagrams c.seats_of-ledgers.ensures.turns
-      c.seats_of-ledgers.ensures.lent,
+      c.seats_of-ledgers.ensures.lent c.seats_of-ledgers.ensures.changes,
   record {
     datagrams = c.requires.datagrams.2 ∙ sym c.requires.opened.0;
     turns = c.requires.turns.2 ∙ sym c.requires.opened.0;
     lent = c.requires.lent.2 ∙ sym c.requires.opened.0;
+    changes = c.requires.changes.2 ∙ sym c.requires.opened.0;
   },
 )

@@ -1,0 +1,100 @@
+//! Pools that are to be replaced while a server runs.
+
+ghost use Rattle.std.specs.Prelude.{◌≤◌, ◌<◌, ◌+◌, OnSome, vec_capacity, vec_len};
+
+use crate::gate::Gate;
+use crate::moments::Moments;
+use crate::worker::{Shared, Worker};
+use pools::Pool;
+use std::alloc::{AllocError, Global};
+use std::sync::Wait;
+use std::sync::ledger::Ledger;
+use zone_config::Moment;
+use zone_lock::Hall;
+
+/// From this moment on, a fresh pool is to take the place of the pool with this number.
+#[derive(Drop)]
+pub struct PoolOrder<P: Pool> {
+    pub at: Moment,
+    pub pool: usize,
+    pub fresh: P,
+}
+
+/// The orders that were not tried yet, the next one last; and for each other one the pool's number,
+/// the pool that came back, and whether it is the old one. There is room for what comes back of
+/// all.
+pub(crate) struct Orders<P: Pool> {
+    waiting: Vec<PoolOrder<P>>,
+    boxes: Vec<(usize, P, bool)>,
+    ghost room: { vec_len boxes + vec_len waiting ≤ vec_capacity boxes },
+}
+
+// Written by hand, so that whoever owns orders makes one call at each exit.
+impl<P: Pool> Drop for Orders<P> {
+    fn drop(self) {
+        let Orders {
+            waiting: _,
+            boxes: _,
+        } = self;
+    }
+}
+
+impl<P: Pool> Orders<P> {
+    /// None of these orders was tried.
+    pub(crate) fn new(alloc: Global, orders: Vec<PoolOrder<P>>) -> Result<Self, AllocError> {
+        let boxes = Vec::with_capacity(alloc, orders.len())?;
+        let mut waiting = orders;
+        waiting.reverse();
+        Ok(Orders { waiting, boxes })
+    }
+
+    /// Tries each order, in the list's order, whose moment the worker's clock has reached. An order
+    /// waits for those before it, and none is tried twice.
+    pub(crate) fn carry_out<D: Hall, T: Ledger, U: Ledger, V: Ledger, R: Wait, G: Gate, C: Moments>(
+        &mut self,
+        shared: &Shared<'_, P, D, T, U, V, R, G>,
+        worker: &mut Worker<D, T, U, V, C>,
+    ) {
+        for _ in 0..self.waiting.len() {
+            let now = worker.clock.now();
+            let Some(order) = self.next_at(now) else {
+                return;
+            };
+            let PoolOrder { at: _, pool, fresh } = order;
+            let (back, is_old) = match worker.replace(shared, pool, fresh, now) {
+                Ok(old) => (old, true),
+                Err(fresh) => (fresh, false),
+            };
+            self.boxes.push_reserved((pool, back, is_old));
+        }
+    }
+
+    /// The next order, if its moment is reached. There is room for what comes back of it.
+    fn next_at(&mut self, now: Moment) -> Option<PoolOrder<P>>
+        ensures { OnSome result (vec_len self.new.boxes + vec_len self.new.waiting
+            < vec_capacity self.new.boxes) }
+    {
+        let next = self.waiting.last()?;
+        if now.milliseconds() < next.at.milliseconds() {
+            return None;
+        }
+        self.waiting.pop()
+    }
+
+    /// What came back of each order. The fresh pools of those that were not tried come back, too.
+    pub(crate) fn into_boxes(mut self) -> Vec<(usize, P, bool)> {
+        for _ in 0..self.waiting.len() {
+            self.hand_back();
+        }
+        let Orders { waiting: _, boxes } = self;
+        boxes
+    }
+
+    /// The next order isn't tried any more: its fresh pool comes back.
+    fn hand_back(&mut self) {
+        if let Some(order) = self.waiting.pop() {
+            let PoolOrder { at: _, pool, fresh } = order;
+            self.boxes.push_reserved((pool, fresh, false));
+        }
+    }
+}

@@ -1,0 +1,94 @@
+//! A pool is replaced by whoever holds the lock.
+
+ghost use Rattle.std.specs.Prelude.{◌≡◌, ◌≢◌, ◌+◌, ◌++◌, ◌∷◌, [], IfErr, IfOk, MatchResult, None};
+ghost use Rattle.std.specs.Prelude.{OnErr, length};
+ghost use Rattle.pools.specs.Replacing.{IsHandedBack};
+ghost use Rattle.zone_tables.specs.Pools.{figures_at};
+ghost use Rattle.ras_core.specs.Replacing.{IsOldPool, IsRefusalOrMemory, change_by, fault_unasked};
+ghost use Rattle.ras_core.specs.Runs.{RunningReplacement};
+ghost use Rattle.ras_core.specs.Tallies.{tallies_after_replacing};
+ghost use Rattle.zone_lock.specs.Held.{IsKept, entry_by, receipt_at};
+ghost use Rattle.zone_lock.specs.Seats.{seated_after};
+
+use crate::locked::Locked;
+use crate::seat::{Hall, Seat};
+use books::{Entry, Receipt};
+use pools::{Pool, ReplaceFault};
+use ras_core::{Change, Moment, PoolChange, figures_of};
+use std::sync::ledger::Ledger;
+
+/// Puts a fresh pool in the place of the locked zone's pool with this number, as `Zone::replace`
+/// does: one step, which is the last entry afterwards. The old pool comes back with nothing lent.
+/// Or it changes nothing, and the fresh pool comes back. The memory for the entry is asked for once
+/// the fresh pool is found to be idle, and before it is asked to take over the loans.
+pub fn replace_locked<P: Pool, D: Hall, T: Ledger, U: Ledger, V: Ledger>(
+    locked: &mut Locked<P, D, T, U, V>,
+    seat: &mut Seat<D, T, U, V>,
+    pool: usize,
+    fresh: P,
+    moment: Moment,
+) -> Result<(Receipt, P), (P, ReplaceFault)>
+    ensures step { IfOk result (λ done. RunningReplacement locked.old.zone
+        (change_by pool (P.account fresh) moment) done.0.outcome locked.new.zone) }
+    ensures tallies { IfOk result (λ _. locked.new.zone.tallies
+        ≡ tallies_after_replacing locked.old.zone.tallies pool (P.account fresh)
+        (figures_at locked.old.zone.state.tables.pools pool).lent) }
+    ensures old_pool { IfOk result (λ done.
+        IsOldPool locked.old.zone pool (P.account done.1)) }
+    ensures entry { IfOk result (λ done. locked.new.entries ≡ locked.old.entries
+        ++ entry_by seat.old.number seat.old.calls
+        (Change.PoolChange (change_by pool (P.account fresh) moment)) done.0.outcome ∷ []) }
+    ensures receipt { IfOk result (λ done. done.0
+        ≡ receipt_at (locked.old.first + length locked.old.entries)
+        (entry_by seat.old.number seat.old.calls
+        (Change.PoolChange (change_by pool (P.account fresh) moment)) done.0.outcome)) }
+    ensures seat { IfOk result (λ done. seat.new ≡ seated_after seat.old
+        (Change.PoolChange (change_by pool (P.account fresh) moment)) done.0.outcome) }
+    ensures first { locked.new.first ≡ locked.old.first }
+    ensures carried { locked.new.carried ≡ locked.old.carried }
+    ensures base { locked.new.base ≡ locked.old.base }
+    ensures fault { MatchResult result
+        (λ _. fault_unasked locked.old.zone.state pool (P.account fresh) ≡ None)
+        (λ refused. IsRefusalOrMemory locked.old.zone.state pool (P.account fresh)
+        (P.account refused.0) refused.1) }
+    ensures unasked { IfErr result (λ refused. refused.1 ≢ ReplaceFault.NotLent →
+        refused.0 ≡ fresh) }
+    ensures handed_back { IfErr result (λ refused. refused.1 ≡ ReplaceFault.NotLent →
+        IsHandedBack (P.account fresh) (P.account refused.0)) }
+    ensures err { OnErr result (locked.new ≡ locked.old) }
+    ensures err_seat { OnErr result (seat.new ≡ seat.old) }
+    ensures before { IsKept D.opened locked.old }
+    ensures kept { IsKept D.opened locked.new }
+{
+    let unasked = locked.zone.fault_unasked(pool, &fresh);
+    if let Some(fault) = unasked {
+        return Err((fresh, fault));
+    }
+    if locked.entries.reserve(1).is_err() {
+        return Err((fresh, ReplaceFault::Memory));
+    }
+    locked.ledgers.audit(seat);
+    let change = &PoolChange {
+        pool,
+        offered: figures_of(&fresh),
+        moment,
+    };
+    let (outcome, old) = locked.zone.replace(pool, fresh, moment)?;
+    let room = Vec::new(*locked.entries.allocator());
+    let receipt = Receipt {
+        seat: seat.number,
+        call: seat.calls,
+        place: locked.first + locked.entries.len(),
+        event: Change::PoolChange(*change),
+        outcome: outcome.copy_into(room),
+    };
+    locked.so_far = locked.so_far.with_step(&receipt.event, &outcome);
+    locked.ledgers.count(seat, &receipt.event, &outcome);
+    locked.entries.push_reserved(Entry {
+        seat: receipt.seat,
+        call: receipt.call,
+        event: Change::PoolChange(*change),
+        outcome,
+    });
+    Ok((receipt, old))
+}
