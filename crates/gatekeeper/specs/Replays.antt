@@ -2,10 +2,12 @@
 use Rattle.std.specs.Prelude.{ℕ, ◌≡◌, List, map, Result, Ok, Err}
 use Rattle.pools.specs.Account.{Account}
 use Rattle.pools.specs.Specs.{account_of}
+use Rattle.pools.specs.declared.pool_spec.PoolSpec.{PoolSpec}
 use Rattle.script.specs.declared.fault.ScriptFault.TheVariants as script
 use Rattle.script.specs.declared.fault.RunFault.{RunFault}
 use Rattle.script.specs.declared.fault.RunFault.TheVariants as run
 use Rattle.script.specs.declared.read.Script.{Script}
+use Rattle.script.specs.Events.{fresh_pools}
 use Rattle.script.specs.Reads.{ReadsScript}
 use Rattle.script.specs.Runs.{IsRunAnswer, IsFlushedAfter}
 use Rattle.script.specs.Streams.{InputState, OutputState}
@@ -26,14 +28,16 @@ status_of (OfRun (run.Closed step)) = 1
 status_of (OfRun run.Stream) = 4
 status_of (OfRun run.WrongPools) = 1
 
--- the pools of a script, which were asked nothing yet
-abbrev pub accounts_of : Script → List Account
-accounts_of script = map account_of script.pools
+-- pools that are described, which were asked nothing yet
+abbrev pub accounts_of : List PoolSpec → List Account
+accounts_of specs = map account_of specs
 
--- What a run of a script over its pools returns and writes; what it wrote is flushed.
+-- What a run of a script over its pools, with the fresh pools that its events name, returns and
+-- writes; what it wrote is flushed.
 pub record RunsScript (script : Script) (old new : OutputState) (answer : Result Unit RunFault)
     : Type 0 where
-  pub run : IsRunAnswer script (accounts_of script) old.contents new.contents answer
+  pub run : IsRunAnswer script (accounts_of script.pools) (accounts_of (fresh_pools script.events))
+      old.contents new.contents answer
   pub flushed : IsFlushedAfter answer new.flushed
 
 -- A script was read and run, with its pools; or it was read and not run to its end; or it was not

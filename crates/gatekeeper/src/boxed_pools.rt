@@ -3,6 +3,7 @@
 ghost use Rattle.std.specs.Prelude.{◌≡◌, map, IfOk, IsTrue, OnErr};
 ghost use Rattle.pools.specs.Account.{opening_account};
 ghost use Rattle.pools.specs.Specs.{account_of, pool_of};
+ghost use Rattle.script.specs.Events.{fresh_pools};
 ghost use Rattle.gatekeeper.specs.Replays.{RunsScript};
 
 use pools::{Pool, PoolSpec, StandardPool};
@@ -46,19 +47,23 @@ pub(crate) fn are_new<P: Pool>(pools: &[P], specs: &[PoolSpec]) -> bool
     true
 }
 
-/// Runs a script with the pools that were made for it, once it is seen that they are its pools.
+/// Runs a script with the pools that were made for it, and those that are to take the places of
+/// others, as they are described. Before that, it is seen that they are its pools.
 fn run_made<P: Pool, W: Write + Drop>(
     alloc: Global,
     script: Script,
     pools: Vec<P>,
+    fresh: Vec<P>,
+    fresh_specs: &[PoolSpec],
     out: &mut Output<W>,
 ) -> Result<(), RunFault>
+    requires { fresh_specs.now ≡ fresh_pools script.events }
     ensures { RunsScript script out.old out.new result }
 {
-    if !are_new(&pools, script.pools.as_slice()) {
+    if !are_new(&pools, script.pools.as_slice()) || !are_new(&fresh, fresh_specs) {
         return Err(RunFault::WrongPools);
     }
-    run_script(alloc, script, pools, out)
+    run_script(alloc, script, pools, fresh, out)
 }
 
 /// The pools that are described, in order, each of its kind and with nothing lent.
@@ -72,8 +77,8 @@ pub(crate) fn pools_of(alloc: Global, specs: &[PoolSpec]) -> Result<Vec<Standard
     Ok(pools)
 }
 
-/// Makes the pools of a script, each in a box, and runs it; nothing is written if there is no
-/// memory for the pools.
+/// Makes the pools of a script, and those that are to take the places of others, each in a box, and
+/// runs it; nothing is written if there is no memory for the pools.
 pub fn run_with_pools<W: Write + Drop>(
     alloc: Global,
     script: Script,
@@ -86,5 +91,10 @@ pub fn run_with_pools<W: Write + Drop>(
     for pool in pools_of(alloc, script.pools.as_slice())? {
         boxes.push(Box::new(alloc, pool)?)?;
     }
-    Ok(run_made(alloc, script, boxes, out))
+    let specs = script.events.fresh_pools(alloc)?;
+    let mut fresh: Vec<Box<dyn Pool + Send>> = Vec::new(alloc);
+    for pool in pools_of(alloc, specs.as_slice())? {
+        fresh.push(Box::new(alloc, pool)?)?;
+    }
+    Ok(run_made(alloc, script, boxes, fresh, specs.as_slice(), out))
 }

@@ -33,8 +33,8 @@ const REPLAY_ABOUT: &str = "Answers the datagrams of a script, and prints the an
 
 const REPLAY_LONG_ABOUT: &str = "\
 Reads a script on standard input, gives its datagrams and the turns of its timers to a gatekeeper
-one after the other, and prints a line for each on standard output. Nothing goes over a network,
-and time is what the script says.";
+one after the other, and prints a line for each on standard output. The script may replace a pool
+of bandwidth while calls live. Nothing goes over a network, and time is what the script says.";
 
 const REPLAY_HELP: &str = "\
 The script (at most 1,048,576 octets; words are parted by spaces, blank lines are passed over):
@@ -48,6 +48,9 @@ The script (at most 1,048,576 octets; words are parted by spaces, blank lines ar
   pool .. for A.B.C.D/BITS     a pool for calls that endpoints of this network open
   at MS from ADDRESS HEX       at millisecond MS a datagram comes from ADDRESS, with these octets
   turn MS                      at millisecond MS one thing is done that is due, if anything is
+  replace MS I KIND ..         at millisecond MS a fresh pool, of a KIND with its numbers as in a
+                               line of pool, takes the place of pool I, whose loans it takes over
+                               and whose network it serves; the first pool is 0
 
 Settings, with their ranges and what they are if no line sets them (ms is milliseconds):
   limit         1 to 1000000000000  100000  units of all calls together
@@ -66,14 +69,15 @@ Settings, with their ranges and what they are if no line sets them (ms is millis
   least_grant   0 to 4294967295          0  least units of a call with a loan, if it wants as many
 
 NAME has 1 to 128 characters. LIMIT is at most 1000000000000; STEP and BURST are 1 to 4294967295;
-MS is below 9007199254740992, and one that is below an earlier one counts as that. HEX has two
-digits for each octet, and may be left out. There are no comments, and no tabs.
+MS is below 9007199254740992, and one that is below an earlier one counts as that. I may be any
+number below 18446744073709551616. HEX has two digits for each octet, and may be left out. There
+are no comments, and no tabs.
 
-Lines of zone, set and pool stand before the first of at or turn; of repeated lines of zone, or
-of set with one key, the last counts. There are at most 16 pools. A call has its bandwidth from
-the first pool whose network holds the call signal address of the endpoint that opens it. A
-pool without a network holds every address, and the last pool has none. Without a pool line
-there is one fixed pool of the zone's limit.
+Lines of zone, set and pool stand before the first of at, turn or replace; of repeated lines of
+zone, or of set with one key, the last counts. There are at most 16 pools. A call has its
+bandwidth from the first pool whose network holds the call signal address of the endpoint that
+opens it. A pool without a network holds every address, and the last pool has none. Without a
+pool line there is one fixed pool of the zone's limit.
 For example, a terminal at 10.0.0.5 asks who its gatekeeper is (a GRQ, GatekeeperRequest):
   zone gk 10.0.0.1:1719
   at 0 from 10.0.0.5:1719 00000000060008914A0002000A00000506B70200
@@ -94,6 +98,9 @@ Behind its number a line says what happened:
   done kept-over B             a kept reply was over, and went
   done pool-turn               the pools made their turn
   idle                         nothing was due
+  replaced I                   a fresh pool took the place of pool I: no call lost bandwidth
+  not replaced K               a fresh pool was refused, and nothing has changed: K is 2 if there is
+                               no pool I, and 4 if the fresh one doesn't lend what pool I has lent
 
 B counts the lines before that of the datagram whose reply is kept. If a pool was asked, the line
 goes on with ` lent K`, ` refused` or ` wait`; if a reply that was over went, to make room for this

@@ -71,12 +71,25 @@ pub fn serve_socket<P: Pool + Send, R: Threads + Wait + Clock + Sync, S: Stop + 
 ) -> Result<Report<P>, RunningFault>
     requires receivers { service.receivers ≤ 15 }
     requires plan { IsPlan service.plan }
-    ensures served { IfOk result (λ r. IsServed zone.state r.finished r.datagrams r.turns) }
+    ensures served { IfOk result (λ r. IsServed zone.state r.finished r.datagrams r.turns
+        r.changes) }
 {
     let start = Instant::now(rt).ok();
     let ends = ends_of(alloc, socket, service, stop)?;
     let clocks = clocks_of(rt, alloc, start, service.receivers + 1)?;
     let sender = socket.end(None, stop);
-    let report = serve_zone(rt, alloc, zone, ends, sender, &Open, clocks, service.plan)?;
+    // the program replaces no pool
+    let orders = Vec::new(alloc);
+    let report = serve_zone(
+        rt,
+        alloc,
+        zone,
+        ends,
+        sender,
+        &Open,
+        clocks,
+        orders,
+        service.plan,
+    )?;
     Ok(report)
 }

@@ -53,7 +53,8 @@ fn serve_pools<P: Pool + Send, R: Threads + Wait + Clock + Net + Log + Sync, S: 
 ) -> Result<Report<P>, RunningFault>
     requires { AreSettings settings }
     ensures served { IfOk result
-        (λ r. IsServed (zone_set settings).state r.finished r.datagrams r.turns) }
+        (λ r. IsServed (zone_set settings).state r.finished r.datagrams r.turns
+        r.changes) }
 {
     let service = Service::of(&settings, ending.receives);
     if !are_new(&pools, settings.pools.as_slice()) {

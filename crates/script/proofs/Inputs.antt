@@ -5,7 +5,7 @@ use Rattle.std.proofs.Common.{length, refl, subst, map, arith, nat_lt, ap, IsTru
 use Rattle.std.proofs.lemmas.Bool.Decides.{nat_tests}
 use Rattle.std.specs.Io.KnownBytes.{Consumes, IsAtEnd}
 use Rattle.ras_module.specs.declared.address.Address.{Address}
-use Rattle.zone_events.specs.declared.event.Event.{Event}
+use Rattle.script.specs.declared.event.ScriptEvent.{ScriptEvent}
 use Rattle.zone_config.specs.Networks.{has_default}
 use Rattle.script.specs.declared.fault.ScriptFault.{ScriptFault}
 use Rattle.script.specs.declared.fault.ScriptFault.TheVariants.{TooLong, BadLine, NoZone}
@@ -36,7 +36,7 @@ never_if true script e = absurd (cc e)
 never_if false script e = absurd (cc e)
 
 never_from : (place : Option (List ℕ × Address)) (settings : List (Key × ℕ))
-    (pools : List PoolEntry) (events : List Event)
+    (pools : List PoolEntry) (events : List ScriptEvent)
     → script_from place settings pools events ≡ Err TooLong → ⊥
 never_from None settings pools events e = absurd (cc e)
 never_from (Some zone) settings pools events e =

@@ -7,7 +7,7 @@ use Rattle.std.specs.Prelude.{encode_utf8, encode_utf8_all, map}
 use Rattle.hex.specs.Hex.{encode_upper, encode_with, upper_digits}
 use Rattle.zone_events.specs.declared.outcome.Outcome.{Outcome}
 use Rattle.script.specs.Prints.{character_of, identifier_text, outcome_line, outcome_lines}
-use Rattle.script.specs.Prints.{outcome_lines_from}
+use Rattle.script.specs.Prints.{lines_from}
 
 encode_utf8_all-append : (xs ys : List ℕ)
     → encode_utf8_all (xs ++ ys) ≡ encode_utf8_all xs ++ encode_utf8_all ys
@@ -51,26 +51,23 @@ encode_with_more digits xs i below =
     ∙ ap (λ (last : List ℕ). encode_with digits (take i xs) ++ last)
     (encode_with-one digits (get_or xs i 0))
 
-lines-append : (n : ℕ) (xs ys : List Outcome)
-    → outcome_lines_from n (xs ++ ys)
-    ≡ outcome_lines_from n xs ++ outcome_lines_from (n + length xs) ys
-lines-append n [] ys = ap (λ (m : ℕ). outcome_lines_from m ys) (sym (add-zero n))
-lines-append n (x ∷ xs) ys =
-    ap (λ (t : List ℕ). outcome_line n x ++ t)
-    (lines-append (n + 1) xs ys
-    ∙ ap (λ (m : ℕ). outcome_lines_from (n + 1) xs ++ outcome_lines_from m ys) (omega arith))
-    ∙ sym (append_assoc (outcome_line n x) (outcome_lines_from (n + 1) xs)
-    (outcome_lines_from (n + length (x ∷ xs)) ys))
+lines-append : {A : Type 0} (line : ℕ → A → List ℕ) (n : ℕ) (xs ys : List A)
+    → lines_from line n (xs ++ ys) ≡ lines_from line n xs ++ lines_from line (n + length xs) ys
+lines-append line n [] ys = ap (λ (m : ℕ). lines_from line m ys) (sym (add-zero n))
+lines-append line n (x ∷ xs) ys =
+    ap (λ (t : List ℕ). line n x ++ t)
+    (lines-append line (n + 1) xs ys
+    ∙ ap (λ (m : ℕ). lines_from line (n + 1) xs ++ lines_from line m ys) (omega arith))
+    ∙ sym (append_assoc (line n x) (lines_from line (n + 1) xs)
+    (lines_from line (n + length (x ∷ xs)) ys))
 
-pub lines_push : (xs : List Outcome) (outcome : Outcome)
-    → outcome_lines (xs ++ outcome ∷ [])
-    ≡ outcome_lines xs ++ outcome_line (length xs + 1) outcome
-lines_push xs outcome =
+pub lines_push : {A : Type 0} (line : ℕ → A → List ℕ) (xs : List A) (x : A)
+    → lines_from line 1 (xs ++ x ∷ []) ≡ lines_from line 1 xs ++ line (length xs + 1) x
+lines_push line xs x =
     let number : 1 + length xs ≡ length xs + 1 = omega arith in
-    lines-append 1 xs (outcome ∷ [])
-    ∙ ap (λ (m : ℕ). outcome_lines xs ++ (outcome_line m outcome ++ [])) number
-    ∙ ap (λ (t : List ℕ). outcome_lines xs ++ t)
-    (append-nil (outcome_line (length xs + 1) outcome))
+    lines-append line 1 xs (x ∷ [])
+    ∙ ap (λ (m : ℕ). lines_from line 1 xs ++ (line m x ++ [])) number
+    ∙ ap (λ (t : List ℕ). lines_from line 1 xs ++ t) (append-nil (line (length xs + 1) x))
 
 pub lines_more : (xs : List Outcome) (i : ℕ) (outcome : Outcome) → i < length xs
     → outcome ≡ get_or xs i outcome
@@ -78,9 +75,13 @@ pub lines_more : (xs : List Outcome) (i : ℕ) (outcome : Outcome) → i < lengt
 lines_more xs i outcome below is =
     ap outcome_lines (take_more xs i outcome below
     ∙ ap (λ (o : Outcome). take i xs ++ o ∷ []) (sym is))
-    ∙ lines_push (take i xs) outcome
+    ∙ lines_push outcome_line (take i xs) outcome
     ∙ ap (λ (n : ℕ). outcome_lines (take i xs) ++ outcome_line (n + 1) outcome)
     (length-take-le i xs (omega (arith, below)))
+
+pub refusal_flat : (number words fault end : List ℕ)
+    → number ++ (words ++ (fault ++ end)) ≡ number ++ words ++ fault ++ end
+refusal_flat number words fault end = sym (simp append_assoc)
 
 pub address_flat : (a b c d port dot colon : List ℕ)
     → a ++ (dot ++ (b ++ (dot ++ (c ++ (dot ++ (d ++ (colon ++ port)))))))

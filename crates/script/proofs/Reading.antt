@@ -6,7 +6,7 @@ use Rattle.std.proofs.lemmas.Bool.Decides.{nat_tests}
 use Rattle.std.proofs.lemmas.List.{length_push}
 use Rattle.std.specs.List.{position_from, last_or}
 use Rattle.ras_module.specs.declared.address.Address.{Address}
-use Rattle.zone_events.specs.declared.event.Event.{Event}
+use Rattle.script.specs.declared.event.ScriptEvent.{ScriptEvent}
 use Rattle.script.specs.declared.fault.ScriptFault.{ScriptFault}
 use Rattle.script.specs.declared.fault.ScriptFault.TheVariants.{BadLine}
 use Rattle.zone_config.specs.declared.key.Key.{Key}
@@ -25,7 +25,7 @@ abbrev pub readings : List ℕ → List (Option Line)
 readings text = map line_of (lines_of text)
 
 -- what lines say behind these pools and these events
-abbrev placed : List PoolEntry → List Event → List (Option Line) → List (Option Line)
+abbrev placed : List PoolEntry → List ScriptEvent → List (Option Line) → List (Option Line)
 placed pools [] lines = in_place (length pools) lines
 placed pools (event ∷ events) lines = map behind_event lines
 
@@ -57,7 +57,7 @@ abbrev Place : Type 0
 Place = Option (List ℕ × Address)
 
 longer_settings : (place : Place) (settings more : List (Key × ℕ)) (pools : List PoolEntry)
-    (events : List Event) (setting : Key × ℕ) (bad : Option ℕ)
+    (events : List ScriptEvent) (setting : Key × ℕ) (bad : Option ℕ)
     → script_unless bad (record {
       zone = place;
       settings = settings ++ setting ∷ more;
@@ -79,7 +79,7 @@ longer_settings place settings more pools events setting bad =
     })) (sym (append_assoc settings (setting ∷ []) more))
 
 longer_pools : (place : Place) (settings : List (Key × ℕ)) (pools more : List PoolEntry)
-    (events : List Event) (pool : PoolEntry) (bad : Option ℕ)
+    (events : List ScriptEvent) (pool : PoolEntry) (bad : Option ℕ)
     → script_unless bad (record {
       zone = place;
       settings = settings;
@@ -101,7 +101,7 @@ longer_pools place settings pools more events pool bad =
     })) (sym (append_assoc pools (pool ∷ []) more))
 
 longer_events : (place : Place) (settings : List (Key × ℕ)) (pools : List PoolEntry)
-    (events more : List Event) (event : Event) (bad : Option ℕ)
+    (events more : List ScriptEvent) (event : ScriptEvent) (bad : Option ℕ)
     → script_unless bad (record {
       zone = place;
       settings = settings;
@@ -144,7 +144,7 @@ pool_taken n place settings pools pool lines few =
     (position_from (λ line. not (is_some line)) (n + 1) others))
 
 taken : (n : ℕ) (place : Place) (settings : List (Key × ℕ)) (pools : List PoolEntry)
-    (events : List Event) (line : Line) (lines : List (Option Line))
+    (events : List ScriptEvent) (line : Line) (lines : List (Option Line))
     → MayFollow (record { zone = place; settings = settings; pools = pools; events = events }) line
     → answer_from n (record { zone = place; settings = settings; pools = pools; events = events })
     (Some line ∷ lines)
@@ -172,7 +172,7 @@ taken n place settings pools (event ∷ events) (At next) lines may =
     (filter_map event_in others) next (position_from (λ line. not (is_some line)) (n + 1) others)
 
 unread : (n : ℕ) (place : Place) (settings : List (Key × ℕ)) (pools : List PoolEntry)
-    (events : List Event) (lines : List (Option Line))
+    (events : List ScriptEvent) (lines : List (Option Line))
     → answer_from n (record { zone = place; settings = settings; pools = pools; events = events })
     (None ∷ lines) ≡ Err (BadLine n)
 unfolding answer_from
@@ -190,7 +190,7 @@ pool_misplaced n place settings pools pool lines many =
     rw full refl
 
 misplaced : (n : ℕ) (place : Place) (settings : List (Key × ℕ)) (pools : List PoolEntry)
-    (events : List Event) (line : Line) (lines : List (Option Line))
+    (events : List ScriptEvent) (line : Line) (lines : List (Option Line))
     → ¬ (MayFollow (record { zone = place; settings = settings; pools = pools; events = events })
     line)
     → answer_from n (record { zone = place; settings = settings; pools = pools; events = events })
@@ -209,7 +209,7 @@ misplaced n place settings pools [] (At next) lines not_so = absurd (not_so tt)
 misplaced n place settings pools (event ∷ events) (At next) lines not_so = absurd (not_so tt)
 
 blank_last : (n : ℕ) (place : Place)
-    (settings : List (Key × ℕ)) (pools : List PoolEntry) (events : List Event)
+    (settings : List (Key × ℕ)) (pools : List PoolEntry) (events : List ScriptEvent)
     → answer_from n
     (record { zone = place; settings = settings; pools = pools; events = events }) []
     ≡ answer_from n (record { zone = place; settings = settings; pools = pools; events = events })
@@ -219,7 +219,7 @@ blank_last n place settings pools [] = refl
 blank_last n place settings pools (event ∷ events) = refl
 
 no_lines : (n : ℕ) (place : Place)
-    (settings : List (Key × ℕ)) (pools : List PoolEntry) (events : List Event)
+    (settings : List (Key × ℕ)) (pools : List PoolEntry) (events : List ScriptEvent)
     → answer_from n (record { zone = place; settings = settings; pools = pools; events = events })
     [] ≡ script_from place settings pools events
 unfolding answer_from

@@ -1,4 +1,5 @@
 pub mod Words
+pub mod Events
 pub mod Fields
 pub mod Settings
 pub mod Pools
@@ -9,4 +10,5 @@ pub mod Faults
 pub mod Streams
 pub mod Reads
 pub mod Prints
+pub mod Deeds
 pub mod Runs

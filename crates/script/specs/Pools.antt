@@ -70,6 +70,17 @@ abbrev pub pool_of : List (List ℕ) → Option PoolEntry
 pool_of [] = None
 pool_of (kind ∷ words) = pool_of_kind (kind_of kind) words
 
+-- the pool of an entry that serves every address
+abbrev pub without_network : PoolEntry → Option PoolSpec
+without_network (spec, None) = Some spec
+without_network (spec, Some network) = None
+
+-- a pool as in a pool line, of which no network is named
+abbrev pub fresh_pool : List (List ℕ) → Option PoolSpec
+fresh_pool words = do
+  pool ← pool_of words
+  without_network pool
+
 -- the networks of the pools; without a pool line there is one pool, which serves every address
 abbrev pub networks_of : List PoolEntry → List (Option Network)
 networks_of [] = None ∷ []

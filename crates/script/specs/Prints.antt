@@ -1,6 +1,6 @@
--- The lines that are printed of outcomes.
+-- The lines that are printed of what came of events.
 use Rattle.std.specs.Prelude.{ℕ, ◌+◌, List, [], ◌∷◌, ◌++◌, map, slice_index, encode_utf8_all}
-use Rattle.std.specs.Prelude.{Option, Some, None, codes, if◌then◌else◌}
+use Rattle.std.specs.Prelude.{Option, Some, None, Result, Ok, Err, codes, if◌then◌else◌}
 use Rattle.std.specs.Fmt.{decimal}
 use Rattle.std.specs.Int.{is_in_range}
 use Rattle.zone_events.specs.declared.due_item.DueItem.{DueItem}
@@ -8,8 +8,10 @@ use Rattle.zone_events.specs.declared.due_item.DueItem.TheVariants.{Registration
 use Rattle.zone_events.specs.declared.due_item.DueItem.TheVariants.{Silent, Retry, KeptOver}
 use Rattle.zone_events.specs.declared.due_item.DueItem.TheVariants.{PoolTurn}
 use Rattle.hex.specs.Hex.{encode_upper}
+use Rattle.pools.specs.declared.fault.ReplaceFault.{ReplaceFault}
 use Rattle.pools.specs.declared.interface.Lend.{Lend}
 use Rattle.pools.specs.declared.interface.Lend.TheVariants.{Lent, Refused, Wait}
+use Rattle.pools.specs.Replacing.{replace_fault_number}
 use Rattle.ras_module.specs.declared.address.Address.{Address}
 use Rattle.zone_events.specs.declared.outcome.Datagram.{Datagram}
 use Rattle.zone_events.specs.declared.outcome.IgnoredCause.{IgnoredCause}
@@ -18,6 +20,7 @@ use Rattle.zone_events.specs.declared.outcome.IgnoredCause.TheVariants.{NotServe
 use Rattle.zone_events.specs.declared.outcome.IgnoredCause.TheVariants.{Busy, UnknownEndpoint}
 use Rattle.zone_events.specs.declared.outcome.Note.{Note}
 use Rattle.zone_events.specs.declared.outcome.Note.TheVariants.{Served, Kept, Ignored, Done, Idle}
+use Rattle.zone_events.specs.declared.outcome.Note.TheVariants.{Replaced}
 use Rattle.zone_events.specs.declared.outcome.Outcome.{Outcome}
 
 -- the character with this code of 16 bits; the codes of surrogates stand for no character, and
@@ -53,6 +56,7 @@ note_text Kept = codes "kept"
 note_text (Ignored cause) = codes "ignored " ++ cause_text cause
 note_text (Done item) = codes "done " ++ item_text item
 note_text Idle = codes "idle"
+note_text (Replaced pool) = codes "replaced " ++ decimal pool
 
 -- what the pool answered, if one was asked; units are of 100 bit/s
 abbrev pub answer_text : Option Lend → List ℕ
@@ -89,11 +93,29 @@ outcome_line number outcome =
     ++ answer_text outcome.answer ++ dropped_text outcome.dropped
     ++ output_text outcome.output ++ codes "\n"
 
-abbrev pub outcome_lines_from : ℕ → List Outcome → List ℕ
-outcome_lines_from number [] = []
-outcome_lines_from number (outcome ∷ outcomes) =
-    outcome_line number outcome ++ outcome_lines_from (number + 1) outcomes
+-- a line for each of these, numbered from this number on
+abbrev pub lines_from : {A : Type 0} → (ℕ → A → List ℕ) → ℕ → List A → List ℕ
+lines_from line number [] = []
+lines_from line number (x ∷ xs) = line number x ++ lines_from line (number + 1) xs
 
 -- a line for each outcome, numbered from 1
 abbrev pub outcome_lines : List Outcome → List ℕ
-outcome_lines outcomes = outcome_lines_from 1 outcomes
+outcome_lines outcomes = lines_from outcome_line 1 outcomes
+
+-- the line of an event with this number, whose fresh pool is refused: `N not replaced K`, with the
+-- number of the fault
+abbrev pub refusal_line : ℕ → ReplaceFault → List ℕ
+refusal_line number fault =
+    decimal number ++ codes " not replaced " ++ decimal (replace_fault_number fault) ++ codes "\n"
+
+-- what came of an event: the outcome of a step, or why the fresh pool is refused
+abbrev pub Upshot : Type 0
+Upshot = Result Outcome ReplaceFault
+
+abbrev pub upshot_line : ℕ → Upshot → List ℕ
+upshot_line number (Ok outcome) = outcome_line number outcome
+upshot_line number (Err fault) = refusal_line number fault
+
+-- a line for each of these, numbered from 1
+abbrev pub upshot_lines : List Upshot → List ℕ
+upshot_lines upshots = lines_from upshot_line 1 upshots

@@ -1,7 +1,7 @@
 -- What lines say together.
 use Rattle.std.specs.Prelude.{ℕ, ◌≡◌, ◌<◌, ◌++◌, List, [], ◌∷◌, length, Option, Some, None}
 use Rattle.ras_module.specs.declared.address.Address.{Address}
-use Rattle.zone_events.specs.declared.event.Event.{Event}
+use Rattle.script.specs.declared.event.ScriptEvent.{ScriptEvent}
 use Rattle.zone_config.specs.declared.key.Key.{Key}
 use Rattle.script.specs.declared.line.Line.{Line}
 use Rattle.script.specs.declared.line.Line.TheVariants.{Blank, Zone, Set, Pool, At}
@@ -12,7 +12,7 @@ pub record Said : Type 0 where
   pub zone : Option (List ℕ × Address)
   pub settings : List (Key × ℕ)
   pub pools : List PoolEntry
-  pub events : List Event
+  pub events : List ScriptEvent
 
 -- the zone, the setting, the pool and the event of a line, if it has one
 abbrev pub zone_in : Option Line → Option (List ℕ × Address)
@@ -39,7 +39,7 @@ pool_in (Some (At event)) = None
 pool_in (Some Blank) = None
 pool_in None = None
 
-abbrev pub event_in : Option Line → Option Event
+abbrev pub event_in : Option Line → Option ScriptEvent
 event_in (Some (Zone name address)) = None
 event_in (Some (Set setting)) = None
 event_in (Some (Pool pool)) = None

@@ -5,7 +5,7 @@ use Rattle.std.specs.Prelude.{Option, Some, None, is_some, Result, Ok, Err, if�
 use Rattle.std.specs.List.{position_from, last_or}
 use Rattle.ras_module.specs.declared.address.Address.{Address}
 use Rattle.zone_config.specs.declared.config.ConfigParts.{ConfigParts}
-use Rattle.zone_events.specs.declared.event.Event.{Event}
+use Rattle.script.specs.declared.event.ScriptEvent.{ScriptEvent}
 use Rattle.zone_config.specs.declared.network.Network.{Network}
 use Rattle.zone_config.specs.Defaults.{default_parts}
 use Rattle.zone_config.specs.Networks.{has_default}
@@ -64,13 +64,13 @@ with_setting parts setting = with_number parts setting.0 setting.1
 abbrev pub parts_of : List ℕ × Address → List (Option Network) → List (Key × ℕ) → ConfigParts
 parts_of zone networks settings = fold with_setting (default_parts zone.0 zone.1 networks) settings
 
-abbrev pub script_with : ConfigParts → List PoolEntry → List Event → Script
+abbrev pub script_with : ConfigParts → List PoolEntry → List ScriptEvent → Script
 script_with config pools events =
     record { config = config; pools = specs_of config.limit pools; events = events }
 
 -- a zone has to be named, and its last pool has to serve every address
-abbrev pub script_from : Option (List ℕ × Address) → List (Key × ℕ) → List PoolEntry → List Event
-    → Result Script ScriptFault
+abbrev pub script_from : Option (List ℕ × Address) → List (Key × ℕ) → List PoolEntry
+    → List ScriptEvent → Result Script ScriptFault
 script_from None settings pools events = Err NoZone
 script_from (Some zone) settings pools events =
     if has_default (networks_of pools)

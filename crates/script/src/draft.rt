@@ -5,12 +5,12 @@ ghost use Rattle.script.specs.Said.{Said, with_line, MayFollow};
 ghost use Rattle.script.specs.Scripts.{script_from, GivesUnlessMemory};
 
 use crate::draft_config::{config_of, networks_of, specs_of, with_settings};
+use crate::event::{Events, ScriptEvent};
 use crate::fault::ScriptFault;
 use crate::line::Line;
 use crate::pool::PoolLine;
-use crate::read::{Events, Script};
+use crate::read::Script;
 use crate::setting::Setting;
-use ras_core::Event;
 use ras_module::{Address, Name};
 use std::alloc::{AllocError, Global};
 use std::marker::Model;
@@ -24,7 +24,7 @@ pub struct Draft {
     zone: Option<(Name, Address)>,
     settings: Vec<Setting>,
     pools: Vec<PoolLine>,
-    events: Vec<Event>,
+    events: Vec<ScriptEvent>,
 }
 
 impl Model for Draft {

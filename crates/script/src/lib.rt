@@ -3,6 +3,7 @@
 
 mod draft;
 mod draft_config;
+mod event;
 mod fault;
 mod input;
 mod line;
@@ -14,9 +15,10 @@ mod run;
 mod setting;
 mod words;
 
+pub use event::{Events, Replacement, ScriptEvent};
 pub use fault::{RunFault, ScriptFault};
 pub use input::Input;
 pub use output::Output;
 pub use print::write_outcomes;
-pub use read::{Events, Script, read_script};
+pub use read::{Script, read_script};
 pub use run::run_script;

@@ -3,9 +3,10 @@
 ghost use Rattle.std.specs.Prelude.{◌≡◌, IfOk};
 ghost use Rattle.script.specs.Fields.{octets_of};
 ghost use Rattle.script.specs.Lines.{zone_line, set_line, pool_line, moment_of, event_of, at_line};
-ghost use Rattle.script.specs.Lines.{turn_line, line_of};
+ghost use Rattle.script.specs.Lines.{turn_line, number_of_pool, replace_line, line_of};
 
-use crate::pool::PoolLine;
+use crate::event::{Replacement, ScriptEvent};
+use crate::pool::{PoolLine, fresh_pool};
 use crate::setting::Setting;
 use crate::words::Words;
 use hex::FromHexError;
@@ -26,7 +27,7 @@ pub enum Line {
     /// The zone has this pool.
     Pool(PoolLine),
     /// This happens.
-    At(Event),
+    At(ScriptEvent),
 }
 
 fn zone_line(mut words: Words) -> Option<Line>
@@ -86,9 +87,9 @@ fn event_of(
         address_of(address),
         octets_of(alloc, octets)?,
     ) {
-        (Some(moment), Some(source), Some(octets)) => {
-            Ok(Some(Line::At(Event::Datagram(source, octets, moment))))
-        }
+        (Some(moment), Some(source), Some(octets)) => Ok(Some(Line::At(ScriptEvent::Event(
+            Event::Datagram(source, octets, moment),
+        )))),
         _ => Ok(None),
     }
 }
@@ -125,8 +126,33 @@ fn turn_line(mut words: Words) -> Option<Line>
     let moment = words.next_word()?;
     match words.next_word() {
         Some(_) => None,
-        None => Some(Line::At(Event::Turn(moment_of(moment)?))),
+        None => Some(Line::At(ScriptEvent::Event(Event::Turn(moment_of(moment)?)))),
     }
+}
+
+/// The number of a pool, which need not be there.
+fn number_of_pool(word: &[u8]) -> Option<usize>
+    ensures { result ≡ number_of_pool word.now }
+{
+    match number_of(0, u64::MAX, word) {
+        Some(number) => Some(number as usize),
+        None => None,
+    }
+}
+
+fn replace_line(mut words: Words) -> Option<Line>
+    ensures { result ≡ replace_line words.entry }
+{
+    let moment = words.next_word()?;
+    let pool = words.next_word()?;
+    let moment = moment_of(moment)?;
+    let pool = number_of_pool(pool)?;
+    let fresh = fresh_pool(words)?;
+    Some(Line::At(ScriptEvent::Replace(Replacement {
+        pool,
+        fresh,
+        moment,
+    })))
 }
 
 /// What a line says; None if it isn't understood.
@@ -148,6 +174,8 @@ pub fn line_of(alloc: Global, line: &[u8]) -> Result<Option<Line>, AllocError>
         at_line(alloc, words)
     } else if is_word(kind, "turn") {
         Ok(turn_line(words))
+    } else if is_word(kind, "replace") {
+        Ok(replace_line(words))
     } else {
         Ok(None)
     }

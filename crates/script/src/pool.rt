@@ -1,10 +1,10 @@
-//! The pool lines of a script.
+//! The pools that lines of a script describe.
 
 ghost use Rattle.std.specs.Prelude.{◌≡◌, IfSome, false};
 ghost use Rattle.zone_config.specs.Networks.{is_too_long};
 ghost use Rattle.value_texts.specs.Texts.{number_of};
 ghost use Rattle.script.specs.Pools.{PoolEntry, fixed_pool, paced_pool, pool_of, pool_with_network};
-ghost use Rattle.script.specs.Pools.{served_network, step_pool};
+ghost use Rattle.script.specs.Pools.{fresh_pool, served_network, step_pool};
 
 use crate::words::Words;
 use pools::{NonZeroUnits, PoolSpec};
@@ -128,4 +128,15 @@ fn paced_pool(mut words: Words) -> Option<PoolLine>
         burst: units_of(burst)?,
     };
     pool_with_network(spec, words)
+}
+
+/// The pool that the words describe, if they name no network.
+pub fn fresh_pool(words: Words) -> Option<PoolSpec>
+    ensures { result ≡ fresh_pool words.entry }
+{
+    let line = PoolLine::new(words)?;
+    match line.network() {
+        None => Some(line.spec()),
+        Some(_) => None,
+    }
 }

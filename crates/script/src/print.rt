@@ -5,10 +5,10 @@ ghost use Rattle.std.specs.Io.KnownBytes.{Appends};
 ghost use Rattle.hex.specs.Hex.{encode_upper, upper_digits};
 ghost use Rattle.script.specs.Prints.{character_of, identifier_text, cause_text, item_text};
 ghost use Rattle.script.specs.Prints.{note_text, answer_text, dropped_text, address_text};
-ghost use Rattle.script.specs.Prints.{output_text, outcome_line, outcome_lines};
+ghost use Rattle.script.specs.Prints.{output_text, outcome_line, outcome_lines, refusal_line};
 
 use arrayvec::ArrayVec;
-use pools::Lend;
+use pools::{Lend, ReplaceFault};
 use ras_core::{Datagram, DueItem, IgnoredCause, Note, Outcome};
 use ras_module::{Address, EndpointId};
 use std::io;
@@ -85,6 +85,7 @@ fn write_note<W: Write>(note: &Note, out: &mut W) -> io::Result<()>
             write_item(item, out)
         }
         Note::Idle => out.write_all(b"idle"),
+        Note::Replaced(pool) => write!(out, "replaced {pool}"),
     }
 }
 
@@ -182,6 +183,18 @@ pub(crate) fn write_outcome<W: Write>(
     write_dropped(outcome.dropped, out)?;
     write_output(&outcome.output, out)?;
     out.write_all(b"\n")
+}
+
+/// Writes the line of a fresh pool that is refused, with this number.
+pub(crate) fn write_refusal<W: Write>(
+    number: usize,
+    fault: ReplaceFault,
+    out: &mut W,
+) -> io::Result<()>
+    ensures { OnOk result (Appends (W.contents out.old) (W.contents out.new)
+        (refusal_line number fault)) }
+{
+    writeln!(out, "{number} not replaced {}", fault.number())
 }
 
 /// Writes a line for each outcome, numbered from 1.

@@ -5,57 +5,18 @@ ghost use Rattle.script.specs.Scripts.{script_of, GivesUnlessMemory};
 ghost use Rattle.script.specs.Reads.{ReadsScript};
 
 use crate::draft::Draft;
+use crate::event::Events;
 use crate::fault::ScriptFault;
 use crate::input::{Input, read_whole};
 use crate::line::line_of;
 use pools::PoolSpecs;
-use ras_core::{Config, Event};
+use ras_core::Config;
 use std::alloc::Global;
 use std::io::Read;
-use std::marker::Model;
 use value_texts::parted;
 
-/// The events of a script, in order. Contracts see the list of them.
-#[derive(Drop)]
-pub struct Events {
-    items: Vec<Event>,
-}
-
-impl Model for Events {
-    ghost use Rattle.std.specs.Prelude.{List};
-    ghost use Rattle.zone_events.specs.declared.event.Event.{Event};
-
-    ghost Value = { List Event };
-
-    ghost view = { λ e. e.items.items };
-}
-
-impl Events {
-    /// The events of a vector. This takes no memory.
-    pub fn from_vec(items: Vec<Event>) -> Self
-        ensures { result ≡ items.items }
-    {
-        Self { items }
-    }
-
-    /// The vector of the events. This takes no memory.
-    pub fn into_vec(self) -> Vec<Event>
-        ensures { result.items ≡ self }
-    {
-        let Events { items } = self;
-        items
-    }
-
-    /// The events, in order.
-    pub fn as_slice(&self) -> &[Event]
-        ensures { result.now ≡ self.now }
-    {
-        &self.items
-    }
-}
-
 /// A script: the configuration of its zone, the pools that it is to have, one for each network of
-/// the configuration, and the events that come to it.
+/// the configuration, and its events, some of which may replace a pool.
 #[derive(Drop)]
 pub struct Script {
     pub config: Config,

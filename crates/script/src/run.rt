@@ -1,13 +1,18 @@
 //! Running a script.
 
 ghost use Rattle.std.specs.Prelude.{◌≡◌, ◌≢◌, ◌↔◌, ◌⊎◌, map, Err, IfErr, IfOk, true, false};
-ghost use Rattle.script.specs.Runs.{IsRunAnswer, IsRunOf, IsFlushedAfter, are_pools_of, start_of};
+ghost use Rattle.std.specs.Prelude.{length};
+ghost use Rattle.script.specs.Deeds.{Handle, Offer, deeds_of};
+ghost use Rattle.script.specs.Events.{fresh_pools};
+ghost use Rattle.script.specs.Runs.{IsDeedAnswer, IsRunAnswer, IsRunOf, IsFlushedAfter};
+ghost use Rattle.script.specs.Runs.{are_boxes_of, are_pools_of, start_of};
 
+use crate::event::{Replacement, ScriptEvent};
 use crate::fault::RunFault;
 use crate::output::Output;
-use crate::print::write_outcome;
+use crate::print::{write_outcome, write_refusal};
 use crate::read::Script;
-use pools::{Pool, PoolSet};
+use pools::{Pool, PoolSet, ReplaceFault};
 use ras_core::{Config, Event, NewFault, StepFault, Zone};
 use std::alloc::Global;
 use std::io::Write;
@@ -32,45 +37,53 @@ fn zone_of<P: Pool>(alloc: Global, config: Config, pools: Vec<P>) -> Result<Zone
     }
 }
 
-/// Runs the events of a script on its zone, one after the other, and writes a line for each
-/// outcome. The pools are those of the script, in its order: as many, and each of them idle.
+/// Runs the events of a script on its zone, one after the other, and writes a line for what comes
+/// of each. The pools are those of the script, in its order: as many, and each of them idle. The
+/// fresh pools, which take the places of others, are as many as its events name, in their order.
 /// Otherwise they are refused before anything is written. If an event can't be run, the lines of
-/// those before it are written. The writer is flushed.
+/// those before it are written. The writer is flushed. A pool that was replaced is let go, and so
+/// is a fresh one that was refused.
 pub fn run_script<P: Pool, W: Write + Drop>(
     alloc: Global,
     script: Script,
     pools: Vec<P>,
+    fresh: Vec<P>,
     out: &mut Output<W>,
 ) -> Result<(), RunFault>
-    ensures answer { IsRunAnswer script (map P.account pools.items)
+    ensures answer { IsRunAnswer script (map P.account pools.items) (map P.account fresh.items)
         out.old.contents out.new.contents result }
     ensures flushed { IsFlushedAfter result out.new.flushed }
-    ensures wrong { (result ≡ Err RunFault.WrongPools)
-        ↔ (are_pools_of script.config (map P.account pools.items) ≡ false) }
+    ensures wrong { (result ≡ Err RunFault.WrongPools) ↔ (are_boxes_of script
+        (map P.account pools.items) (map P.account fresh.items) ≡ false) }
 {
+    if fresh.len() != script.events.replacements() {
+        return Err(RunFault::WrongPools);
+    }
     let Script { config, events, .. } = script;
     let mut zone = match zone_of(alloc, config, pools) {
         Ok(zone) => zone,
         Err(fault) => return Err(fault),
     };
-    run_zone(&mut zone, events.into_vec(), out)
+    run_zone(&mut zone, events.into_vec(), fresh, out)
 }
 
 // A zone that is dropped at each of many exits makes a function costly to prove, so what is done
 // with it stands in functions that borrow it.
 
-/// Runs events on a zone, one after the other, writes a line for each outcome, and flushes the
-/// writer.
+/// Runs events on a zone, one after the other, writes a line for each, and flushes the writer.
 fn run_zone<P: Pool, W: Write + Drop>(
     zone: &mut Zone<P>,
-    events: Vec<Event>,
+    events: Vec<ScriptEvent>,
+    fresh: Vec<P>,
     out: &mut Output<W>,
 ) -> Result<(), RunFault>
-    ensures answer { IsRunOf zone.old events.items out.old.contents out.new.contents result }
+    requires { length fresh.items ≡ length (fresh_pools events.items) }
+    ensures answer { IsRunOf zone.old (deeds_of events.items (map P.account fresh.items))
+        out.old.contents out.new.contents result }
     ensures flushed { IsFlushedAfter result out.new.flushed }
     ensures pools { result ≢ Err RunFault.WrongPools }
 {
-    let ran = run_events(zone, events, out);
+    let ran = run_events(zone, events, fresh, out);
     if let Err(RunFault::Stream) = ran {
         return ran;
     }
@@ -84,23 +97,78 @@ fn run_zone<P: Pool, W: Write + Drop>(
 /// run, so that no list of outcomes is held.
 fn run_events<P: Pool, W: Write + Drop>(
     zone: &mut Zone<P>,
-    events: Vec<Event>,
+    events: Vec<ScriptEvent>,
+    fresh: Vec<P>,
     out: &mut Output<W>,
 ) -> Result<(), RunFault>
-    ensures answer { IsRunOf zone.old events.items out.old.contents out.new.contents result }
+    requires { length fresh.items ≡ length (fresh_pools events.items) }
+    ensures answer { IsRunOf zone.old (deeds_of events.items (map P.account fresh.items))
+        out.old.contents out.new.contents result }
     ensures pools { result ≢ Err RunFault.WrongPools }
 {
     let mut number = 0;
+    let mut fresh = fresh.into_iter();
     for event in events {
         number += 1;
-        let outcome = match zone.step(event) {
-            Ok(outcome) => outcome,
-            Err(StepFault::Memory) => return Err(RunFault::Memory(number)),
-            Err(StepFault::Closed) => return Err(RunFault::Closed(number)),
+        let ran = match event {
+            ScriptEvent::Event(event) => run_event(zone, number, event, out),
+            ScriptEvent::Replace(replacement) => match fresh.next() {
+                Some(pool) => run_replacement(zone, number, replacement, pool, out),
+                None => unreachable!(),
+            },
         };
-        if write_outcome(number, &outcome, out).is_err() {
-            return Err(RunFault::Stream);
+        match ran {
+            Ok(()) => {}
+            Err(fault) => return Err(fault),
         }
     }
     Ok(())
+}
+
+/// Runs the event with this number, and writes the line of its outcome.
+fn run_event<P: Pool, W: Write + Drop>(
+    zone: &mut Zone<P>,
+    number: usize,
+    event: Event,
+    out: &mut Output<W>,
+) -> Result<(), RunFault>
+    ensures { IsDeedAnswer number zone.old zone.new (Handle event)
+        out.old.contents out.new.contents result }
+{
+    let outcome = match zone.step(event) {
+        Ok(outcome) => outcome,
+        Err(StepFault::Memory) => return Err(RunFault::Memory(number)),
+        Err(StepFault::Closed) => return Err(RunFault::Closed(number)),
+    };
+    match write_outcome(number, &outcome, out) {
+        Ok(()) => Ok(()),
+        Err(_) => Err(RunFault::Stream),
+    }
+}
+
+/// Offers the zone a fresh pool, in the event with this number, and writes the line of what comes
+/// of it. The pool that comes back is let go.
+fn run_replacement<P: Pool, W: Write + Drop>(
+    zone: &mut Zone<P>,
+    number: usize,
+    replacement: Replacement,
+    fresh: P,
+    out: &mut Output<W>,
+) -> Result<(), RunFault>
+    ensures { IsDeedAnswer number zone.old zone.new (Offer replacement (P.account fresh))
+        out.old.contents out.new.contents result }
+{
+    let Replacement { pool, moment, .. } = replacement;
+    let written = match zone.replace(pool, fresh, moment) {
+        Ok((outcome, _old)) => write_outcome(number, &outcome, out),
+        Err((_fresh, fault)) => match fault {
+            ReplaceFault::Closed => return Err(RunFault::Closed(number)),
+            ReplaceFault::Memory => return Err(RunFault::Memory(number)),
+            _ => write_refusal(number, fault, out),
+        },
+    };
+    match written {
+        Ok(()) => Ok(()),
+        Err(_) => Err(RunFault::Stream),
+    }
 }

@@ -17,5 +17,5 @@ returns g c =
     ∙ ap (λ (accounts : List Account). start_of c.args.settings.config accounts) same in
     record {
       served = subst (λ (z : Running). IsServed z.state report.finished report.datagrams
-          report.turns) start c.in_ok-report.ensures.served;
+          report.turns report.changes) start c.in_ok-report.ensures.served;
     }
