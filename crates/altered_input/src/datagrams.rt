@@ -54,6 +54,7 @@ fn note_name(note: Note) -> &'static str {
         Note::Ignored(cause) => cause_name(cause),
         Note::Done(_) => "done",
         Note::Idle => "idle",
+        Note::Replaced(_) => "replaced",
     }
 }
 

@@ -6,7 +6,7 @@ use anyhow::{Context, Result, bail, ensure};
 use book_replay::replays;
 use books::{Book, Entry};
 use pools::FixedPool;
-use ras_core::{Event, Moment, Note, Outcome, Zone};
+use ras_core::{Change, Event, Moment, Note, Outcome, Zone};
 use ras_module::Octets;
 use std::alloc::Global;
 use std::time::{Clock, Duration, Instant};
@@ -96,7 +96,7 @@ fn record(book: &mut Book, events: Vec<Event>, outcomes: Vec<Outcome>) -> Result
         book.entries.push(Entry {
             seat: 0,
             call,
-            event,
+            event: Change::Event(event),
             outcome,
         })?;
     }
@@ -111,12 +111,13 @@ fn kind_of(note: Note) -> &'static str {
         Note::Ignored(_) => "ignored",
         Note::Done(_) => "done",
         Note::Idle => "idle",
+        Note::Replaced(_) => "replaced",
     }
 }
 
 /// Prints how many steps of each kind the book has.
 fn print_kinds(rt: &impl Print, book: &Book) -> Result<()> {
-    for kind in ["served", "kept", "ignored", "done", "idle"] {
+    for kind in ["served", "kept", "ignored", "done", "idle", "replaced"] {
         let count = book
             .entries
             .iter()

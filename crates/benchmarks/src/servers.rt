@@ -120,7 +120,17 @@ fn serve<R: Threads + Wait + Clock + Sync>(
     let ends = feeds(alloc, datagrams)?;
     let clocks = clocks(alloc, &time)?;
     let sender = Feed { number: 0, left: 0 };
-    match serve_zone(rt, alloc, zone, ends, sender, &Open, clocks, PLAN) {
+    match serve_zone(
+        rt,
+        alloc,
+        zone,
+        ends,
+        sender,
+        &Open,
+        clocks,
+        Vec::new(alloc),
+        PLAN,
+    ) {
         Ok(report) => Ok(report),
         Err(_) => bail!("nothing is served"),
     }

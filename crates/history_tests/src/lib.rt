@@ -10,3 +10,5 @@ mod fixtures;
 mod orders;
 #[cfg(test)]
 mod refusals;
+#[cfg(test)]
+mod replacing;

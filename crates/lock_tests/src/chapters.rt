@@ -21,11 +21,11 @@ fn figures(chapter: &Chapter) -> (usize, usize) {
 }
 
 /// A step, a chapter, a step and two chapters follow one another.
-fn cut_chapters<D: Hall, T: Ledger, U: Ledger>(
+fn cut_chapters<D: Hall, T: Ledger, U: Ledger, V: Ledger>(
     rt: &impl Wait,
     alloc: Global,
-    lock: &ZoneLock<FixedPool, D, T, U>,
-    seats: &mut [Seat<D, T, U>],
+    lock: &ZoneLock<FixedPool, D, T, U, V>,
+    seats: &mut [Seat<D, T, U, V>],
     receipts: &mut Vec<Receipt>,
     chapters: &mut Vec<Chapter>,
 ) -> Option<()> {
@@ -76,11 +76,11 @@ fn is_audited<P: Pool>(
 }
 
 /// Whether chapters are cut, and what is left begins behind them, with their totals.
-pub fn has_chapters<D: Hall, T: Ledger, U: Ledger, R: Wait>(
+pub fn has_chapters<D: Hall, T: Ledger, U: Ledger, V: Ledger, R: Wait>(
     rt: &R,
     alloc: Global,
-    lock: ZoneLock<FixedPool, D, T, U>,
-    seats: Vec<Seat<D, T, U>>,
+    lock: ZoneLock<FixedPool, D, T, U, V>,
+    seats: Vec<Seat<D, T, U, V>>,
 ) -> Option<bool> {
     let (mut seats, mut receipts, mut chapters) = (seats, Vec::new(alloc), Vec::new(alloc));
     let are_cut = cut_chapters(rt, alloc, &lock, &mut seats, &mut receipts, &mut chapters);

@@ -15,10 +15,10 @@ use vectors::requests::{GRQ, GRQ_OF_XX};
 use zone_lock::{CutFault, Discarded, Hall, Seat, ZoneLock};
 
 /// Takes the entries out. How many there are, and whether the state in which they begin was there.
-fn discard<D: Hall, T: Ledger, U: Ledger>(
+fn discard<D: Hall, T: Ledger, U: Ledger, V: Ledger>(
     rt: &impl Wait,
     alloc: Global,
-    lock: &ZoneLock<FixedPool, D, T, U>,
+    lock: &ZoneLock<FixedPool, D, T, U, V>,
 ) -> (usize, bool) {
     let Discarded { base, entries } = lock.discard(rt, Vec::new(alloc));
     (entries.len(), base.is_some())
@@ -26,11 +26,11 @@ fn discard<D: Hall, T: Ledger, U: Ledger>(
 
 /// A step, which is discarded, a step, a chapter that can't be cut, and two steps more: those of
 /// two are discarded.
-fn discard_steps<D: Hall, T: Ledger, U: Ledger>(
+fn discard_steps<D: Hall, T: Ledger, U: Ledger, V: Ledger>(
     rt: &impl Wait,
     alloc: Global,
-    lock: &ZoneLock<FixedPool, D, T, U>,
-    seats: &mut [Seat<D, T, U>],
+    lock: &ZoneLock<FixedPool, D, T, U, V>,
+    seats: &mut [Seat<D, T, U, V>],
 ) -> Option<bool> {
     let seat = seats.get_mut(0)?;
     drop(apply(rt, alloc, lock, seat, &GRQ)?);
@@ -57,11 +57,11 @@ fn is_nothing_left<P: Pool>(finished: &Finished<P>) -> bool {
 
 /// Whether steps are let go, and what is left goes on from the state of the zone, with their
 /// totals. An audit finds that their chapters are missing.
-pub fn has_discarded<D: Hall, T: Ledger, U: Ledger, R: Wait>(
+pub fn has_discarded<D: Hall, T: Ledger, U: Ledger, V: Ledger, R: Wait>(
     rt: &R,
     alloc: Global,
-    lock: ZoneLock<FixedPool, D, T, U>,
-    seats: Vec<Seat<D, T, U>>,
+    lock: ZoneLock<FixedPool, D, T, U, V>,
+    seats: Vec<Seat<D, T, U, V>>,
 ) -> Option<bool> {
     let mut seats = seats;
     let are_gone = discard_steps(rt, alloc, &lock, &mut seats);

@@ -55,11 +55,11 @@ pub fn datagram(alloc: Global, bytes: &[u8]) -> Option<Prepared> {
 }
 
 /// The seat makes a step of this datagram.
-pub fn apply<D: Hall, T: Ledger, U: Ledger>(
+pub fn apply<D: Hall, T: Ledger, U: Ledger, V: Ledger>(
     rt: &impl Wait,
     alloc: Global,
-    lock: &ZoneLock<FixedPool, D, T, U>,
-    seat: &mut Seat<D, T, U>,
+    lock: &ZoneLock<FixedPool, D, T, U, V>,
+    seat: &mut Seat<D, T, U, V>,
     bytes: &[u8],
 ) -> Option<Receipt> {
     lock.apply(rt, seat, datagram(alloc, bytes)?).ok()

@@ -16,11 +16,11 @@ use zone_lock::{Hall, Seat, ZoneLock};
 
 /// Whether a seat is told that a first call has 1,280 units, and that a second one, for which 720
 /// were lent, is denied.
-fn is_second_denied<D: Hall, T: Ledger, U: Ledger>(
+fn is_second_denied<D: Hall, T: Ledger, U: Ledger, V: Ledger>(
     rt: &impl Wait,
     alloc: Global,
-    lock: &ZoneLock<FixedPool, D, T, U>,
-    seats: &mut [Seat<D, T, U>],
+    lock: &ZoneLock<FixedPool, D, T, U, V>,
+    seats: &mut [Seat<D, T, U, V>],
     receipts: &mut Vec<Receipt>,
 ) -> Option<bool> {
     let steps: [(&[u8], &[u8], Option<Lend>); 4] = [
@@ -54,11 +54,11 @@ fn is_counted_both_ways<P: Pool>(finished: &Finished<P>, receipts: &[Receipt]) -
 }
 
 /// Whether the history of such a lock counts the loan that went back as lent and as returned.
-pub fn has_returned_loan<D: Hall, T: Ledger, U: Ledger, R: Wait>(
+pub fn has_returned_loan<D: Hall, T: Ledger, U: Ledger, V: Ledger, R: Wait>(
     rt: &R,
     alloc: Global,
-    lock: ZoneLock<FixedPool, D, T, U>,
-    seats: Vec<Seat<D, T, U>>,
+    lock: ZoneLock<FixedPool, D, T, U, V>,
+    seats: Vec<Seat<D, T, U, V>>,
 ) -> Option<bool> {
     let (mut seats, mut receipts) = (seats, Vec::new(alloc));
     let is_denied = is_second_denied(rt, alloc, &lock, &mut seats, &mut receipts);

@@ -12,7 +12,11 @@ mod fixtures;
 #[cfg(test)]
 mod least_grant;
 #[cfg(test)]
+mod listing;
+#[cfg(test)]
 mod locks;
+#[cfg(test)]
+mod replacing;
 #[cfg(test)]
 mod seats;
 #[cfg(test)]

@@ -6,6 +6,8 @@ use crate::chapters::has_chapters;
 use crate::discarding::has_discarded;
 use crate::fixtures::{zone, zone_of};
 use crate::least_grant::has_returned_loan;
+use crate::listing::is_left_by_lists;
+use crate::replacing::{has_refused_pools, has_replaced_pool};
 use crate::seats::{are_listed, are_seated, is_short_of_a_seat};
 use crate::threads::are_all_entered;
 use pools::FixedPool;
@@ -23,11 +25,14 @@ pub enum Deed {
     Nothing,
     TwoSeats,
     Listing,
+    ListsBetween,
     SeatMissing,
     Chapters,
     Discarding,
     Threads,
     ReturnedLoan,
+    ReplacedPool,
+    RefusedPools,
 }
 
 /// Whether a lock of this many seats over a zone of its own passes what is done with it: false if
@@ -43,7 +48,7 @@ pub fn passes<R: Threads + Wait + Sync>(
         _ => zone(alloc)?,
     };
     let blanks = Blanks::new(seats);
-    open_and_do::<Brand, Brand, Brand, R>(rt, alloc, zone, seats, blanks, deed)
+    open_and_do::<Brand, Brand, Brand, Brand, R>(rt, alloc, zone, seats, blanks, deed)
 }
 
 /// The ledgers are the caller's to pick.
@@ -51,6 +56,7 @@ fn open_and_do<
     D: Hall + Send + Sync,
     T: Ledger + Send + Sync,
     U: Ledger + Send + Sync,
+    V: Ledger + Send + Sync,
     R: Threads + Wait + Sync,
 >(
     rt: &R,
@@ -66,18 +72,23 @@ fn open_and_do<
         × (blanks.turns.parts ≡ T.parts) × (T.parts ≡ seats) }
     requires lent { (blanks.lent.name ≡ U.name)
         × (blanks.lent.parts ≡ U.parts) × (U.parts ≡ seats) }
+    requires changes { (blanks.changes.name ≡ V.name)
+        × (blanks.changes.parts ≡ V.parts) × (V.parts ≡ seats) }
     requires opened { (D.all ≡ seats) × (D.opened ≡ zone.state) }
 {
-    match ZoneLock::<FixedPool, D, T, U>::open(alloc, zone, seats, blanks) {
+    match ZoneLock::<FixedPool, D, T, U, V>::open(alloc, zone, seats, blanks) {
         Ok((lock, seats)) => match deed {
             Deed::Nothing => Some(true),
             Deed::TwoSeats => are_seated(rt, alloc, lock, seats),
             Deed::Listing => are_listed(rt, alloc, lock, seats),
+            Deed::ListsBetween => is_left_by_lists(rt, alloc, lock, seats),
             Deed::SeatMissing => is_short_of_a_seat(lock, seats),
             Deed::Chapters => has_chapters(rt, alloc, lock, seats),
             Deed::Discarding => has_discarded(rt, alloc, lock, seats),
             Deed::Threads => are_all_entered(rt, alloc, lock, seats),
             Deed::ReturnedLoan => has_returned_loan(rt, alloc, lock, seats),
+            Deed::ReplacedPool => has_replaced_pool(rt, alloc, lock, seats),
+            Deed::RefusedPools => has_refused_pools(rt, alloc, lock, seats),
         },
         Err((_, OpenFault::BadSeats)) => Some(false),
         Err((_, OpenFault::Memory)) => None,

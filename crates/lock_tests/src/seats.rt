@@ -19,11 +19,11 @@ use zone_lock::{Hall, Listing, Seat, ZoneLock};
 
 /// Whether two seats make a step each, and both are the entries of the history when the lock is
 /// gone, with which their receipts agree.
-pub fn are_seated<D: Hall, T: Ledger, U: Ledger, R: Wait>(
+pub fn are_seated<D: Hall, T: Ledger, U: Ledger, V: Ledger, R: Wait>(
     rt: &R,
     alloc: Global,
-    lock: ZoneLock<FixedPool, D, T, U>,
-    seats: Vec<Seat<D, T, U>>,
+    lock: ZoneLock<FixedPool, D, T, U, V>,
+    seats: Vec<Seat<D, T, U, V>>,
 ) -> Option<bool> {
     let mut seats = seats;
     let mut receipts = Vec::new(alloc);
@@ -37,11 +37,11 @@ pub fn are_seated<D: Hall, T: Ledger, U: Ledger, R: Wait>(
     Some(are_told? && are_there && are_found?)
 }
 
-fn are_applied<D: Hall, T: Ledger, U: Ledger>(
+fn are_applied<D: Hall, T: Ledger, U: Ledger, V: Ledger>(
     rt: &impl Wait,
     alloc: Global,
-    lock: &ZoneLock<FixedPool, D, T, U>,
-    seats: &mut [Seat<D, T, U>],
+    lock: &ZoneLock<FixedPool, D, T, U, V>,
+    seats: &mut [Seat<D, T, U, V>],
     receipts: &mut Vec<Receipt>,
 ) -> Option<bool> {
     let one = apply(rt, alloc, lock, seats.get_mut(0)?, &GRQ)?;
@@ -55,11 +55,11 @@ fn are_applied<D: Hall, T: Ledger, U: Ledger>(
 
 /// Whether the endpoints that one seat registers, and the call that the other one admits, are
 /// listed.
-pub fn are_listed<D: Hall, T: Ledger, U: Ledger, R: Wait>(
+pub fn are_listed<D: Hall, T: Ledger, U: Ledger, V: Ledger, R: Wait>(
     rt: &R,
     alloc: Global,
-    lock: ZoneLock<FixedPool, D, T, U>,
-    seats: Vec<Seat<D, T, U>>,
+    lock: ZoneLock<FixedPool, D, T, U, V>,
+    seats: Vec<Seat<D, T, U, V>>,
 ) -> Option<bool> {
     let mut seats = seats;
     let is_open = is_call_open(rt, alloc, &lock, &mut seats);
@@ -81,11 +81,11 @@ fn has_call(listing: &Listing) -> bool {
         && listing.limit == 3_000
 }
 
-fn is_call_open<D: Hall, T: Ledger, U: Ledger>(
+fn is_call_open<D: Hall, T: Ledger, U: Ledger, V: Ledger>(
     rt: &impl Wait,
     alloc: Global,
-    lock: &ZoneLock<FixedPool, D, T, U>,
-    seats: &mut [Seat<D, T, U>],
+    lock: &ZoneLock<FixedPool, D, T, U, V>,
+    seats: &mut [Seat<D, T, U, V>],
 ) -> Option<bool> {
     let one = apply(rt, alloc, lock, seats.get_mut(0)?, &RRQ_101)?;
     let two = apply(rt, alloc, lock, seats.get_mut(0)?, &RRQ_102)?;
@@ -98,9 +98,9 @@ fn is_call_open<D: Hall, T: Ledger, U: Ledger>(
 }
 
 /// Whether a lock isn't finished without its last seat, and is with it.
-pub fn is_short_of_a_seat<D: Hall, T: Ledger, U: Ledger>(
-    lock: ZoneLock<FixedPool, D, T, U>,
-    seats: Vec<Seat<D, T, U>>,
+pub fn is_short_of_a_seat<D: Hall, T: Ledger, U: Ledger, V: Ledger>(
+    lock: ZoneLock<FixedPool, D, T, U, V>,
+    seats: Vec<Seat<D, T, U, V>>,
 ) -> Option<bool> {
     let mut seats = seats;
     let last = seats.pop();

@@ -46,11 +46,11 @@ fn discovery(thread: u8, step: usize) -> [u8; 20] {
 }
 
 /// One step, and a chapter if one is due.
-fn go_on<D: Hall, T: Ledger, U: Ledger>(
+fn go_on<D: Hall, T: Ledger, U: Ledger, V: Ledger>(
     rt: &impl Wait,
     alloc: Global,
-    lock: &ZoneLock<FixedPool, D, T, U>,
-    seat: &mut Seat<D, T, U>,
+    lock: &ZoneLock<FixedPool, D, T, U, V>,
+    seat: &mut Seat<D, T, U, V>,
     share: &mut Share,
     bytes: &[u8],
 ) -> Option<()> {
@@ -63,11 +63,11 @@ fn go_on<D: Hall, T: Ledger, U: Ledger>(
 }
 
 /// Whether the thread makes its steps.
-fn work<D: Hall, T: Ledger, U: Ledger>(
+fn work<D: Hall, T: Ledger, U: Ledger, V: Ledger>(
     rt: &impl Wait,
     alloc: Global,
-    lock: &ZoneLock<FixedPool, D, T, U>,
-    seat: &mut Seat<D, T, U>,
+    lock: &ZoneLock<FixedPool, D, T, U, V>,
+    seat: &mut Seat<D, T, U, V>,
     share: &mut Share,
     thread: u8,
 ) -> bool {
@@ -80,11 +80,11 @@ fn work<D: Hall, T: Ledger, U: Ledger>(
 }
 
 /// Whether the first seat makes its steps, for the first share.
-fn has_first_worked<D: Hall, T: Ledger, U: Ledger>(
+fn has_first_worked<D: Hall, T: Ledger, U: Ledger, V: Ledger>(
     rt: &impl Wait,
     alloc: Global,
-    lock: &ZoneLock<FixedPool, D, T, U>,
-    seats: &mut [Seat<D, T, U>],
+    lock: &ZoneLock<FixedPool, D, T, U, V>,
+    seats: &mut [Seat<D, T, U, V>],
     shares: &mut [Share],
     thread: u8,
 ) -> bool {
@@ -99,12 +99,13 @@ fn have_two_worked<
     D: Hall + Send + Sync,
     T: Ledger + Send + Sync,
     U: Ledger + Send + Sync,
+    V: Ledger + Send + Sync,
     R: Threads + Wait + Sync,
 >(
     rt: &R,
     alloc: Global,
-    lock: &ZoneLock<FixedPool, D, T, U>,
-    seats: &mut [Seat<D, T, U>],
+    lock: &ZoneLock<FixedPool, D, T, U, V>,
+    seats: &mut [Seat<D, T, U, V>],
     shares: &mut [Share],
     thread: u8,
 ) -> bool {
@@ -126,12 +127,13 @@ fn have_worked<
     D: Hall + Send + Sync,
     T: Ledger + Send + Sync,
     U: Ledger + Send + Sync,
+    V: Ledger + Send + Sync,
     R: Threads + Wait + Sync,
 >(
     rt: &R,
     alloc: Global,
-    lock: &ZoneLock<FixedPool, D, T, U>,
-    seats: &mut [Seat<D, T, U>],
+    lock: &ZoneLock<FixedPool, D, T, U, V>,
+    seats: &mut [Seat<D, T, U, V>],
     shares: &mut [Share],
 ) -> bool {
     if seats.len() < 2 || shares.len() < 2 {
@@ -178,12 +180,13 @@ fn made<
     D: Hall + Send + Sync,
     T: Ledger + Send + Sync,
     U: Ledger + Send + Sync,
+    V: Ledger + Send + Sync,
     R: Threads + Wait + Sync,
 >(
     rt: &R,
     alloc: Global,
-    lock: &ZoneLock<FixedPool, D, T, U>,
-    seats: &mut [Seat<D, T, U>],
+    lock: &ZoneLock<FixedPool, D, T, U, V>,
+    seats: &mut [Seat<D, T, U, V>],
 ) -> Option<Vec<Share>> {
     let mut shares = shares_of(alloc)?;
     if have_worked(rt, alloc, lock, seats, &mut shares) {
@@ -206,12 +209,13 @@ pub fn are_all_entered<
     D: Hall + Send + Sync,
     T: Ledger + Send + Sync,
     U: Ledger + Send + Sync,
+    V: Ledger + Send + Sync,
     R: Threads + Wait + Sync,
 >(
     rt: &R,
     alloc: Global,
-    lock: ZoneLock<FixedPool, D, T, U>,
-    seats: Vec<Seat<D, T, U>>,
+    lock: ZoneLock<FixedPool, D, T, U, V>,
+    seats: Vec<Seat<D, T, U, V>>,
 ) -> Option<bool> {
     let mut seats = seats;
     let shares = made(rt, alloc, &lock, &mut seats);

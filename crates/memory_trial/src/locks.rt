@@ -109,9 +109,9 @@ fn is_led(chapter: &Chapter) -> Result<bool, &'static str> {
 
 /// The seat makes a step of the event. If it is refused, a chapter ends there, and shows that the
 /// locked zone stands where the steps so far have led it; then the step is made.
-fn make_step<P: Pool, D: Hall, T: Ledger, U: Ledger, R: Wait>(
-    hold: &Hold<'_, P, D, T, U, R>,
-    seat: &mut Seat<D, T, U>,
+fn make_step<P: Pool, D: Hall, T: Ledger, U: Ledger, V: Ledger, R: Wait>(
+    hold: &Hold<'_, P, D, T, U, V, R>,
+    seat: &mut Seat<D, T, U, V>,
     event: &Event,
     record: &mut Record,
 ) -> Result<(), &'static str> {
@@ -130,9 +130,9 @@ fn make_step<P: Pool, D: Hall, T: Ledger, U: Ledger, R: Wait>(
 }
 
 /// The seats make a step for each event in turn. The last listing is what the zone has then.
-fn make_steps<P: Pool, D: Hall, T: Ledger, U: Ledger, R: Wait>(
-    hold: &Hold<'_, P, D, T, U, R>,
-    seats: &mut [Seat<D, T, U>],
+fn make_steps<P: Pool, D: Hall, T: Ledger, U: Ledger, V: Ledger, R: Wait>(
+    hold: &Hold<'_, P, D, T, U, V, R>,
+    seats: &mut [Seat<D, T, U, V>],
     events: &[Event],
     record: &mut Record,
 ) -> Result<Listing, &'static str> {
@@ -159,11 +159,11 @@ fn is_right<P: Pool>(
 }
 
 /// The seats make their steps, and the history that the lock leaves is audited.
-fn make_history<P: Pool, D: Hall, T: Ledger, U: Ledger, R: Wait>(
+fn make_history<P: Pool, D: Hall, T: Ledger, U: Ledger, V: Ledger, R: Wait>(
     rt: &R,
     alloc: Global,
-    lock: ZoneLock<P, D, T, U>,
-    seats: Vec<Seat<D, T, U>>,
+    lock: ZoneLock<P, D, T, U, V>,
+    seats: Vec<Seat<D, T, U, V>>,
     meter: &AtomicU64,
     events: &[Event],
     record: &mut Record,
@@ -198,7 +198,7 @@ enum Locked<P: Pool> {
 }
 
 /// The ledgers are the caller's to pick.
-fn open_and_make<P: Pool, D: Hall, T: Ledger, U: Ledger, R: Wait>(
+fn open_and_make<P: Pool, D: Hall, T: Ledger, U: Ledger, V: Ledger, R: Wait>(
     rt: &R,
     alloc: Global,
     zone: Zone<P>,
@@ -214,9 +214,11 @@ fn open_and_make<P: Pool, D: Hall, T: Ledger, U: Ledger, R: Wait>(
         × (blanks.turns.parts ≡ T.parts) × (T.parts ≡ seats) }
     requires lent { (blanks.lent.name ≡ U.name)
         × (blanks.lent.parts ≡ U.parts) × (U.parts ≡ seats) }
+    requires changes { (blanks.changes.name ≡ V.name)
+        × (blanks.changes.parts ≡ V.parts) × (V.parts ≡ seats) }
     requires opened { (D.all ≡ seats) × (D.opened ≡ zone.state) }
 {
-    match ZoneLock::<P, D, T, U>::open(alloc, zone, seats, blanks) {
+    match ZoneLock::<P, D, T, U, V>::open(alloc, zone, seats, blanks) {
         Ok((lock, seats)) => Locked::Made(make_history(
             rt, alloc, lock, seats, meter, events, record,
         )),
@@ -234,7 +236,7 @@ fn try_lock<P: Pool, R: Wait>(
     record: &mut Record,
 ) -> Locked<P> {
     let blanks = Blanks::new(SEATS);
-    open_and_make::<P, Brand, Brand, Brand, R>(
+    open_and_make::<P, Brand, Brand, Brand, Brand, R>(
         rt, alloc, zone, SEATS, blanks, meter, events, record,
     )
 }

@@ -9,7 +9,7 @@ use crate::sights::sight_of;
 use book_replay::replays;
 use books::{Book, Entry};
 use pools::Pool;
-use ras_core::{Event, Outcome, Snapshot};
+use ras_core::{Change, Event, Outcome, Snapshot};
 use std::alloc::Global;
 use step_check::same;
 
@@ -65,7 +65,7 @@ fn record<P: Pool>(
     book.add_reserved(Entry {
         seat: 0,
         call,
-        event: kept,
+        event: Change::Event(kept),
         outcome,
     });
     Ok(())

@@ -8,9 +8,9 @@ use crate::serving::serve_up;
 use crate::sights::sight_of;
 use crate::worlds::act_out;
 use pools::{Pool, PoolSet, StandardPool};
-use ras_core::{Event, Outcome, Snapshot, StepFault, Zone};
+use ras_core::{Change, Event, Outcome, Snapshot, StepFault, Zone};
 use registrations::Registration;
-use script::{Input, Script, ScriptFault, read_script, write_outcomes};
+use script::{Events, Input, Script, ScriptEvent, ScriptFault, read_script, write_outcomes};
 use std::alloc::{AllocError, AllocFailed, Global};
 use std::io;
 use std::rt::Clock;
@@ -145,6 +145,14 @@ fn steps<P: Pool>(
     Ok(())
 }
 
+/// What a step is made of, if it is made of this event.
+fn change_of(event: &Event) -> Result<Change, &'static str> {
+    match event.copy().or_else(|_| event.copy()) {
+        Ok(event) => Ok(Change::Event(event)),
+        Err(_) => Err("an event was copied again and refused"),
+    }
+}
+
 /// Whether the zone stands where these outcomes of the events have led it from that state.
 fn is_led<P: Pool>(
     stage: &Stage<P>,
@@ -153,7 +161,7 @@ fn is_led<P: Pool>(
     outcomes: &[Outcome],
 ) -> Result<bool, &'static str> {
     for (event, outcome) in events.iter().zip(outcomes.iter()) {
-        match accepts(before, event, outcome) {
+        match accepts(before, &change_of(event)?, outcome) {
             Ok(true) => {}
             Ok(false) => return Ok(false),
             Err(_) => return Err("a step was done again and refused"),
@@ -207,6 +215,18 @@ fn metered<P: Pool>(
     Ok(metered)
 }
 
+/// The events of a script that replaces no pool.
+fn events_of(alloc: Global, events: Events) -> Result<Vec<Event>, Trouble> {
+    let mut list = Vec::with_capacity(alloc, events.as_slice().len())?;
+    for event in events.into_vec() {
+        match event {
+            ScriptEvent::Event(event) => list.push(event)?,
+            ScriptEvent::Replace(_) => return Err(Trouble::Otherwise("a pool is to be replaced")),
+        }
+    }
+    Ok(list)
+}
+
 /// The script's zone over these pools.
 fn stage_of<P: Pool>(
     alloc: Global,
@@ -214,6 +234,7 @@ fn stage_of<P: Pool>(
     pools: Vec<P>,
 ) -> Result<(Stage<P>, Vec<Event>), Trouble> {
     let Script { config, events, .. } = script;
+    let events = events_of(alloc, events)?;
     let meter = Arc::new(alloc, AtomicU64::new(0))?;
     let Ok(pools) = PoolSet::new(metered(alloc, pools, &meter)?) else {
         return Err(Trouble::Otherwise("a new pool isn't idle"));
@@ -221,7 +242,7 @@ fn stage_of<P: Pool>(
     let Ok(zone) = Zone::new(alloc, config, pools) else {
         return Err(Trouble::Otherwise("no zone was made"));
     };
-    Ok((Stage { zone, meter }, events.into_vec()))
+    Ok((Stage { zone, meter }, events))
 }
 
 /// Hands the events to the zone.

@@ -17,17 +17,17 @@ const TWICE: &str = "a call of a lock was refused twice";
 
 /// A lock, and a meter that shows what the pools of its zone have lent.
 #[derive(Drop)]
-pub struct Hold<'a, P: Pool, D: Hall, T: Ledger, U: Ledger, R> {
+pub struct Hold<'a, P: Pool, D: Hall, T: Ledger, U: Ledger, V: Ledger, R> {
     pub rt: &'a R,
     pub alloc: Global,
-    pub lock: &'a ZoneLock<P, D, T, U>,
+    pub lock: &'a ZoneLock<P, D, T, U, V>,
     pub meter: &'a AtomicU64,
 }
 
 /// What the zone has; it is listed again if that was refused. Its pools have lent what its
 /// calls use.
-pub fn listing_of<P: Pool, D: Hall, T: Ledger, U: Ledger, R: Wait>(
-    hold: &Hold<'_, P, D, T, U, R>,
+pub fn listing_of<P: Pool, D: Hall, T: Ledger, U: Ledger, V: Ledger, R: Wait>(
+    hold: &Hold<'_, P, D, T, U, V, R>,
 ) -> Result<Listing, &'static str> {
     let listing = match hold.lock.list(hold.rt) {
         Ok(listing) => listing,
@@ -47,8 +47,8 @@ fn is_same(one: &Listing, other: &Listing) -> bool {
 }
 
 /// Refuses a zone that isn't as it was.
-fn expect_unchanged<P: Pool, D: Hall, T: Ledger, U: Ledger, R: Wait>(
-    hold: &Hold<'_, P, D, T, U, R>,
+fn expect_unchanged<P: Pool, D: Hall, T: Ledger, U: Ledger, V: Ledger, R: Wait>(
+    hold: &Hold<'_, P, D, T, U, V, R>,
     before: &Listing,
 ) -> Result<(), &'static str> {
     let now = listing_of(hold)?;
@@ -71,9 +71,9 @@ fn prepared(alloc: Global, event: &Event) -> Result<Prepared, &'static str> {
 }
 
 /// The seat makes a step of the event. None if it is refused for want of memory.
-fn try_apply<P: Pool, D: Hall, T: Ledger, U: Ledger, R: Wait>(
-    hold: &Hold<'_, P, D, T, U, R>,
-    seat: &mut Seat<D, T, U>,
+fn try_apply<P: Pool, D: Hall, T: Ledger, U: Ledger, V: Ledger, R: Wait>(
+    hold: &Hold<'_, P, D, T, U, V, R>,
+    seat: &mut Seat<D, T, U, V>,
     event: &Event,
 ) -> Result<Option<Receipt>, &'static str> {
     let prepared = prepared(hold.alloc, event)?;
@@ -87,9 +87,9 @@ fn try_apply<P: Pool, D: Hall, T: Ledger, U: Ledger, R: Wait>(
 /// The seat makes a step of the event. How many steps were made before it, by all and by this seat,
 /// is told by its receipt: a refused step isn't among them. If it is refused, the zone has what it
 /// had, and None is returned.
-pub fn apply<P: Pool, D: Hall, T: Ledger, U: Ledger, R: Wait>(
-    hold: &Hold<'_, P, D, T, U, R>,
-    seat: &mut Seat<D, T, U>,
+pub fn apply<P: Pool, D: Hall, T: Ledger, U: Ledger, V: Ledger, R: Wait>(
+    hold: &Hold<'_, P, D, T, U, V, R>,
+    seat: &mut Seat<D, T, U, V>,
     event: &Event,
 ) -> Result<Option<Receipt>, &'static str> {
     let before = listing_of(hold)?;
@@ -102,8 +102,8 @@ pub fn apply<P: Pool, D: Hall, T: Ledger, U: Ledger, R: Wait>(
 
 /// Ends a chapter. A refused call leaves its entries where they were: they are in the chapter that
 /// ends then.
-pub fn cut<P: Pool, D: Hall, T: Ledger, U: Ledger, R: Wait>(
-    hold: &Hold<'_, P, D, T, U, R>,
+pub fn cut<P: Pool, D: Hall, T: Ledger, U: Ledger, V: Ledger, R: Wait>(
+    hold: &Hold<'_, P, D, T, U, V, R>,
 ) -> Result<Chapter, &'static str> {
     let before = listing_of(hold)?;
     let chapter = match hold.lock.cut(hold.rt) {

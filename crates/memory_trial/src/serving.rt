@@ -9,7 +9,7 @@ use crate::rehearsal::{Stage, Trouble};
 use book_audit::audit;
 use books::Entry;
 use pools::Pool;
-use ras_core::{Datagram, Event, Zone};
+use ras_core::{Change, Datagram, Event, Zone};
 use std::alloc::{AllocError, Global};
 use std::io::{self, Write};
 use std::rt::Clock;
@@ -39,12 +39,11 @@ fn are_counted<P: Pool>(report: &Report<P>, given: u64) -> bool {
         && report.receive_faults == 0
 }
 
-/// Whether two events are datagrams with the same octets from the same address.
-fn is_same(one: &Event, other: &Event) -> bool {
-    match (one, other) {
-        (Event::Datagram(source, octets, _), Event::Datagram(from, bytes, _)) => {
-            source == from && octets == bytes
-        }
+/// Whether a step is of a datagram with the octets of this one, from the same address.
+fn is_same(event: &Event, change: &Change) -> bool {
+    match (event, change) {
+        (Event::Datagram(source, octets, _), Change::Event(Event::Datagram(from, bytes, _))) =>
+            source == from && octets == bytes,
         _ => false,
     }
 }
@@ -53,7 +52,7 @@ fn is_same(one: &Event, other: &Event) -> bool {
 fn are_given(entries: &[Entry], events: &[Event]) -> bool {
     let mut left = events;
     for entry in entries {
-        if matches!(&entry.event, Event::Turn(_)) {
+        if matches!(&entry.event, Change::Event(Event::Turn(_))) {
             continue;
         }
         match left.iter().position(|event| is_same(event, &entry.event)) {
@@ -148,7 +147,17 @@ fn report_of<P: Pool + Send, R: Threads + Wait + Clock + Sync>(
     };
     let Parts { receivers, clocks } = parts;
     let sender = end(&[]);
-    match serve_zone(rt, alloc, zone, receivers, sender, &Open, clocks, PLAN) {
+    match serve_zone(
+        rt,
+        alloc,
+        zone,
+        receivers,
+        sender,
+        &Open,
+        clocks,
+        Vec::new(alloc),
+        PLAN,
+    ) {
         Ok(report) => Ok(report),
         Err(ServeFault::Memory) => Err(Trouble::Memory),
         Err(_) => Err(Trouble::Otherwise("a zone wasn't served")),

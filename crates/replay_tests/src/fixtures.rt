@@ -2,7 +2,7 @@
 
 use books::{Book, Entry};
 use pools::{FixedPool, PoolSet};
-use ras_core::{Config, ConfigParts, Event, Moment, Networks, Zone};
+use ras_core::{Change, Config, ConfigParts, Event, Moment, Networks, Zone};
 use ras_module::{Address, Name, Octets, Source};
 use std::alloc::Global;
 use std::test::Fail;
@@ -56,7 +56,7 @@ fn record(book: &mut Book, zone: &mut Zone<FixedPool>, event: Event) -> Result<(
     book.add_reserved(Entry {
         seat: 0,
         call,
-        event: kept,
+        event: Change::Event(kept),
         outcome,
     });
     Ok(())

@@ -2,7 +2,7 @@
 
 use crate::fixtures::{ENDPOINT, datagram, zone_of};
 use pools::{FixedPool, Lend};
-use ras_core::{Datagram, Event, Outcome, Snapshot, Zone};
+use ras_core::{Change, Datagram, Outcome, Snapshot, Zone};
 use ras_module::Octets;
 use std::alloc::Global;
 use std::test::Fail;
@@ -29,7 +29,7 @@ fn is_accepted_as_recorded(
     alloc: Global,
     snapshot: &mut Snapshot,
     zone: &Zone<FixedPool>,
-    event: &Event,
+    event: &Change,
     outcome: &mut Outcome,
     recorded: &[u8],
     other: &[u8],
@@ -61,6 +61,7 @@ fn is_second_call_accepted(
     let mut snapshot = zone.snapshot()?;
     let event = datagram(alloc, &ARQ_OF_A_SECOND_CALL, 1)?;
     let mut outcome = zone.step(event.copy()?)?;
+    let event = Change::Event(event);
     is_accepted_as_recorded(
         alloc,
         &mut snapshot,

@@ -10,3 +10,5 @@ mod fixtures;
 mod least_grant;
 #[cfg(test)]
 mod recorded;
+#[cfg(test)]
+mod replacing;

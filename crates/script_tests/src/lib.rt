@@ -12,6 +12,8 @@ mod printing;
 #[cfg(test)]
 mod reading;
 #[cfg(test)]
+mod replacing;
+#[cfg(test)]
 mod running;
 #[cfg(test)]
 mod texts;

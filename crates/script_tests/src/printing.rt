@@ -54,6 +54,11 @@ fn each_note_has_its_text(rt: HostRuntime) -> Result<(), Fail> {
         ),
         (Note::Done(DueItem::PoolTurn), "1 done pool-turn\n"),
         (Note::Idle, "1 idle\n"),
+        (Note::Replaced(0), "1 replaced 0\n"),
+        (
+            Note::Replaced(usize::MAX),
+            "1 replaced 18446744073709551615\n",
+        ),
     ] {
         let line = line_with(rt.alloc(), note)?;
         assert_eq!(rt; line.as_slice(), text.as_bytes());

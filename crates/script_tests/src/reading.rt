@@ -3,7 +3,7 @@
 use pools::PoolSpec;
 use ras_core::{Event, Network};
 use ras_module::Address;
-use script::{Input, RunFault, ScriptFault, read_script};
+use script::{Input, Replacement, RunFault, ScriptEvent, ScriptFault, read_script};
 use std::alloc::Global;
 use std::test::Fail;
 
@@ -86,6 +86,29 @@ fn a_bad_turn_is_named(rt: HostRuntime) {
 }
 
 #[test]
+fn a_bad_replacement_is_named(rt: HostRuntime) {
+    let bad_lines: [&[u8]; 16] = [
+        b"replace",
+        b"replace 0",
+        b"replace 0 0",
+        b"replace 0 0 fixed",
+        b"replace 9007199254740992 0 fixed 1",
+        b"replace 0 18446744073709551616 fixed 1",
+        b"replace 0 -1 fixed 1",
+        b"replace 0 fixed 1",
+        b"replace 0 0 fixed 1000000000001",
+        b"replace 0 0 fixed 1 1",
+        b"replace 0 0 fixed 1 for 10.1.0.0/16",
+        b"replace 0 0 step 1",
+        b"replace 0 0 step 1 0",
+        b"replace 0 0 paced 1 4294967296",
+        b"replace 0 0 slow 1",
+        b"replace 0 0 pool fixed 1",
+    ];
+    assert_eq!(rt; first_taken(rt.alloc(), &bad_lines), None);
+}
+
+#[test]
 fn a_bad_line_of_a_pool_is_named(rt: HostRuntime) {
     let bad_lines: [&[u8]; 14] = [
         b"pool",
@@ -126,7 +149,7 @@ fn a_script_that_is_understood_has_a_zone(rt: HostRuntime) {
 
 #[test]
 fn a_line_that_is_not_understood_comes_before_other_faults(rt: HostRuntime) {
-    let scripts: [(&[u8], usize); 9] = [
+    let scripts: [(&[u8], usize); 12] = [
         (b"at 0 from 10.0.0.5:1719\n\nx\ny\n", 3),
         (b"zone gk 10.0.0.1:1719\nx", 2),
         (b"\n \nzone gk\n", 3),
@@ -136,6 +159,9 @@ fn a_line_that_is_not_understood_comes_before_other_faults(rt: HostRuntime) {
         ),
         (b"zone gk 10.0.0.1:1719\nturn 0\nset asks 1\n", 3),
         (b"turn 0\nzone gk 10.0.0.1:1719\n", 2),
+        (b"replace 0 0 fixed 1\nzone gk 10.0.0.1:1719\n", 2),
+        (b"replace 0 0 fixed 1\nset asks 1\n", 2),
+        (b"replace 0 0 fixed 1\npool fixed 1\n", 2),
         (b"at 0 from 10.0.0.5:1719\n\nzone gk 10.0.0.1:1719\n", 3),
         (
             b"zone gk 10.0.0.1:1719\nat 0 from 10.0.0.5:1719\npool fixed 1\n",
@@ -221,20 +247,28 @@ fn a_script_is_read(rt: HostRuntime) -> Result<(), Fail> {
 }
 
 /// Whether this is a datagram with this source, with these octets, at this millisecond.
-fn is_datagram(event: &Event, source: Address, octets: &[u8], milliseconds: u64) -> bool {
+fn is_datagram(event: &ScriptEvent, source: Address, octets: &[u8], milliseconds: u64) -> bool {
     match event {
-        Event::Datagram(from, bytes, moment) => {
+        ScriptEvent::Event(Event::Datagram(from, bytes, moment)) => {
             *from == source && bytes.as_slice() == octets && moment.milliseconds() == milliseconds
         }
-        Event::Turn(_) => false,
+        _ => false,
     }
 }
 
 /// Whether this is a turn at this millisecond.
-fn is_turn(event: &Event, milliseconds: u64) -> bool {
+fn is_turn(event: &ScriptEvent, milliseconds: u64) -> bool {
     match event {
-        Event::Datagram(..) => false,
-        Event::Turn(moment) => moment.milliseconds() == milliseconds,
+        ScriptEvent::Event(Event::Turn(moment)) => moment.milliseconds() == milliseconds,
+        _ => false,
+    }
+}
+
+/// The replacement that an event is.
+fn replacement_in(event: &ScriptEvent) -> Option<Replacement> {
+    match event {
+        ScriptEvent::Event(_) => None,
+        ScriptEvent::Replace(replacement) => Some(*replacement),
     }
 }
 
@@ -258,6 +292,49 @@ fn events_are_read(rt: HostRuntime) -> Result<(), Fail> {
     };
     assert!(rt; is_datagram(&events[2], source, &[], 9_007_199_254_740_991));
     assert!(rt; is_turn(&events[3], 0));
+    Ok(())
+}
+
+#[test]
+fn replacements_are_read(rt: HostRuntime) -> Result<(), Fail> {
+    let text: &[u8] =
+        b"zone gk 10.0.0.1:1719\nreplace 9007199254740991 18446744073709551615 fixed 0\n\
+        turn 0\n  replace  0012 007  paced 2500 1280 \n";
+    let script = read_script(rt.alloc(), &mut Input::new(text))?;
+    let events = script.events.as_slice();
+    assert_eq!(rt; events.len(), 3);
+    assert_eq!(rt; script.events.replacements(), 2);
+    let Some(first) = replacement_in(&events[0]) else {
+        panic!(rt; "the first event replaces a pool");
+    };
+    assert_eq!(rt; first.pool, usize::MAX);
+    assert_eq!(rt; first.moment.milliseconds(), 9_007_199_254_740_991);
+    assert!(rt; matches!(first.fresh, PoolSpec::Fixed { limit: 0 }));
+    assert!(rt; is_turn(&events[1], 0));
+    let Some(last) = replacement_in(&events[2]) else {
+        panic!(rt; "the last event replaces a pool");
+    };
+    assert_eq!(rt; (last.pool, last.moment.milliseconds()), (7, 12));
+    Ok(())
+}
+
+#[test]
+fn fresh_pools_are_described_in_order(rt: HostRuntime) -> Result<(), Fail> {
+    let text: &[u8] = b"zone gk 10.0.0.1:1719\nreplace 0 0 step 2500 64\nturn 0\n\
+        replace 0 1 paced 2500 1280\n";
+    let script = read_script(rt.alloc(), &mut Input::new(text))?;
+    let fresh = script.events.fresh_pools(rt.alloc())?;
+    let specs = fresh.as_slice();
+    assert_eq!(rt; specs.len(), 2);
+    let PoolSpec::Step { limit, step } = specs[0] else {
+        panic!(rt; "the first is a step pool");
+    };
+    assert_eq!(rt; (limit, step.get()), (2500, 64));
+    let PoolSpec::Paced { limit, burst } = specs[1] else {
+        panic!(rt; "the second is a paced pool");
+    };
+    assert_eq!(rt; (limit, burst.get()), (2500, 1280));
+    assert_eq!(rt; script.pools.as_slice().len(), 1);
     Ok(())
 }
 

@@ -18,7 +18,7 @@ fn a_script_is_run(rt: HostRuntime) -> Result<(), Fail> {
     let mut out = Output::new(Vec::new(rt.alloc()));
     let mut pools = Vec::new(rt.alloc());
     pools.push(FixedPool::new(100_000))?;
-    run_script(rt.alloc(), script, pools, &mut out)?;
+    run_script(rt.alloc(), script, pools, Vec::new(rt.alloc()), &mut out)?;
     let lines = b"1 ignored unreadable\n2 ignored too-long\n3 ignored not-served\n4 idle\n\
         5 done pool-turn\n6 idle\n";
     assert_eq!(rt; out.into_writer().as_slice(), lines.as_slice());
@@ -32,7 +32,7 @@ fn answer_with<P: Pool>(alloc: Global, pools: Vec<P>) -> Option<(Result<(), RunF
         return None;
     };
     let mut out = Output::new(Vec::new(alloc));
-    let answer = run_script(alloc, script, pools, &mut out);
+    let answer = run_script(alloc, script, pools, Vec::new(alloc), &mut out);
     Some((answer, out.into_writer().len()))
 }
 
@@ -119,7 +119,7 @@ fn a_stream_that_fails_is_told(rt: HostRuntime) -> Result<(), Fail> {
         let mut pools = Vec::new(rt.alloc());
         pools.push(FixedPool::new(100_000))?;
         assert_eq!(rt;
-            run_script(rt.alloc(), script, pools, &mut out),
+            run_script(rt.alloc(), script, pools, Vec::new(rt.alloc()), &mut out),
             Err(RunFault::Stream)
         );
     }

@@ -13,6 +13,12 @@ fn digits_write_a_number_of_its_range(rt: HostRuntime) {
         number_of(0, 9_007_199_254_740_991, b"9007199254740991"),
         Some(9_007_199_254_740_991)
     );
+    assert_eq!(rt;
+        number_of(0, u64::MAX, b"018446744073709551615"),
+        Some(18_446_744_073_709_551_615)
+    );
+    assert_eq!(rt; number_of(0, u64::MAX, b"18446744073709551616"), None);
+    assert_eq!(rt; number_of(0, u64::MAX, b"100000000000000000000"), None);
     assert_eq!(rt; number_of(1, 16, b"0"), None);
     assert_eq!(rt; number_of(1, 16, b"17"), None);
     assert_eq!(rt; number_of(1, 16, b""), None);

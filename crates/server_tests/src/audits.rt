@@ -55,7 +55,18 @@ fn report<R: Threads + Wait + Clock + Sync>(
     let receivers = givers(alloc, room, 4, DATAGRAMS, 3)?;
     let clocks = clocks(alloc, 4, room.reads)?;
     let sender = Giver::new(room, 0, 0, 0);
-    serve_zone(rt, alloc, zone, receivers, sender, &Open, clocks, plan).ok()
+    serve_zone(
+        rt,
+        alloc,
+        zone,
+        receivers,
+        sender,
+        &Open,
+        clocks,
+        Vec::new(alloc),
+        plan,
+    )
+    .ok()
 }
 
 /// Whether the history of a server whose chapters end after this many entries passes its audit, and

@@ -110,6 +110,7 @@ fn served<R: Threads + Wait + Clock + Sync>(
         Faulty::new(&[]),
         &Open,
         clocks,
+        Vec::new(alloc),
         plan,
     )
     .ok()
@@ -230,6 +231,7 @@ fn refusal<R: Threads + Wait + Clock + Sync>(
         Faulty::new(&[]),
         &Open,
         clocks,
+        Vec::new(alloc),
         PLAN,
     )
     .err()

@@ -18,7 +18,7 @@ use std::time::Duration;
 use udp_server::{Datagrams, DeviceFault, Gate, Open, Received, Report, Stage, serve_zone};
 use vectors::replies::GCF;
 use vectors::requests::{GRQ, GRQ_OF_XX};
-use zone_events::{Datagram, Event};
+use zone_events::{Change, Datagram, Event};
 
 /// A number of a call that none has.
 const NEVER: u64 = u64::MAX;
@@ -158,7 +158,18 @@ fn served<R: Threads + Wait + Clock + Sync>(
     receivers.push(Failing::new(receiver, discoveries)).ok()?;
     let clocks = clocks(alloc, 1, &reads)?;
     let sender = Failing::new(sender, &[]);
-    serve_zone(rt, alloc, zone, receivers, sender, &Open, clocks, PLAN).ok()
+    serve_zone(
+        rt,
+        alloc,
+        zone,
+        receivers,
+        sender,
+        &Open,
+        clocks,
+        Vec::new(alloc),
+        PLAN,
+    )
+    .ok()
 }
 
 /// How many entries have an output.
@@ -269,7 +280,7 @@ fn a_failed_receive_loses_no_datagram(rt: HostRuntime) {
 fn note_behind<P: Pool>(report: &Report<P>, before: usize) -> Option<Note> {
     let mut left = before;
     for entry in report.finished.entries() {
-        if matches!(&entry.event, Event::Datagram(_, _, _)) {
+        if matches!(&entry.event, Change::Event(Event::Datagram(_, _, _))) {
             if left == 0 {
                 return Some(entry.outcome.note);
             }
@@ -337,7 +348,18 @@ fn outlasting<R: Threads + Wait + Clock + Sync>(
         record: &second,
     };
     let sender = Failing::new(&sender, &[]);
-    let report = serve_zone(rt, alloc, zone, receivers, sender, &gate, clocks, PLAN).ok()?;
+    let report = serve_zone(
+        rt,
+        alloc,
+        zone,
+        receivers,
+        sender,
+        &gate,
+        clocks,
+        Vec::new(alloc),
+        PLAN,
+    )
+    .ok()?;
     Some(counts(&report))
 }
 

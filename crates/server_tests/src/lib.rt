@@ -18,6 +18,8 @@ mod loopback;
 #[cfg(test)]
 mod meeting;
 #[cfg(test)]
+mod replacing;
+#[cfg(test)]
 mod timers;
 #[cfg(test)]
 mod two_at_once;

@@ -57,7 +57,18 @@ fn is_served<R: Threads + Wait + Clock + Sync>(
     receivers.push(socket.end(Some(3), &is_over)).ok()?;
     let clocks = clocks(alloc, 2, &reads)?;
     let sender = socket.end(None, &is_over);
-    let report = serve_zone(rt, alloc, zone, receivers, sender, &Open, clocks, PLAN).ok()?;
+    let report = serve_zone(
+        rt,
+        alloc,
+        zone,
+        receivers,
+        sender,
+        &Open,
+        clocks,
+        Vec::new(alloc),
+        PLAN,
+    )
+    .ok()?;
     Some(report.datagrams == 1 && report.sent == 1 && report.receive_faults == 0)
 }
 

@@ -5,7 +5,7 @@ ghost use Rattle.std.specs.Prelude.{◌≤◌, length};
 ghost use Rattle.udp_server.specs.Ends.{IsWithin};
 
 use crate::fixtures::{ENDPOINT, PLAN, discovery, zone};
-use ras_core::{Event, Moment};
+use ras_core::{Change, Event, Moment};
 use ras_module::{Address, Source};
 use std::alloc::Global;
 use std::rt::Clock;
@@ -147,7 +147,18 @@ fn is_all_done<R: Threads + Wait + Clock + Sync>(rt: &R, alloc: Global) -> Optio
         was_held: &was_held,
     };
     let zone = zone(alloc)?;
-    let report = serve_zone(rt, alloc, zone, receivers, caller(0), &gate, clocks, PLAN).ok()?;
+    let report = serve_zone(
+        rt,
+        alloc,
+        zone,
+        receivers,
+        caller(0),
+        &gate,
+        clocks,
+        Vec::new(alloc),
+        PLAN,
+    )
+    .ok()?;
     let is_due = report
         .finished
         .zone()
@@ -207,15 +218,26 @@ fn has_its_moment<R: Threads + Wait + Clock + Sync>(rt: &R, alloc: Global) -> Op
         clocks.push(Leap { sent, awaited: 1 }).ok()?;
     }
     let zone = zone(alloc)?;
-    let report = serve_zone(rt, alloc, zone, receivers, end(true), &Open, clocks, PLAN).ok()?;
+    let report = serve_zone(
+        rt,
+        alloc,
+        zone,
+        receivers,
+        end(true),
+        &Open,
+        clocks,
+        Vec::new(alloc),
+        PLAN,
+    )
+    .ok()?;
     let came = Moment::new(AHEAD)?;
     let is_late = report
         .finished
         .entries()
         .iter()
         .all(|entry| match &entry.event {
-            Event::Datagram(_, _, moment) => *moment == came,
-            Event::Turn(_) => true,
+            Change::Event(Event::Datagram(_, _, moment)) => *moment == came,
+            Change::Event(Event::Turn(_)) | Change::PoolChange(_) => true,
         });
     Some(is_late && report.datagrams == 1)
 }

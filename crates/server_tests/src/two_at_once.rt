@@ -37,7 +37,18 @@ fn do_both_get_on<R: Threads + Wait + Clock + Sync>(
     receivers.push(Guest::new(meeting, 1)).ok()?;
     let clocks = clocks(alloc, 2, &reads)?;
     let sender = Guest::new(meeting, 2);
-    let report = serve_zone(rt, alloc, zone, receivers, sender, meeting, clocks, PLAN).ok()?;
+    let report = serve_zone(
+        rt,
+        alloc,
+        zone,
+        receivers,
+        sender,
+        meeting,
+        clocks,
+        Vec::new(alloc),
+        PLAN,
+    )
+    .ok()?;
     Some(report.sent == 2 && report.datagrams == 2 && meeting.impatient.load(Ordering::SeqCst) == 0)
 }
 

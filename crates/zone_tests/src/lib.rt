@@ -21,6 +21,8 @@ mod pools_asked;
 #[cfg(test)]
 mod pools_turned;
 #[cfg(test)]
+mod replacing;
+#[cfg(test)]
 mod settings;
 #[cfg(test)]
 mod steps;

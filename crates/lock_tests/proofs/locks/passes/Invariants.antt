@@ -16,3 +16,7 @@ ghosts-open_and_do-T-Ledger g a =
 abbrev pub ghosts-open_and_do-U-Ledger : goal.ghosts-open_and_do-U-Ledger
 ghosts-open_and_do-U-Ledger g a =
     record { name = a.blanks.lent.name; parts = a.blanks.lent.parts }
+
+abbrev pub ghosts-open_and_do-V-Ledger : goal.ghosts-open_and_do-V-Ledger
+ghosts-open_and_do-V-Ledger g a =
+    record { name = a.blanks.changes.name; parts = a.blanks.changes.parts }

@@ -16,3 +16,7 @@ ghosts-open_and_make-T-Ledger g a =
 abbrev pub ghosts-open_and_make-U-Ledger : goal.ghosts-open_and_make-U-Ledger
 ghosts-open_and_make-U-Ledger g a =
     record { name = a.blanks.lent.name; parts = a.blanks.lent.parts }
+
+abbrev pub ghosts-open_and_make-V-Ledger : goal.ghosts-open_and_make-V-Ledger
+ghosts-open_and_make-V-Ledger g a =
+    record { name = a.blanks.changes.name; parts = a.blanks.changes.parts }
