@@ -15,6 +15,7 @@ use Rattle.ras_module.specs.Same.{texts_decide, address_decides, alias_decides}
 use Rattle.ras_module.specs.declared.alias.Alias.{Alias}
 use Rattle.ras_module.specs.declared.reason.RegistrationRejectReason.{RegistrationRejectReason}
 use Rattle.ras_module.specs.declared.reason.RegistrationRejectReason.TheVariants as reason
+use Rattle.ras_module.specs.declared.reply.RegistrationConfirm.{RegistrationConfirm}
 use Rattle.ras_module.specs.declared.reply.Reply.{Reply}
 use Rattle.ras_module.specs.declared.reply.Reply.TheVariants as reply
 use Rattle.ras_module.specs.declared.request.Request.{Request}
@@ -22,6 +23,7 @@ use Rattle.ras_module.specs.declared.request.Request.TheVariants as request
 use Rattle.ras_module.specs.declared.request.RegistrationRequest.{RegistrationRequest}
 use Rattle.ras_module.specs.declared.request.AdmissionRequest.{AdmissionRequest}
 use Rattle.ras_module.specs.contracts.reason.RegistrationRejectReasonPartialEq.TheImpl as reason_eq
+use Rattle.ras_module.specs.contracts.reply.RegistrationConfirmPartialEq.TheImpl as rcf_eq
 use Rattle.ras_module.specs.contracts.reply.ReplyPartialEq.TheImpl as reply_eq
 use Rattle.ras_module.specs.contracts.request.RequestPartialEq.TheImpl as request_eq
 use Rattle.ras_module.specs.contracts.request.RegistrationRequestPartialEq.TheImpl as rrq_eq
@@ -43,11 +45,13 @@ reason_decides reason.ResourceUnavailable reason.ResourceUnavailable = search ru
 reason_decides reason.FullRegistrationRequired reason.FullRegistrationRequired = search rules
 reason_decides a b = (λ h. never h, λ e. absurd (cc e))
 
+pub confirm_decides : (a b : RegistrationConfirm) → Decides ((rcf_eq.ghosts).eq a b) (a ≡ b)
+confirm_decides a b = search (rules, aliases_decide)
+
 pub reply_decides : (a b : Reply) → Decides ((reply_eq.ghosts).eq a b) (a ≡ b)
-reply_decides (reply.Gcf a0 a1 a2) (reply.Gcf b0 b1 b2) = search rules
+reply_decides (reply.Gcf a) (reply.Gcf b) = search rules
 reply_decides (reply.Grj a0 a1) (reply.Grj b0 b1) = search rules
-reply_decides (reply.Rcf a0 a1 a2 a3 a4 a5) (reply.Rcf b0 b1 b2 b3 b4 b5) =
-    search (rules, aliases_decide)
+reply_decides (reply.Rcf a) (reply.Rcf b) = search (rules, confirm_decides)
 reply_decides (reply.Rrj a0 a1) (reply.Rrj b0 b1) = search (rules, reason_decides)
 reply_decides (reply.Ucf a) (reply.Ucf b) = search rules
 reply_decides (reply.Urj a0 a1) (reply.Urj b0 b1) = search rules

@@ -6,7 +6,7 @@ use Rattle.ras_module.specs.declared.reply.Reply.TheVariants.{Gcf, Rcf, Rrj}
 
 -- two identifiers of at most 128 characters, at most 514 octets for an alias, and some to spare
 abbrev pub room_of : Reply → ℕ
-room_of (Gcf seq gatekeeper ras) = 320
-room_of (Rcf seq call_signal aliases gatekeeper endpoint granted) = 640 + 516 * length aliases
+room_of (Gcf confirm) = 320
+room_of (Rcf confirm) = 640 + 516 * length confirm.aliases
 room_of (Rrj seq (DuplicateAlias held)) = 64 + 516 * length held
 room_of other = 64

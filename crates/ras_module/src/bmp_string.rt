@@ -1,14 +1,14 @@
 //! Texts of 16-bit characters.
 
 ghost use Rattle.std.specs.Prelude.{◌≡◌, ◌≤◌, ◌-◌, ◌++◌, ◌<◌, ◌^◌, ℕ, List, length, nat_eq};
-ghost use Rattle.std.specs.Prelude.{replicate, SomeIff};
+ghost use Rattle.std.specs.Prelude.{replicate, take, SomeIff};
 ghost use Rattle.std.proofs.Common.{rules};
 ghost use Rattle.std.specs.Cmp.Lexicographic.{slice_cmp, pointwise};
 ghost use Rattle.std.specs.Cmp.Rules.{comparing, hashing};
 ghost use Rattle.std.specs.Hash as fed;
 ghost use Rattle.std.specs.Cmp.{partial_order_from_own_ties};
 ghost use Rattle.std.specs.Ordering.{nat_cmp, as_partial_cmp};
-ghost use Rattle.ras_module.specs.Texts.{IsText};
+ghost use Rattle.ras_module.specs.Texts.{IsText, IsPadded};
 
 use std::cmp::Ordering;
 use std::hash::{Hash, Hasher};
@@ -62,6 +62,15 @@ impl<const MOST: usize> BmpString<MOST> {
             characters: padded(text),
             count: text.len(),
         })
+    }
+
+    /// The text of the first characters of an array that has zeros after them, made in the array
+    /// that keeps it.
+    pub fn of_padded(characters: [u16; MOST], count: usize) -> Self
+        requires { IsPadded MOST characters count }
+        ensures { result ≡ take count characters.entry }
+    {
+        BmpString { characters, count }
     }
 
     /// The characters.

@@ -6,6 +6,7 @@ mod address;
 mod alias;
 mod alias_list;
 mod bmp_string;
+mod boxed;
 mod call_key;
 mod dialled_digits;
 mod endpoint_id;
@@ -19,6 +20,7 @@ pub use address::{Address, Source};
 pub use alias::Alias;
 pub use alias_list::{AliasList, ReplyAliases};
 pub use bmp_string::{BmpString, H323Id, Name};
+pub use boxed::Boxed;
 pub use call_key::CallKey;
 pub use dialled_digits::DialledDigits;
 pub use endpoint_id::EndpointId;
@@ -28,7 +30,7 @@ pub use reason::{
     AdmissionRejectReason, BandRejectReason, DisengageRejectReason, GatekeeperRejectReason,
     RegistrationRejectReason, UnregRejectReason,
 };
-pub use reply::Reply;
+pub use reply::{GatekeeperConfirm, RegistrationConfirm, Reply};
 pub use request::{
     AdmissionRequest, BandwidthRequest, DisengageRequest, GatekeeperRequest, InfoRequestResponse,
     RegistrationRequest, Request, UnregistrationRequest,

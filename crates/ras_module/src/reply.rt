@@ -6,6 +6,7 @@ ghost use Rattle.ras_module.specs.Rooms.{room_of};
 use crate::address::Address;
 use crate::alias_list::ReplyAliases;
 use crate::bmp_string::Name;
+use crate::boxed::Boxed;
 use crate::endpoint_id::EndpointId;
 use crate::number::{Delay, RequestSeqNum, TimeToLive};
 use crate::reason::{
@@ -16,29 +17,17 @@ use std::alloc::AllocError;
 
 /// A message of the gatekeeper, with what differs from one such message to the next. `seq` is the
 /// number of the request; an IRQ has a number of the gatekeeper's own. Bandwidth is in units of 100
-/// bit/s.
+/// bit/s. The two that tell identifiers stand in boxes, so that a reply has some 40 octets where it
+/// is moved.
 #[derive(PartialEq, Eq, Drop)]
 pub enum Reply {
-    /// GatekeeperConfirm.
-    Gcf {
-        seq: RequestSeqNum,
-        gatekeeper: Name,
-        ras: Address,
-    },
+    Gcf(Boxed<GatekeeperConfirm>),
     /// GatekeeperReject.
     Grj {
         seq: RequestSeqNum,
         reason: GatekeeperRejectReason,
     },
-    /// RegistrationConfirm; `granted` is the time to live.
-    Rcf {
-        seq: RequestSeqNum,
-        call_signal: Address,
-        aliases: ReplyAliases,
-        gatekeeper: Name,
-        endpoint: EndpointId,
-        granted: TimeToLive,
-    },
+    Rcf(Boxed<RegistrationConfirm>),
     /// RegistrationReject.
     Rrj {
         seq: RequestSeqNum,
@@ -95,6 +84,42 @@ pub enum Reply {
     },
 }
 
+/// A GatekeeperConfirm (H.225.0, GCF): this gatekeeper, and its address for RAS messages.
+#[derive(Clone, Copy, PartialEq, Eq)]
+pub struct GatekeeperConfirm {
+    pub seq: RequestSeqNum,
+    pub gatekeeper: Name,
+    pub ras: Address,
+}
+
+/// A RegistrationConfirm (H.225.0, RCF): what is registered, and for how long it is.
+#[derive(PartialEq, Eq, Drop)]
+pub struct RegistrationConfirm {
+    pub seq: RequestSeqNum,
+    pub call_signal: Address,
+    pub aliases: ReplyAliases,
+    pub gatekeeper: Name,
+    pub endpoint: EndpointId,
+    /// The time to live.
+    pub granted: TimeToLive,
+}
+
+impl RegistrationConfirm {
+    /// An equal confirm.
+    pub fn copy(&self) -> Result<RegistrationConfirm, AllocError>
+        ensures { IfOk result (λ copy. copy ≡ self.now) }
+    {
+        Ok(RegistrationConfirm {
+            seq: self.seq,
+            call_signal: self.call_signal,
+            aliases: self.aliases.copy()?,
+            gatekeeper: self.gatekeeper,
+            endpoint: self.endpoint,
+            granted: self.granted,
+        })
+    }
+}
+
 impl Reply {
     /// Octets that are enough for the encoding of this reply: at most 20,000.
     pub fn room(&self) -> usize
@@ -102,8 +127,8 @@ impl Reply {
         ensures most { result ≤ 20000 }
     {
         match self {
-            Reply::Gcf { .. } => 320,
-            Reply::Rcf { aliases, .. } => 640 + 516 * aliases.as_slice().len(),
+            Reply::Gcf(_) => 320,
+            Reply::Rcf(confirm) => 640 + 516 * confirm.get().aliases.as_slice().len(),
             Reply::Rrj {
                 reason: RegistrationRejectReason::DuplicateAlias(held),
                 ..
@@ -117,34 +142,15 @@ impl Reply {
         ensures { IfOk result (λ copy. copy ≡ self.now) }
     {
         match self {
-            Reply::Gcf {
-                seq,
-                gatekeeper,
-                ras,
-            } => Ok(Reply::Gcf {
-                seq: *seq,
-                gatekeeper: *gatekeeper,
-                ras: *ras,
-            }),
+            Reply::Gcf(confirm) => Ok(Reply::Gcf(confirm.copy()?)),
             Reply::Grj { seq, reason } => Ok(Reply::Grj {
                 seq: *seq,
                 reason: *reason,
             }),
-            Reply::Rcf {
-                seq,
-                call_signal,
-                aliases,
-                gatekeeper,
-                endpoint,
-                granted,
-            } => Ok(Reply::Rcf {
-                seq: *seq,
-                call_signal: *call_signal,
-                aliases: aliases.copy()?,
-                gatekeeper: *gatekeeper,
-                endpoint: *endpoint,
-                granted: *granted,
-            }),
+            Reply::Rcf(confirm) => {
+                let copy = confirm.get().copy()?;
+                Ok(Reply::Rcf(Boxed::new(confirm.allocator(), copy)?))
+            }
             Reply::Rrj { seq, reason } => Ok(Reply::Rrj {
                 seq: *seq,
                 reason: reason.copy()?,

@@ -6,6 +6,7 @@ ghost use Rattle.std.specs.Prelude.{◌≡◌, IfOk};
 use crate::address::Address;
 use crate::alias_list::AliasList;
 use crate::bmp_string::Name;
+use crate::boxed::Boxed;
 use crate::call_key::CallKey;
 use crate::endpoint_id::EndpointId;
 use crate::number::{RequestSeqNum, TimeToLive};
@@ -16,13 +17,13 @@ use std::alloc::AllocError;
 /// order, doubles included. Bandwidth is in units of 100 bit/s, for both directions of a call.
 #[derive(PartialEq, Eq, Drop)]
 pub enum Request {
-    Grq(GatekeeperRequest),
-    Rrq(RegistrationRequest),
-    Urq(UnregistrationRequest),
-    Arq(AdmissionRequest),
-    Brq(BandwidthRequest),
-    Drq(DisengageRequest),
-    Irr(InfoRequestResponse),
+    Grq(Boxed<GatekeeperRequest>),
+    Rrq(Boxed<RegistrationRequest>),
+    Urq(Boxed<UnregistrationRequest>),
+    Arq(Boxed<AdmissionRequest>),
+    Brq(Boxed<BandwidthRequest>),
+    Drq(Boxed<DisengageRequest>),
+    Irr(Boxed<InfoRequestResponse>),
 }
 
 /// A GatekeeperRequest (H.225.0, GRQ): which gatekeeper is there?
@@ -95,13 +96,13 @@ impl Request {
         ensures { IfOk result (λ copy. copy ≡ self.now) }
     {
         match self {
-            Request::Grq(q) => Ok(Request::Grq(*q)),
-            Request::Rrq(q) => Ok(Request::Rrq(q.copy()?)),
-            Request::Urq(q) => Ok(Request::Urq(*q)),
-            Request::Arq(q) => Ok(Request::Arq(q.copy()?)),
-            Request::Brq(q) => Ok(Request::Brq(*q)),
-            Request::Drq(q) => Ok(Request::Drq(*q)),
-            Request::Irr(q) => Ok(Request::Irr(*q)),
+            Request::Grq(q) => Ok(Request::Grq(q.copy()?)),
+            Request::Rrq(q) => Ok(Request::Rrq(Boxed::new(q.allocator(), q.get().copy()?)?)),
+            Request::Urq(q) => Ok(Request::Urq(q.copy()?)),
+            Request::Arq(q) => Ok(Request::Arq(Boxed::new(q.allocator(), q.get().copy()?)?)),
+            Request::Brq(q) => Ok(Request::Brq(q.copy()?)),
+            Request::Drq(q) => Ok(Request::Drq(q.copy()?)),
+            Request::Irr(q) => Ok(Request::Irr(q.copy()?)),
         }
     }
 }
