@@ -2,7 +2,7 @@
 
 use crate::requests::is_read;
 use ras_codec::{ReadFault, read};
-use ras_module::{GatekeeperRequest, Request, RequestSeqNum};
+use ras_module::{Boxed, GatekeeperRequest, Request, RequestSeqNum};
 use std::alloc::Global;
 use std::test::Fail;
 use vectors::requests::{
@@ -116,10 +116,11 @@ fn numbers_at_the_end_of_their_range(rt: HostRuntime) -> Result<(), Fail> {
     octets[3] = 0xFF;
     assert_eq!(rt; read(rt.alloc(), &octets).err(), Some(ReadFault::BadLength));
     octets[3] = 0xFE;
-    let last = Request::Grq(GatekeeperRequest {
+    let last = GatekeeperRequest {
         seq: RequestSeqNum::new(65535).unwrap(),
         gatekeeper: None,
-    });
+    };
+    let last = Request::Grq(Boxed::new(rt.alloc(), last)?);
     assert!(rt; is_read(rt.alloc(), &octets, last)?);
     Ok(())
 }

@@ -2,9 +2,10 @@
 
 use ras_codec::{write_into, write_reserved};
 use ras_module::{
-    Address, AdmissionRejectReason, Alias, AliasList, BandRejectReason, BmpString, Delay,
-    DialledDigits, DisengageRejectReason, EndpointId, GatekeeperRejectReason, H323Id, Name,
-    RegistrationRejectReason, Reply, ReplyAliases, RequestSeqNum, TimeToLive, UnregRejectReason,
+    Address, AdmissionRejectReason, Alias, AliasList, BandRejectReason, BmpString, Boxed, Delay,
+    DialledDigits, DisengageRejectReason, EndpointId, GatekeeperConfirm, GatekeeperRejectReason,
+    H323Id, Name, RegistrationConfirm, RegistrationRejectReason, Reply, ReplyAliases,
+    RequestSeqNum, TimeToLive, UnregRejectReason,
 };
 use std::alloc::{AllocError, Global};
 use std::test::Fail;
@@ -55,7 +56,7 @@ fn is_written(alloc: Global, reply: Reply, expected: &[u8]) -> Result<bool, Allo
 
 #[test]
 fn replies_about_the_gatekeeper(rt: HostRuntime) -> Result<(), Fail> {
-    let confirm = Reply::Gcf {
+    let confirm = GatekeeperConfirm {
         seq: seq(1),
         gatekeeper: Name::new(&[0x67, 0x6B]).unwrap(),
         ras: Address {
@@ -63,6 +64,7 @@ fn replies_about_the_gatekeeper(rt: HostRuntime) -> Result<(), Fail> {
             port: 1719,
         },
     };
+    let confirm = Reply::Gcf(Boxed::new(rt.alloc(), confirm)?);
     assert!(rt; is_written(rt.alloc(), confirm, &GCF)?);
     let reject = Reply::Grj {
         seq: seq(1),
@@ -73,14 +75,15 @@ fn replies_about_the_gatekeeper(rt: HostRuntime) -> Result<(), Fail> {
 }
 
 fn registration_confirm(alloc: Global, host: u8, last: u8) -> Result<Reply, Fail> {
-    Ok(Reply::Rcf {
+    let confirm = RegistrationConfirm {
         seq: seq(2),
         call_signal: endpoint_address(host),
         aliases: alias_list(alloc, last)?,
         gatekeeper: Name::new(&[0x67, 0x6B]).unwrap(),
         endpoint: EndpointId::new(BmpString::new(&[48, 48, 48, u16::from(last)]).unwrap()),
         granted: TimeToLive::new(60).unwrap(),
-    })
+    };
+    Ok(Reply::Rcf(Boxed::new(alloc, confirm)?))
 }
 
 #[test]
@@ -184,14 +187,15 @@ fn longest_confirm(alloc: Global) -> Result<Reply, Fail> {
     let Ok(aliases) = ReplyAliases::new(list) else {
         return Err(Fail::from("a reply may have 32 aliases"));
     };
-    Ok(Reply::Rcf {
+    let confirm = RegistrationConfirm {
         seq: seq(65535),
         call_signal: endpoint_address(255),
         aliases,
         gatekeeper: Name::new(&[0xFFFF; 128]).unwrap(),
         endpoint: EndpointId::new(BmpString::new(&[0xFFFF; 128]).unwrap()),
         granted: TimeToLive::new(4_294_967_295).unwrap(),
-    })
+    };
+    Ok(Reply::Rcf(Boxed::new(alloc, confirm)?))
 }
 
 /// The octets of a reply for which there is room.

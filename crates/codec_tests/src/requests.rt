@@ -2,7 +2,7 @@
 
 use ras_codec::{ReadFault, read};
 use ras_module::{
-    Address, AdmissionRequest, Alias, AliasList, BandwidthRequest, BmpString, CallKey,
+    Address, AdmissionRequest, Alias, AliasList, BandwidthRequest, BmpString, Boxed, CallKey,
     DialledDigits, DisengageRequest, EndpointId, GatekeeperRequest, InfoRequestResponse, Name,
     RegistrationRequest, Request, RequestSeqNum, UnregistrationRequest,
 };
@@ -55,21 +55,23 @@ pub fn is_read(alloc: Global, octets: &[u8], expected: Request) -> Result<bool, 
 
 #[test]
 fn gatekeeper_requests(rt: HostRuntime) -> Result<(), Fail> {
-    let any = Request::Grq(GatekeeperRequest {
+    let any = GatekeeperRequest {
         seq: seq(1),
         gatekeeper: None,
-    });
+    };
+    let any = Request::Grq(Boxed::new(rt.alloc(), any)?);
     assert!(rt; is_read(rt.alloc(), &GRQ, any)?);
-    let other = Request::Grq(GatekeeperRequest {
+    let other = GatekeeperRequest {
         seq: seq(1),
         gatekeeper: Name::new(&[0x78, 0x78]),
-    });
+    };
+    let other = Request::Grq(Boxed::new(rt.alloc(), other)?);
     assert!(rt; is_read(rt.alloc(), &GRQ_OF_XX, other)?);
     Ok(())
 }
 
 fn registration(alloc: Global, number: u16, host: u8, last: &[u8]) -> Result<Request, AllocError> {
-    Ok(Request::Rrq(RegistrationRequest {
+    let request = RegistrationRequest {
         seq: seq(number),
         call_signal: Some(address(host, 1720)),
         ras: Some(address(host, 1719)),
@@ -78,7 +80,8 @@ fn registration(alloc: Global, number: u16, host: u8, last: &[u8]) -> Result<Req
         time_to_live: None,
         keep_alive: false,
         endpoint: None,
-    }))
+    };
+    Ok(Request::Rrq(Boxed::new(alloc, request)?))
 }
 
 #[test]
@@ -87,7 +90,7 @@ fn registration_requests(rt: HostRuntime) -> Result<(), Fail> {
     assert!(rt; is_read(alloc, &RRQ_101, registration(alloc, 2, 5, b"1")?)?);
     assert!(rt; is_read(alloc, &RRQ_102, registration(alloc, 2, 6, b"2")?)?);
     assert!(rt; is_read(alloc, &RRQ_109_101, registration(alloc, 3, 7, b"91")?)?);
-    let kept = Request::Rrq(RegistrationRequest {
+    let kept = RegistrationRequest {
         seq: seq(2),
         call_signal: Some(address(5, 1720)),
         ras: Some(address(5, 1719)),
@@ -96,18 +99,20 @@ fn registration_requests(rt: HostRuntime) -> Result<(), Fail> {
         time_to_live: None,
         keep_alive: true,
         endpoint: Some(endpoint(b'9')),
-    });
+    };
+    let kept = Request::Rrq(Boxed::new(alloc, kept)?);
     assert!(rt; is_read(alloc, &KEEP_ALIVE, kept)?);
     Ok(())
 }
 
 #[test]
 fn unregistration_requests(rt: HostRuntime) -> Result<(), Fail> {
-    let expected = Request::Urq(UnregistrationRequest {
+    let expected = UnregistrationRequest {
         seq: seq(5),
         call_signal: Some(address(5, 1720)),
         endpoint: Some(endpoint(b'1')),
-    });
+    };
+    let expected = Request::Urq(Boxed::new(rt.alloc(), expected)?);
     assert!(rt; is_read(rt.alloc(), &URQ, expected)?);
     Ok(())
 }
@@ -115,7 +120,7 @@ fn unregistration_requests(rt: HostRuntime) -> Result<(), Fail> {
 #[test]
 fn admission_requests(rt: HostRuntime) -> Result<(), Fail> {
     let alloc = rt.alloc();
-    let first = Request::Arq(AdmissionRequest {
+    let first = AdmissionRequest {
         seq: seq(3),
         endpoint: endpoint(b'1'),
         dest: aliases(alloc, b"2")?,
@@ -123,9 +128,10 @@ fn admission_requests(rt: HostRuntime) -> Result<(), Fail> {
         asked: 1280,
         call: CallKey { octets: [0x11; 16] },
         answer: false,
-    });
+    };
+    let first = Request::Arq(Boxed::new(alloc, first)?);
     assert!(rt; is_read(alloc, &ARQ, first)?);
-    let answer = Request::Arq(AdmissionRequest {
+    let answer = AdmissionRequest {
         seq: seq(4),
         endpoint: endpoint(b'2'),
         dest: aliases(alloc, b"2")?,
@@ -133,9 +139,10 @@ fn admission_requests(rt: HostRuntime) -> Result<(), Fail> {
         asked: 900,
         call: CallKey { octets: [0x11; 16] },
         answer: true,
-    });
+    };
+    let answer = Request::Arq(Boxed::new(alloc, answer)?);
     assert!(rt; is_read(alloc, &ARQ_ANSWER, answer)?);
-    let second = Request::Arq(AdmissionRequest {
+    let second = AdmissionRequest {
         seq: seq(7),
         endpoint: endpoint(b'1'),
         dest: aliases(alloc, b"2")?,
@@ -143,7 +150,8 @@ fn admission_requests(rt: HostRuntime) -> Result<(), Fail> {
         asked: 1280,
         call: CallKey { octets: [0x22; 16] },
         answer: false,
-    });
+    };
+    let second = Request::Arq(Boxed::new(alloc, second)?);
     assert!(rt; is_read(alloc, &ARQ_OF_A_SECOND_CALL, second)?);
     Ok(())
 }
@@ -151,28 +159,31 @@ fn admission_requests(rt: HostRuntime) -> Result<(), Fail> {
 #[test]
 fn requests_about_a_call(rt: HostRuntime) -> Result<(), Fail> {
     let call = CallKey { octets: [0x11; 16] };
-    let more = Request::Brq(BandwidthRequest {
+    let more = BandwidthRequest {
         seq: seq(7),
         endpoint: endpoint(b'1'),
         call,
         asked: 2000,
-    });
+    };
+    let more = Request::Brq(Boxed::new(rt.alloc(), more)?);
     assert!(rt; is_read(rt.alloc(), &BRQ, more)?);
-    let end = Request::Drq(DisengageRequest {
+    let end = DisengageRequest {
         seq: seq(9),
         endpoint: endpoint(b'1'),
         call,
-    });
+    };
+    let end = Request::Drq(Boxed::new(rt.alloc(), end)?);
     assert!(rt; is_read(rt.alloc(), &DRQ, end)?);
     Ok(())
 }
 
 #[test]
 fn a_sign_of_life(rt: HostRuntime) -> Result<(), Fail> {
-    let alive = Request::Irr(InfoRequestResponse {
+    let alive = InfoRequestResponse {
         seq: seq(1),
         endpoint: endpoint(b'1'),
-    });
+    };
+    let alive = Request::Irr(Boxed::new(rt.alloc(), alive)?);
     assert!(rt; is_read(rt.alloc(), &IRR, alive)?);
     Ok(())
 }
@@ -196,11 +207,12 @@ fn an_alias_of_another_kind_is_passed_over(rt: HostRuntime) -> Result<(), Fail> 
 fn a_call_identifier_of_zeros_is_none(rt: HostRuntime) -> Result<(), Fail> {
     let mut octets = DRQ;
     octets[34..].copy_from_slice(&[0; 16]);
-    let end = Request::Drq(DisengageRequest {
+    let end = DisengageRequest {
         seq: seq(9),
         endpoint: endpoint(b'1'),
         call: CallKey { octets: [0x11; 16] },
-    });
+    };
+    let end = Request::Drq(Boxed::new(rt.alloc(), end)?);
     assert!(rt; is_read(rt.alloc(), &octets, end)?);
     Ok(())
 }

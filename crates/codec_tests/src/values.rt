@@ -1,10 +1,11 @@
 //! The values of messages: copies, orders, and what is refused.
 
 use ras_module::{
-    Address, AdmissionRequest, Alias, AliasList, BandRejectReason, BandwidthRequest, CallKey,
-    Delay, DialledDigits, DisengageRequest, EndpointId, GatekeeperRequest, InfoRequestResponse,
-    Name, Octets, RegistrationRejectReason, RegistrationRequest, Reply, ReplyAliases, Request,
-    RequestSeqNum, TimeToLive, UnregistrationRequest,
+    Address, AdmissionRequest, Alias, AliasList, BandRejectReason, BandwidthRequest, BmpString,
+    Boxed, CallKey, Delay, DialledDigits, DisengageRequest, EndpointId, GatekeeperConfirm,
+    GatekeeperRequest, InfoRequestResponse, Name, Octets, RegistrationConfirm,
+    RegistrationRejectReason, RegistrationRequest, Reply, ReplyAliases, Request, RequestSeqNum,
+    TimeToLive, UnregistrationRequest,
 };
 use std::alloc::{AllocError, Global};
 use std::test::Fail;
@@ -54,67 +55,78 @@ fn aliases(alloc: Global, alias: &Alias, count: usize) -> Result<AliasList, Allo
 }
 
 /// Discovery, and a registration that comes and goes, with these aliases.
-fn requests_of_the_zone(aliases: AliasList) -> (Request, Request, Request) {
-    (
-        Request::Grq(GatekeeperRequest {
-            seq: seq(),
-            gatekeeper: Some(gatekeeper()),
-        }),
-        Request::Rrq(RegistrationRequest {
-            seq: seq(),
-            call_signal: Some(ADDRESS),
-            ras: None,
-            aliases,
-            gatekeeper: None,
-            time_to_live: TimeToLive::new(60),
-            keep_alive: true,
-            endpoint: Some(endpoint()),
-        }),
-        Request::Urq(UnregistrationRequest {
-            seq: seq(),
-            call_signal: None,
-            endpoint: Some(endpoint()),
-        }),
-    )
+fn requests_of_the_zone(
+    alloc: Global,
+    aliases: AliasList,
+) -> Result<(Request, Request, Request), AllocError> {
+    let discovery = GatekeeperRequest {
+        seq: seq(),
+        gatekeeper: Some(gatekeeper()),
+    };
+    let coming = RegistrationRequest {
+        seq: seq(),
+        call_signal: Some(ADDRESS),
+        ras: None,
+        aliases,
+        gatekeeper: None,
+        time_to_live: TimeToLive::new(60),
+        keep_alive: true,
+        endpoint: Some(endpoint()),
+    };
+    let going = UnregistrationRequest {
+        seq: seq(),
+        call_signal: None,
+        endpoint: Some(endpoint()),
+    };
+    Ok((
+        Request::Grq(Boxed::new(alloc, discovery)?),
+        Request::Rrq(Boxed::new(alloc, coming)?),
+        Request::Urq(Boxed::new(alloc, going)?),
+    ))
 }
 
 /// A call to this destination, from its admission to its end, and a sign of life.
-fn requests_of_a_call(dest: AliasList) -> (Request, Request, Request, Request) {
+fn requests_of_a_call(
+    alloc: Global,
+    dest: AliasList,
+) -> Result<(Request, Request, Request, Request), AllocError> {
+    let seq = seq();
     let endpoint = endpoint();
-    (
-        Request::Arq(AdmissionRequest {
-            seq: seq(),
-            endpoint,
-            dest,
-            dest_address: Some(ADDRESS),
-            asked: 1280,
-            call: CALL,
-            answer: true,
-        }),
-        Request::Brq(BandwidthRequest {
-            seq: seq(),
-            endpoint,
-            call: CALL,
-            asked: 2000,
-        }),
-        Request::Drq(DisengageRequest {
-            seq: seq(),
-            endpoint,
-            call: CALL,
-        }),
-        Request::Irr(InfoRequestResponse {
-            seq: seq(),
-            endpoint,
-        }),
-    )
+    let admission = AdmissionRequest {
+        seq,
+        endpoint,
+        dest,
+        dest_address: Some(ADDRESS),
+        asked: 1280,
+        call: CALL,
+        answer: true,
+    };
+    let more = BandwidthRequest {
+        seq,
+        endpoint,
+        call: CALL,
+        asked: 2000,
+    };
+    let end = DisengageRequest {
+        seq,
+        endpoint,
+        call: CALL,
+    };
+    let alive = InfoRequestResponse { seq, endpoint };
+    Ok((
+        Request::Arq(Boxed::new(alloc, admission)?),
+        Request::Brq(Boxed::new(alloc, more)?),
+        Request::Drq(Boxed::new(alloc, end)?),
+        Request::Irr(Boxed::new(alloc, alive)?),
+    ))
 }
 
 fn requests(alloc: Global) -> Result<[Request; 7], Fail> {
     let alias = digits("101")?;
     let two = aliases(alloc, &alias, 2)?;
     let one = aliases(alloc, &alias, 1)?;
-    let (grq, rrq, urq) = requests_of_the_zone(two);
-    let (arq, brq, drq, irr) = requests_of_a_call(one);
+    let (grq, rrq, urq) = requests_of_the_zone(alloc, two)?;
+    let (arq, brq, drq, irr) = requests_of_a_call(alloc, one)?;
     Ok([grq, rrq, urq, arq, brq, drq, irr])
 }
 
@@ -139,25 +151,40 @@ fn a_request_equals_its_copy_and_no_other(rt: HostRuntime) -> Result<(), Fail> {
     Ok(())
 }
 
+fn gatekeeper_confirm() -> GatekeeperConfirm {
+    GatekeeperConfirm {
+        seq: seq(),
+        gatekeeper: gatekeeper(),
+        ras: ADDRESS,
+    }
+}
+
+fn registration_confirm(aliases: ReplyAliases) -> RegistrationConfirm {
+    RegistrationConfirm {
+        seq: seq(),
+        call_signal: ADDRESS,
+        aliases,
+        gatekeeper: gatekeeper(),
+        endpoint: endpoint(),
+        granted: TimeToLive::new(60).unwrap(),
+    }
+}
+
+/// As many aliases as a reply may have.
+fn reply_aliases(alloc: Global) -> Result<ReplyAliases, Fail> {
+    Ok(
+        ReplyAliases::new(aliases(alloc, &digits("101")?, 32)?)
+            .ok()
+            .ok_or("32 aliases are few")?,
+    )
+}
+
 fn replies(alloc: Global) -> Result<[Reply; 5], Fail> {
-    let few = ReplyAliases::new(aliases(alloc, &digits("101")?, 32)?)
-        .ok()
-        .ok_or("32 aliases are few")?;
+    let few = reply_aliases(alloc)?;
     let held = few.copy()?;
     Ok([
-        Reply::Gcf {
-            seq: seq(),
-            gatekeeper: gatekeeper(),
-            ras: ADDRESS,
-        },
-        Reply::Rcf {
-            seq: seq(),
-            call_signal: ADDRESS,
-            aliases: few,
-            gatekeeper: gatekeeper(),
-            endpoint: endpoint(),
-            granted: TimeToLive::new(60).unwrap(),
-        },
+        Reply::Gcf(Boxed::new(alloc, gatekeeper_confirm())?),
+        Reply::Rcf(Boxed::new(alloc, registration_confirm(few))?),
         Reply::Rrj {
             seq: seq(),
             reason: RegistrationRejectReason::DuplicateAlias(held),
@@ -197,6 +224,31 @@ fn a_reply_equals_its_copy_and_no_other(rt: HostRuntime) -> Result<(), Fail> {
     Ok(())
 }
 
+/// Whether the copy of a confirm equals the confirm.
+fn equals_its_copy(confirm: &RegistrationConfirm) -> Result<bool, AllocError> {
+    Ok(confirm.copy()? == *confirm)
+}
+
+#[test]
+fn a_registration_confirm_equals_its_copy(rt: HostRuntime) -> Result<(), Fail> {
+    let confirm = registration_confirm(reply_aliases(rt.alloc())?);
+    let is_equal = equals_its_copy(&confirm);
+    drop(confirm);
+    assert!(rt; is_equal?);
+    Ok(())
+}
+
+#[test]
+fn a_boxed_value_comes_and_goes(rt: HostRuntime) -> Result<(), Fail> {
+    let confirm = gatekeeper_confirm();
+    let boxed = Boxed::new(rt.alloc(), confirm)?;
+    let copy = boxed.copy()?;
+    assert!(rt; copy == boxed);
+    assert!(rt; *boxed.get() == confirm);
+    assert!(rt; copy.into_inner() == confirm);
+    Ok(())
+}
+
 #[test]
 fn a_33rd_alias_gives_the_list_back(rt: HostRuntime) -> Result<(), Fail> {
     let many = aliases(rt.alloc(), &digits("101")?, 33)?;
@@ -205,6 +257,12 @@ fn a_33rd_alias_gives_the_list_back(rt: HostRuntime) -> Result<(), Fail> {
     };
     assert_eq!(rt; back.len(), 33);
     Ok(())
+}
+
+#[test]
+fn a_text_in_the_array_that_keeps_it(rt: HostRuntime) {
+    let text: BmpString<4> = BmpString::of_padded([103, 107, 0, 0], 2);
+    assert_eq!(rt; text.as_slice(), [103, 107].as_slice());
 }
 
 #[test]

@@ -3,6 +3,7 @@
 ghost use Rattle.std.specs.Prelude.{◌≡◌, ◌≤◌, ◌<◌, ◌^◌, length, IfOk, OnOk, IsTrue};
 ghost use Rattle.per_bits.specs.Readings.{Gives};
 ghost use Rattle.ras_module.specs.DialledDigits.{is_dialled, AreDialled};
+ghost use Rattle.ras_module.specs.Texts.{IsPadded};
 ghost use Rattle.ras_grammar.specs.Faults.{front_of, GivesUnlessMemory};
 ghost use Rattle.ras_grammar.specs.Grammar.{each, each_skipped, skipped};
 ghost use Rattle.ras_grammar.specs.Aliases.{digit_of, digit, dialled_digits, root_alias};
@@ -43,12 +44,14 @@ fn digit(decoder: &mut Decoder<'_>) -> Result<u16, ReadFault>
     Ok(digit_of(code))
 }
 
-/// This many characters that may be dialled.
+/// This many characters that may be dialled, with zeros after them.
 fn digits(decoder: &mut Decoder<'_>, count: usize) -> Result<[u16; 128], ReadFault>
-    requires { count ≤ 128 }
+    requires some { 1 ≤ count }
+    requires few { count ≤ 128 }
     ensures gives { Gives (each count digit).reading decoder.old
         (front_of count result) decoder.new }
     ensures dialled { IfOk (front_of count result) AreDialled }
+    ensures padded { IfOk result (λ digits. IsPadded 128 digits count) }
 {
     let mut ahead = decoder.ahead();
     let mut digits = [0; 128];
@@ -69,7 +72,7 @@ fn dialled_digits(decoder: &mut Decoder<'_>) -> Result<DialledDigits, ReadFault>
     ahead.align();
     let digits = digits(&mut ahead, count)?;
     *decoder = ahead;
-    Ok(DialledDigits::new(BmpString::new(&digits[..count]).unwrap()).unwrap())
+    Ok(DialledDigits::new(BmpString::of_padded(digits, count)).unwrap())
 }
 
 fn root_alias(decoder: &mut Decoder<'_>, index: u32) -> Result<Option<Alias>, ReadFault>

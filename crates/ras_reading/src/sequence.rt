@@ -8,6 +8,7 @@ ghost use Rattle.ras_grammar.specs.Sequences.{h221_non_standard, octet_string, s
 ghost use Rattle.ras_grammar.specs.Sequences.{unknown_alternative, null_choice, identifier};
 ghost use Rattle.ras_grammar.specs.Sequences.{bmp_string, request_seq_num};
 ghost use Rattle.ras_grammar.specs.Faults.{of_octets, front_of};
+ghost use Rattle.ras_module.specs.Texts.{IsPadded};
 
 use crate::additions::skip_additions;
 use ras_grammar::{Decoder, ReadFault};
@@ -48,13 +49,16 @@ pub fn sized_octet_string<'a>(
     Ok(octets)
 }
 
-/// Characters of 16 bits.
+/// Characters of 16 bits, with zeros after them.
 fn characters<const MOST: usize>(
     decoder: &mut Decoder<'_>,
     count: usize,
 ) -> Result<[u16; MOST], ReadFault>
-    requires { count ≤ MOST }
-    ensures { Gives (each count (bits 16)).reading decoder.old (front_of count result) decoder.new }
+    requires some { 1 ≤ count }
+    requires few { count ≤ MOST }
+    ensures gives { Gives (each count (bits 16)).reading decoder.old
+        (front_of count result) decoder.new }
+    ensures padded { IfOk result (λ characters. IsPadded MOST characters count) }
 {
     let mut ahead = decoder.ahead();
     let mut characters = [0; MOST];
@@ -79,7 +83,7 @@ pub fn bmp_string<const MOST: usize>(
     ahead.align();
     let characters: [u16; MOST] = characters(&mut ahead, count)?;
     *decoder = ahead;
-    Ok(BmpString::new(&characters[..count]).unwrap())
+    Ok(BmpString::of_padded(characters, count))
 }
 
 /// EndpointIdentifier.

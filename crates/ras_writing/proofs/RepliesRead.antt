@@ -10,6 +10,8 @@ use Rattle.per_bits.specs.Canonical.{pad, offset_encoding}
 use Rattle.per_bits.proofs.Results.{ok_is}
 use Rattle.ras_module.specs.declared.alias.Alias.{Alias}
 use Rattle.ras_module.specs.declared.reason.RegistrationRejectReason.{RegistrationRejectReason}
+use Rattle.ras_module.specs.declared.reply.GatekeeperConfirm.{GatekeeperConfirm}
+use Rattle.ras_module.specs.declared.reply.RegistrationConfirm.{RegistrationConfirm}
 use Rattle.ras_module.specs.declared.reply.Reply.{Reply}
 use Rattle.ras_module.specs.declared.address.Address.{Address}
 use Rattle.ras_module.specs.declared.reply.Reply.TheVariants.{Gcf, Grj, Rcf, Rrj, Acf, Irq, Rip}
@@ -172,16 +174,6 @@ module _ (seq : ℕ) (low : 1 ≤ seq) (high : seq ≤ 65535) where
       (one _ seq_encoded (part _ protocol_written
       (none _ done (none _ done (last _ (gatekeeper_reason_written reason) done)))))))))
 
-  pub gcf_written : (gatekeeper : List ℕ) (ras : Address) → IsName gatekeeper → IsAddress ras
-      → AreEncodings reply_message (Gcf seq gatekeeper ras) (gatekeeper_confirm seq gatekeeper ras)
-  unfolding reply_message gatekeeper_confirm grammar.gatekeeper_confirm
-  gcf_written gatekeeper ras name address =
-      one _ (boolean_encoded false) (one _ (index_encoded 24 1 (omega arith) (omega arith))
-      (one _ (boolean_encoded false) (one _ (boolean_encoded false) (one _ (boolean_encoded true)
-      (one _ seq_encoded (part _ protocol_written
-      (none _ done (part _ (identifier_written gatekeeper name.some name.few name.fit) (last _
-      (transport_written ras address) done)))))))))
-
   pub acf_written : (units : ℕ) (dest : Address) → units ≤ 4294967295 → IsAddress dest
       → AreEncodings reply_message (Acf seq units dest) (admission_confirm seq units dest)
   unfolding reply_message admission_confirm grammar.admission_confirm admission_confirm_additions
@@ -250,39 +242,49 @@ module _ (seq : ℕ) (low : 1 ≤ seq) (high : seq ≤ 65535) where
       (one _ seq_encoded (part _ protocol_written
       (none _ done (last _ (registration_reason_written reason h) (none _ done done)))))))))
 
-  pub rcf_written : (call_signal : Address) (names : List Alias) (gatekeeper endpoint : List ℕ)
-      (granted : ℕ)
-      → IsRegistrationConfirm seq call_signal names gatekeeper endpoint granted
-      → AreEncodings reply_message (Rcf seq call_signal names gatekeeper endpoint granted)
-      (registration_confirm seq call_signal names gatekeeper endpoint granted)
-  unfolding reply_message registration_confirm registration_confirm_front
-      registration_confirm_additions grammar.registration_confirm
-  rcf_written call_signal names gatekeeper endpoint granted h =
-      one _ (boolean_encoded false) (one _ (index_encoded 24 4 (omega arith) (omega arith))
-      (one _ (boolean_encoded true) (one _ (boolean_encoded false) (one _ (boolean_encoded
-      (has_aliases names)) (one _ (boolean_encoded true) (one _ seq_encoded
-      (part_of _ _ _ protocol_written
-      (none _ done
-      (part _ (one_address_written call_signal h.located.four h.located.fit h.located.port)
-      (none _ done
-      (part _ (optional_written names h.named)
-      (part _ (identifier_written gatekeeper h.answered.some h.answered.few h.answered.fit)
-      (part _ (identifier_written endpoint h.identified.some h.identified.few h.identified.fit)
-      (part _ (additions_written (false ∷ true ∷ false ∷ false ∷ false ∷ true ∷ []) 5
-      (encoding.bits 6 17) refl (omega arith) (λ place. refl))
-      (none _ done
-      (part _ (time_to_live_written granted h.lasting.0 h.lasting.1)
-      (none _ done (none _ done (none _ done
-      (last _ boolean_added done))))))))))))))))))))
+pub gcf_written : (confirm : GatekeeperConfirm) → IsReply (Gcf confirm)
+    → AreEncodings reply_message (Gcf confirm) (components (Gcf confirm))
+unfolding reply_message gatekeeper_confirm grammar.gatekeeper_confirm
+gcf_written confirm h =
+    let name : IsName confirm.gatekeeper = h.1 in
+    one _ (boolean_encoded false) (one _ (index_encoded 24 1 (omega arith) (omega arith))
+    (one _ (boolean_encoded false) (one _ (boolean_encoded false) (one _ (boolean_encoded true)
+    (one _ (seq_encoded confirm.seq h.0.0 h.0.1) (part _ protocol_written
+    (none _ done
+    (part _ (identifier_written confirm.gatekeeper name.some name.few name.fit) (last _
+    (transport_written confirm.ras h.2) done)))))))))
+
+pub rcf_written : (confirm : RegistrationConfirm) → IsRegistrationConfirm confirm
+    → AreEncodings reply_message (Rcf confirm) (components (Rcf confirm))
+unfolding reply_message registration_confirm registration_confirm_front
+    registration_confirm_additions grammar.registration_confirm
+rcf_written confirm h =
+    one _ (boolean_encoded false) (one _ (index_encoded 24 4 (omega arith) (omega arith))
+    (one _ (boolean_encoded true) (one _ (boolean_encoded false) (one _ (boolean_encoded
+    (has_aliases confirm.aliases)) (one _ (boolean_encoded true)
+    (one _ (seq_encoded confirm.seq h.numbered.0 h.numbered.1)
+    (part_of _ _ _ protocol_written
+    (none _ done
+    (part _ (one_address_written confirm.call_signal h.located.four h.located.fit h.located.port)
+    (none _ done
+    (part _ (optional_written confirm.aliases h.named)
+    (part _ (identifier_written confirm.gatekeeper h.answered.some h.answered.few h.answered.fit)
+    (part _ (identifier_written confirm.endpoint h.identified.some h.identified.few
+    h.identified.fit)
+    (part _ (additions_written (false ∷ true ∷ false ∷ false ∷ false ∷ true ∷ []) 5
+    (encoding.bits 6 17) refl (omega arith) (λ place. refl))
+    (none _ done
+    (part _ (time_to_live_written confirm.granted h.lasting.0 h.lasting.1)
+    (none _ done (none _ done (none _ done
+    (last _ boolean_added done))))))))))))))))))))
 
 -- ---- all replies
 
 pub reply_written : (reply : Reply) → IsReply reply → AreEncodings reply_message reply
     (components reply)
-reply_written (Gcf seq gatekeeper ras) h = gcf_written seq h.0.0 h.0.1 gatekeeper ras h.1 h.2
+reply_written (Gcf confirm) h = gcf_written confirm h
 reply_written (Grj seq reason) h = grj_written seq h.0 h.1 reason
-reply_written (Rcf seq call_signal names gatekeeper endpoint granted) h = rcf_written seq
-    h.numbered.0 h.numbered.1 call_signal names gatekeeper endpoint granted h
+reply_written (Rcf confirm) h = rcf_written confirm h
 reply_written (Rrj seq reason) h = rrj_written seq h.0.0 h.0.1 reason h.1
 reply_written (Ucf seq) h = ucf_written seq h.0 h.1
 reply_written (Urj seq reason) h = urj_written seq h.0 h.1 reason

@@ -24,6 +24,7 @@ use Rattle.ras_module.specs.declared.reason.BandRejectReason.{BandRejectReason}
 use Rattle.ras_module.specs.declared.reason.BandRejectReason.TheVariants as band
 use Rattle.ras_module.specs.declared.reason.DisengageRejectReason.{DisengageRejectReason}
 use Rattle.ras_module.specs.declared.reason.DisengageRejectReason.TheVariants as disengage
+use Rattle.ras_module.specs.declared.reply.RegistrationConfirm.{RegistrationConfirm}
 use Rattle.ras_module.specs.declared.reply.Reply.{Reply}
 use Rattle.ras_module.specs.declared.reply.Reply.TheVariants.{Gcf, Grj, Rcf, Rrj, Ucf, Urj, Acf}
 use Rattle.ras_module.specs.declared.reply.Reply.TheVariants.{Arj, Bcf, Brj, Dcf, Drj, Irq, Rip}
@@ -259,24 +260,21 @@ registered_additions_fit granted most = fits_in (omega arith) (fits_one 7 (small
     (fits_one 23 (length-length_encoding-le (time_to_live_octets granted)) (fits_one 41
     (whole_short 1 4294967295 granted (omega arith) (omega arith)) zero_fits))))
 
-registration_confirm_fits : (seq : ℕ) (call_signal : Address) (list : List Alias)
-    (gatekeeper endpoint : List ℕ) (granted : ℕ)
-    → IsRegistrationConfirm seq call_signal list gatekeeper endpoint granted
-    → Fits (8 * room_of (Rcf seq call_signal list gatekeeper endpoint granted))
-    (registration_confirm seq call_signal list gatekeeper endpoint granted)
+registration_confirm_fits : (confirm : RegistrationConfirm) → IsRegistrationConfirm confirm
+    → Fits (8 * room_of (Rcf confirm)) (components (Rcf confirm))
 unfolding registration_confirm registration_confirm_front
-registration_confirm_fits seq call_signal list gatekeeper endpoint granted h =
-    let ends = fits_part (terminal_fits list h.named.each) (fits_part
-    (identifier_fits gatekeeper h.answered.few)
-    (fits_part (identifier_fits endpoint h.identified.few)
-    (registered_additions_fit granted h.lasting.1))) in
+registration_confirm_fits confirm h =
+    let ends = fits_part (terminal_fits confirm.aliases h.named.each) (fits_part
+    (identifier_fits confirm.gatekeeper h.answered.few)
+    (fits_part (identifier_fits confirm.endpoint h.identified.few)
+    (registered_additions_fit confirm.granted h.lasting.1))) in
     let address = fits_part protocol_fits (fits_one 23 (length-length_encoding-le 1)
-    (transport_fits call_signal h.located)) in
+    (transport_fits confirm.call_signal h.located)) in
     fits_in (omega arith)
     (fits_one 1 (bit_short false) (fits_one 41 (whole_short 0 24 4 (omega arith) (omega arith))
     (fits_one 1 (bit_short true) (fits_one 1 (bit_short false) (fits_one 1 (bit_short
-    (has_aliases list)) (fits_one 1 (bit_short true)
-    (fits_one 41 (whole_short 1 65535 seq (omega arith) (omega (arith, h.numbered.1)))
+    (has_aliases confirm.aliases)) (fits_one 1 (bit_short true)
+    (fits_one 41 (whole_short 1 65535 confirm.seq (omega arith) (omega (arith, h.numbered.1)))
     (fits_part address ends))))))))
 
 registration_reject_fits : (seq : ℕ) (reason : RegistrationRejectReason) → seq ≤ 65535
@@ -301,16 +299,15 @@ unfolding replies.gatekeeper_confirm replies.gatekeeper_reject replies.unregistr
     replies.unregistration_reject replies.admission_confirm replies.admission_reject
     replies.bandwidth_confirm replies.bandwidth_reject replies.disengage_confirm
     replies.disengage_reject replies.info_request replies.request_in_progress
-components_fit (Gcf seq gatekeeper ras) h =
-    fits_in (omega arith) (begun_two 1 seq false false true (omega arith) h.0.1
-    (fits_part protocol_fits (fits_part (identifier_fits gatekeeper (h.1).few)
-    (transport_fits ras h.2))))
+components_fit (Gcf confirm) h =
+    fits_in (omega arith) (begun_two 1 confirm.seq false false true (omega arith) h.0.1
+    (fits_part protocol_fits (fits_part (identifier_fits confirm.gatekeeper (h.1).few)
+    (transport_fits confirm.ras h.2))))
 components_fit (Grj seq reason) h =
     fits_in (omega arith) (begun_two 2 seq false false false (omega arith) h.1
     (fits_part protocol_fits (choice_fits 3 (gatekeeper_reason reason) (omega arith)
     (gatekeeper_few reason))))
-components_fit (Rcf seq call_signal list gatekeeper endpoint granted) h =
-    registration_confirm_fits seq call_signal list gatekeeper endpoint granted h
+components_fit (Rcf confirm) h = registration_confirm_fits confirm h
 components_fit (Rrj seq reason) h = fits_in (reject_room seq reason)
     (registration_reject_fits seq reason h.0.1 h.1)
 components_fit (Ucf seq) h = fits_in (omega arith) (begun_one 7 seq false false
@@ -367,9 +364,9 @@ room_enough reply h =
     )
 
 room_most : (reply : Reply) → IsReply reply → room_of reply ≤ 20000
-room_most (Gcf seq gatekeeper ras) h = omega arith
+room_most (Gcf confirm) h = omega arith
 room_most (Grj seq reason) h = omega arith
-room_most (Rcf seq call_signal list gatekeeper endpoint granted) h = omega (arith, h.named.few)
+room_most (Rcf confirm) h = omega (arith, h.named.few)
 room_most (Rrj seq registration.DiscoveryRequired) h = omega arith
 room_most (Rrj seq registration.InvalidCallSignalAddress) h = omega arith
 room_most (Rrj seq registration.InvalidRasAddress) h = omega arith

@@ -9,6 +9,7 @@ use Rattle.ras_module.specs.declared.alias.Alias.TheVariants.{Digits, H323Id}
 use Rattle.ras_module.specs.declared.reason.RegistrationRejectReason.{RegistrationRejectReason}
 use Rattle.ras_module.specs.declared.reason.RegistrationRejectReason.TheVariants.{DuplicateAlias}
 use Rattle.ras_module.specs.DialledDigits.{AreDialled}
+use Rattle.ras_module.specs.declared.reply.RegistrationConfirm.{RegistrationConfirm}
 use Rattle.ras_module.specs.declared.reply.Reply.{Reply}
 use Rattle.ras_module.specs.declared.reply.Reply.TheVariants.{Gcf, Grj, Rcf, Rrj, Ucf, Urj, Acf}
 use Rattle.ras_module.specs.declared.reply.Reply.TheVariants.{Arj, Bcf, Brj, Dcf, Drj, Irq, Rip}
@@ -54,21 +55,19 @@ abbrev pub IsReason : RegistrationRejectReason → Type 0
 IsReason (DuplicateAlias held) = AreAliases held
 IsReason other = Unit {0}
 
-pub record IsRegistrationConfirm (seq : ℕ) (call_signal : Address) (aliases : List Alias)
-    (gatekeeper endpoint : List ℕ) (granted : ℕ) : Type 0 where
-  pub numbered : IsSeq seq
-  pub located : IsAddress call_signal
-  pub named : AreAliases aliases
-  pub answered : IsName gatekeeper
-  pub identified : IsName endpoint
-  pub lasting : (1 ≤ granted) × (granted ≤ 4294967295)
+pub record IsRegistrationConfirm (confirm : RegistrationConfirm) : Type 0 where
+  pub numbered : IsSeq confirm.seq
+  pub located : IsAddress confirm.call_signal
+  pub named : AreAliases confirm.aliases
+  pub answered : IsName confirm.gatekeeper
+  pub identified : IsName confirm.endpoint
+  pub lasting : (1 ≤ confirm.granted) × (confirm.granted ≤ 4294967295)
 
 -- What the types of a reply's parts keep.
 abbrev pub IsReply : Reply → Type 0
-IsReply (Gcf seq gatekeeper ras) = IsSeq seq × IsName gatekeeper × IsAddress ras
+IsReply (Gcf confirm) = IsSeq confirm.seq × IsName confirm.gatekeeper × IsAddress confirm.ras
 IsReply (Grj seq reason) = IsSeq seq
-IsReply (Rcf seq call_signal aliases gatekeeper endpoint granted) = IsRegistrationConfirm seq
-    call_signal aliases gatekeeper endpoint granted
+IsReply (Rcf confirm) = IsRegistrationConfirm confirm
 IsReply (Rrj seq reason) = IsSeq seq × IsReason reason
 IsReply (Ucf seq) = IsSeq seq
 IsReply (Urj seq reason) = IsSeq seq

@@ -295,10 +295,11 @@ request_in_progress seq delay =
     ∷ whole 1 65535 delay ∷ []
 
 abbrev pub components : Reply → List Encoding
-components (Gcf seq gatekeeper ras) = gatekeeper_confirm seq gatekeeper ras
+components (Gcf confirm) = gatekeeper_confirm confirm.seq confirm.gatekeeper confirm.ras
 components (Grj seq reason) = gatekeeper_reject seq reason
-components (Rcf seq call_signal aliases gatekeeper endpoint granted) =
-    registration_confirm seq call_signal aliases gatekeeper endpoint granted
+components (Rcf confirm) =
+    registration_confirm confirm.seq confirm.call_signal confirm.aliases confirm.gatekeeper
+    confirm.endpoint confirm.granted
 components (Rrj seq reason) = registration_reject seq reason
 components (Ucf seq) = unregistration_confirm seq
 components (Urj seq reason) = unregistration_reject seq reason

@@ -99,7 +99,7 @@ gatekeeper_confirm = do
   non_standard_data ← skipped has_non_standard_data non_standard_parameter
   gatekeeper ← required has_gatekeeper identifier
   ras ← ip_transport_address
-  is (Gcf seq gatekeeper ras)
+  is (Gcf (record { seq = seq; gatekeeper = gatekeeper; ras = ras }))
 
 -- GatekeeperReject
 unfoldable pub gatekeeper_reject : Grammar Reply
@@ -169,7 +169,14 @@ registration_confirm = do
   addition_3 ← skipped_addition present 3
   addition_4 ← skipped_addition present 4
   will_respond_to_irr ← addition present 5 boolean
-  is (Rcf seq call_signal aliases gatekeeper endpoint granted)
+  is (Rcf (record {
+    seq = seq;
+    call_signal = call_signal;
+    aliases = aliases;
+    gatekeeper = gatekeeper;
+    endpoint = endpoint;
+    granted = granted;
+  }))
 
 -- RegistrationReject
 unfoldable pub registration_reject : Grammar Reply

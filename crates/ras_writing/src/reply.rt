@@ -6,10 +6,10 @@ ghost use Rattle.per_bits.specs.Bits.{octets_for};
 ghost use Rattle.ras_module.specs.declared.reply.Reply.TheVariants as reply;
 ghost use Rattle.ras_writing.specs.Encoding.{Writes};
 ghost use Rattle.ras_writing.specs.Replies.{gatekeeper_reason, registration_reason, held_in};
-ghost use Rattle.ras_writing.specs.Replies.{registration_confirm, registration_confirm_front};
+ghost use Rattle.ras_writing.specs.Replies.{registration_confirm_front};
 ghost use Rattle.ras_writing.specs.Replies.{registration_confirm_additions, registration_reject};
 ghost use Rattle.ras_writing.specs.Replies.{terminal_alias, unreg_reason, admission_reason};
-ghost use Rattle.ras_writing.specs.Replies.{band_reason, disengage_reason, gatekeeper_confirm};
+ghost use Rattle.ras_writing.specs.Replies.{band_reason, disengage_reason};
 ghost use Rattle.ras_writing.specs.Replies.{gatekeeper_reject, unregistration_confirm};
 ghost use Rattle.ras_writing.specs.Replies.{unregistration_reject, admission_confirm};
 ghost use Rattle.ras_writing.specs.Replies.{admission_confirm_additions, admission_reject};
@@ -27,8 +27,8 @@ use crate::encoder::{
 use per_bits::BitWriter;
 use ras_module::{
     Address, AdmissionRejectReason, Alias, BandRejectReason, Delay, DisengageRejectReason,
-    GatekeeperRejectReason, Name, RegistrationRejectReason, Reply, RequestSeqNum, TimeToLive,
-    UnregRejectReason,
+    GatekeeperConfirm, GatekeeperRejectReason, RegistrationConfirm, RegistrationRejectReason,
+    Reply, RequestSeqNum, TimeToLive, UnregRejectReason,
 };
 use std::alloc::AllocError;
 use std::mem;
@@ -108,25 +108,19 @@ fn registration_reason(writer: &mut BitWriter, reason: &RegistrationRejectReason
 
 /// GatekeeperConfirm: no additions, no nonStandardData, with its gatekeeperIdentifier.
 #[tactic(auto, using(crate::proofs::Behind::behind_append), unfolding(crate::specs::Replies::gatekeeper_confirm))]
-pub fn gatekeeper_confirm(
-    writer: &mut BitWriter,
-    seq: RequestSeqNum,
-    gatekeeper: &Name,
-    ras: &Address,
-)
+pub fn gatekeeper_confirm(writer: &mut BitWriter, confirm: &GatekeeperConfirm)
     requires { 2400 ≤ writer.old.room }
-    ensures writes { Writes 2400 (gatekeeper_confirm seq gatekeeper.now ras.now) writer.old
-        writer.new }
-    ensures bounds { IsReply (reply.Gcf seq gatekeeper.now ras.now) }
+    ensures writes { Writes 2400 (components (reply.Gcf confirm.now)) writer.old writer.new }
+    ensures bounds { IsReply (reply.Gcf confirm.now) }
 {
     root_message(writer, 1);
     writer.bit(false);
     writer.bit(false);
     writer.bit(true);
-    request_seq_num(writer, seq);
+    request_seq_num(writer, confirm.seq);
     protocol_identifier(writer);
-    identifier(writer, gatekeeper.as_slice());
-    transport_address(writer, ras);
+    identifier(writer, confirm.gatekeeper.as_slice());
+    transport_address(writer, &confirm.ras);
 }
 
 /// GatekeeperReject: no additions, no nonStandardData, no gatekeeperIdentifier.
@@ -205,6 +199,28 @@ fn registration_confirm_front(
     protocol_identifier(writer);
     writer.length(1);
     transport_address(writer, call_signal);
+}
+
+/// RegistrationConfirm: its front, its aliases, the identifiers of the gatekeeper and of the
+/// endpoint, its additions.
+#[tactic(auto, using(crate::proofs::Behind::behind_append), unfolding(crate::specs::Replies::registration_confirm))]
+pub fn registration_confirm(writer: &mut BitWriter, confirm: &RegistrationConfirm)
+    requires { 8 * room_of (reply.Rcf confirm.now) ≤ writer.old.room }
+    ensures writes { Writes (8 * room_of (reply.Rcf confirm.now))
+        (components (reply.Rcf confirm.now)) writer.old writer.new }
+    ensures bounds { IsReply (reply.Rcf confirm.now) }
+{
+    let aliases = confirm.aliases.as_slice();
+    registration_confirm_front(
+        writer,
+        confirm.seq,
+        &confirm.call_signal,
+        !aliases.is_empty(),
+    );
+    terminal_alias(writer, aliases);
+    identifier(writer, confirm.gatekeeper.as_slice());
+    identifier(writer, confirm.endpoint.as_slice());
+    registration_confirm_additions(writer, confirm.granted);
 }
 
 /// RegistrationReject: no additions, no nonStandardData, no gatekeeperIdentifier.
@@ -403,34 +419,16 @@ pub fn request_in_progress(writer: &mut BitWriter, seq: RequestSeqNum, delay: De
 }
 
 /// The components of a reply.
-#[tactic(auto, using(crate::proofs::Behind::behind_append), unfolding(crate::specs::Replies::registration_confirm))]
+#[tactic(auto)]
 fn write_components(writer: &mut BitWriter, reply: &Reply)
     requires { 8 * room_of reply.now ≤ writer.old.room }
     ensures writes { Writes (8 * room_of reply.now) (components reply.now) writer.old writer.new }
     ensures bounds { IsReply reply.now }
 {
     match reply {
-        Reply::Gcf {
-            seq,
-            gatekeeper,
-            ras,
-        } => gatekeeper_confirm(writer, *seq, gatekeeper, ras),
+        Reply::Gcf(confirm) => gatekeeper_confirm(writer, confirm.get()),
         Reply::Grj { seq, reason } => gatekeeper_reject(writer, *seq, *reason),
-        Reply::Rcf {
-            seq,
-            call_signal,
-            aliases,
-            gatekeeper,
-            endpoint,
-            granted,
-        } => {
-            let aliases = aliases.as_slice();
-            registration_confirm_front(writer, *seq, call_signal, !aliases.is_empty());
-            terminal_alias(writer, aliases);
-            identifier(writer, gatekeeper.as_slice());
-            identifier(writer, endpoint.as_slice());
-            registration_confirm_additions(writer, *granted);
-        }
+        Reply::Rcf(confirm) => registration_confirm(writer, confirm.get()),
         Reply::Rrj { seq, reason } => registration_reject(writer, *seq, reason),
         Reply::Ucf { seq } => unregistration_confirm(writer, *seq),
         Reply::Urj { seq, reason } => unregistration_reject(writer, *seq, *reason),

@@ -1,8 +1,9 @@
-use Rattle.std.proofs.Common.{◌<◌, arith, ◌∙◌, refl, length, length-set}
+use Rattle.std.proofs.Common.{◌≡◌, ◌<◌, arith, ◌∙◌, refl, length, length-set}
 use Rattle.std.proofs.lemmas.Result.{err_from_is_err_and}
 use Rattle.ras_grammar.specs.Aliases.{digit}
 use Rattle.ras_grammar.proofs.Dialled.{AreDialled-more}
 use Rattle.ras_reading.proofs.Each.{adding, each-fault, array-more, array-done}
+use Rattle.ras_reading.proofs.Pads.{zeros_after, filled}
 use Rattle.ras_reading.proofs.alias.digits.Goals as goal
 
 pub returns-in_err-digits-clause-gives : goal.returns-in_err-digits-clause-gives
@@ -25,8 +26,16 @@ loop-i-preserved c =
           c.loop-i-test.true within c.in_ok-digits.ensures.gives;
       dialled = AreDialled-more c.loop-i.digits c.loop-i.i c.in_ok-digits.field-0 within
           c.loop-i.invariant.dialled c.in_ok-digits.ensures.dialled;
+      zeros = zeros_after c.loop-i.digits c.loop-i.i 128 c.in_ok-digits.field-0
+          c.loop-i.invariant.zeros;
     }
 
 pub returns-clause-gives : goal.returns-clause-gives
 returns-clause-gives c = array-done digit c.args.count c.loop-i.i c.loop-i.digits
     c.args.decoder.now c.loop-i.ahead c.loop-i.invariant.so_far (omega arith)
+
+pub returns-clause-padded : goal.returns-clause-padded
+returns-clause-padded c =
+    let ended : c.loop-i.i ≡ c.args.count = omega arith in
+    filled 128 c.loop-i.digits c.args.count (omega arith) (omega arith)
+    c.loop-i.invariant.full (rw (← ended) c.loop-i.invariant.zeros)

@@ -1,4 +1,4 @@
-use Rattle.std.proofs.Common.{◌≡◌, ◌-◌, [], length, take}
+use Rattle.std.proofs.Common.{◌≡◌, ◌-◌, [], length, take, drop, replicate}
 use Rattle.ras_module.specs.DialledDigits.{AreDialled}
 use Rattle.ras_grammar.specs.Aliases.{digit}
 use Rattle.ras_reading.proofs.Each.{folded, adding}
@@ -10,4 +10,5 @@ invariant-loop-i l = record {
   so_far : folded adding digit.reading (l.count - l.i) (take l.i l.digits) l.ahead
       ≡ folded adding digit.reading l.count [] l.decoder;
   dialled : AreDialled (take l.i l.digits);
+  zeros : drop l.i l.digits ≡ replicate (128 - l.i) 0;
 }

@@ -1,4 +1,4 @@
-use Rattle.std.proofs.Common.{◌≡◌, ◌-◌, [], length, take}
+use Rattle.std.proofs.Common.{◌≡◌, ◌-◌, [], length, take, drop, replicate}
 use Rattle.ras_grammar.specs.Grammar.{bits}
 use Rattle.ras_reading.proofs.Each.{folded, adding}
 use Rattle.ras_reading.proofs.sequence.characters.Given as goal
@@ -8,4 +8,5 @@ invariant-loop-i g l = record {
   full : length l.characters ≡ g.row.MOST;
   so_far : folded adding (bits 16).reading (l.count - l.i) (take l.i l.characters) l.ahead
       ≡ folded adding (bits 16).reading l.count [] l.decoder;
+  zeros : drop l.i l.characters ≡ replicate (g.row.MOST - l.i) 0;
 }
