@@ -101,7 +101,7 @@ pub record IsBusy (t : KeptTable) (now : ℕ) : Type 0 where
 
 -- the identifier that a RegistrationConfirm tells
 abbrev pub identifier_in : Reply → Option (List ℕ)
-identifier_in (Rcf seq call_signal aliases gatekeeper endpoint granted) = Some endpoint
+identifier_in (Rcf confirm) = Some confirm.endpoint
 identifier_in other = None
 
 abbrev pub named_by : KeptEntry → Option (List ℕ)

@@ -107,7 +107,7 @@ pub(crate) fn identifier_in(reply: &Reply) -> Option<&EndpointId>
     ensures { option_copied result ≡ identifier_in reply.now }
 {
     match reply {
-        Reply::Rcf { endpoint, .. } => Some(endpoint),
+        Reply::Rcf(confirm) => Some(&confirm.get().endpoint),
         _ => None,
     }
 }

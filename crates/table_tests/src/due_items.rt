@@ -4,7 +4,7 @@ use crate::fixtures::{address, endpoint, no_alias, seq};
 use admission::{Calls, Leg};
 use expiry::{DueItem, Times, due};
 use kept_replies::{InProgress, Kept, KeptKey};
-use ras_module::{CallKey, Delay, DisengageRequest, EndpointId, Octets, Reply, Request};
+use ras_module::{Boxed, CallKey, Delay, DisengageRequest, EndpointId, Octets, Reply, Request};
 use registrations::{Registration, Registrations};
 use std::alloc::Global;
 use std::test::Fail;
@@ -76,12 +76,13 @@ fn pend(alloc: Global, kept: &mut Kept) -> Result<(), Fail> {
     if kept.is_full() || !kept.is_free(&key, 3) {
         return Err(Fail::from("there is no place"));
     }
-    kept.reserve(0)?;
-    let request = Request::Drq(DisengageRequest {
+    let request = DisengageRequest {
         seq: seq(7),
         endpoint: endpoint(FIRST),
         call: CALL,
-    });
+    };
+    let request = Request::Drq(Boxed::new(alloc, request)?);
+    kept.reserve(0)?;
     let reply = InProgress::new(seq(7), Delay::new(1500).unwrap());
     kept.pend(key, 3, request, reply, 1500, 3);
     Ok(())

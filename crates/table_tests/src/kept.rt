@@ -3,7 +3,8 @@
 use crate::fixtures::{endpoint, is_done, no_alias, seq};
 use kept_replies::{InProgress, Kept, KeptEntry, KeptKey, KeptList, KeptState, ReserveFault};
 use ras_module::{
-    Address, BandwidthRequest, CallKey, Delay, Name, Octets, Reply, Request, TimeToLive,
+    Address, BandwidthRequest, Boxed, CallKey, Delay, Name, Octets, RegistrationConfirm, Reply,
+    ReplyAliases, Request, TimeToLive,
 };
 use std::alloc::{AllocError, Global};
 use std::test::Fail;
@@ -30,24 +31,30 @@ fn progress(number: u16) -> InProgress {
     InProgress::new(seq(number), Delay::new(1500).unwrap())
 }
 
-fn registered(alloc: Global, last: u8) -> Result<Reply, Fail> {
-    Ok(Reply::Rcf {
+fn few(alloc: Global) -> Result<ReplyAliases, Fail> {
+    Ok(no_alias(alloc).ok_or("no alias is few")?)
+}
+
+fn registered(alloc: Global, aliases: ReplyAliases, last: u8) -> Result<Reply, AllocError> {
+    let confirm = RegistrationConfirm {
         seq: seq(1),
         call_signal: SOURCE,
-        aliases: no_alias(alloc).ok_or("no alias is few")?,
+        aliases,
         gatekeeper: Name::new(&[103, 107]).unwrap(),
         endpoint: endpoint(last),
         granted: TimeToLive::new(60).unwrap(),
-    })
+    };
+    Ok(Reply::Rcf(Boxed::new(alloc, confirm)?))
 }
 
-fn request() -> Request {
-    Request::Brq(BandwidthRequest {
+fn request(alloc: Global) -> Result<Request, AllocError> {
+    let request = BandwidthRequest {
         seq: seq(7),
         endpoint: endpoint(b'1'),
         call: CallKey { octets: [17; 16] },
         asked: 1280,
-    })
+    };
+    Ok(Request::Brq(Boxed::new(alloc, request)?))
 }
 
 fn keep(kept: &mut Kept, key: KeptKey, born: u64, reply: Reply, until: u64) -> Result<(), Fail> {
@@ -62,7 +69,14 @@ fn keep(kept: &mut Kept, key: KeptKey, born: u64, reply: Reply, until: u64) -> R
     Ok(())
 }
 
-fn pend(kept: &mut Kept, key: KeptKey, born: u64, retry: u64, left: u64) -> Result<(), Fail> {
+fn pend(
+    kept: &mut Kept,
+    key: KeptKey,
+    born: u64,
+    request: Request,
+    retry: u64,
+    left: u64,
+) -> Result<(), Fail> {
     if kept.is_full() && kept.find(&key).is_none() {
         return Err(Fail::from("there is no place"));
     }
@@ -70,7 +84,7 @@ fn pend(kept: &mut Kept, key: KeptKey, born: u64, retry: u64, left: u64) -> Resu
         return Err(Fail::from("no entry is like this"));
     }
     kept.reserve(retry)?;
-    kept.pend(key, born, request(), progress(7), retry, left);
+    kept.pend(key, born, request, progress(7), retry, left);
     Ok(())
 }
 
@@ -116,7 +130,7 @@ fn keep_registered(
     until: u64,
 ) -> Result<(), Fail> {
     let datagram = key(alloc, octet)?;
-    let reply = registered(alloc, last)?;
+    let reply = registered(alloc, few(alloc)?, last)?;
     keep(kept, datagram, u64::from(octet), reply, until)
 }
 
@@ -226,8 +240,8 @@ fn is_waiting_until(kept: &Kept, moment: u64, left: u64) -> bool {
 }
 
 // A request waits twice.
-fn waits_twice(kept: &mut Kept, waiting: &KeptKey) -> Result<bool, Fail> {
-    pend(kept, waiting.copy()?, 3, 1500, 3)?;
+fn waits_twice(alloc: Global, kept: &mut Kept, waiting: &KeptKey) -> Result<bool, Fail> {
+    pend(kept, waiting.copy()?, 3, request(alloc)?, 1500, 3)?;
     let is_waiting = is_waiting_until(kept, 1500, 3);
     postpone(kept, waiting, 3000)?;
     Ok(is_waiting && is_waiting_until(kept, 3000, 2))
@@ -242,7 +256,7 @@ fn is_answered(kept: &mut Kept, waiting: &KeptKey) -> Result<bool, Fail> {
 
 fn waits_and_is_answered(alloc: Global, kept: &mut Kept) -> Result<bool, Fail> {
     let waiting = key(alloc, 1)?;
-    Ok(waits_twice(kept, &waiting)? && is_answered(kept, &waiting)?)
+    Ok(waits_twice(alloc, kept, &waiting)? && is_answered(kept, &waiting)?)
 }
 
 #[test]
@@ -356,7 +370,10 @@ fn insist(alloc: Global, kept: &mut Kept, octet: u8) -> Result<(), Fail> {
         Ok(datagram) => datagram,
         Err(_) => key(alloc, octet)?,
     };
-    let reply = registered(alloc, octet)?;
+    let reply = match registered(alloc, few(alloc)?, octet) {
+        Ok(reply) => reply,
+        Err(_) => registered(alloc, few(alloc)?, octet)?,
+    };
     keep(kept, datagram, u64::from(octet), reply, 10)
 }
 
