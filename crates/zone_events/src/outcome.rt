@@ -104,6 +104,17 @@ impl Outcome {
         }
     }
 
+    /// Makes it the outcome of a step in which no request was served.
+    pub fn be_noted(&mut self, note: Note, output: Option<Datagram>)
+        ensures { self.new ≡ noted_outcome note output }
+    {
+        self.answer = None;
+        self.output = output;
+        self.note = note;
+        self.dropped = None;
+        self.given = None;
+    }
+
     /// An equal outcome. The octets that are sent stand in this empty buffer. This takes no memory.
     pub fn copy_into(&self, buffer: Vec<u8>) -> Self
         requires empty { buffer.items ≡ [] }
