@@ -16,8 +16,9 @@ use std::alloc::{AllocError, Global};
 /// is such: its number has at most 20 digits.
 type ShortId = BmpString<20>;
 
-/// In how many calls each endpoint has a leg. If a leg can't be counted for want of memory, or since
-/// its identifier is too long, the counts are given up, and nothing is known until they start again.
+/// In how many calls each endpoint has a leg. If a leg can't be counted for want of memory, or
+/// since its identifier is too long, the counts are given up, and nothing is known until they start
+/// again.
 #[derive(Drop)]
 pub struct LegCounts {
     // an endpoint without an entry has no leg

@@ -186,10 +186,10 @@ impl Bandwidth {
         ensures err { OnErr result (self.new.usage ≡ self.old.usage) }
     {
         match change {
-            CallChange::Opening(key, pool, leg) => self.open(key, pool, leg)?,
-            CallChange::Joining(key, leg) => self.join(key, leg),
+            CallChange::Opening(key, pool, leg) => self.open(key, pool, leg.into_inner())?,
+            CallChange::Joining(key, leg) => self.join(key, leg.into_inner()),
             CallChange::Lowering(key, units, pool, back) => self.lower(&key, units, pool, back),
-            CallChange::Leaving(key, endpoint) => self.leave(&key, &endpoint),
+            CallChange::Leaving(key, endpoint) => self.leave(&key, endpoint.get()),
         }
         let _ = &self.calls;
         Ok(())
@@ -297,13 +297,13 @@ fn enter(calls: &mut Calls, request: &UnitRequest, answer: Lend)
     let Some(units) = request.grant(answer) else {
         return;
     };
-    match request.purpose {
+    match &request.purpose {
         Purpose::Opening(leg) => {
-            let opened = calls.open(request.call, request.pool, units as u32, leg);
+            let opened = calls.open(request.call, request.pool, units as u32, *leg.get());
             opened.unwrap();
         }
         Purpose::Raising(had) => {
-            let raised = calls.set_units(&request.call, had + units as u32);
+            let raised = calls.set_units(&request.call, *had + units as u32);
             raised.unwrap();
         }
     }

@@ -189,12 +189,12 @@ impl Endpoints {
         ensures err { OnErr result (self.new ≡ self.old) }
     {
         match change {
-            EndpointChange::Renewal(id, deadline) => self.renew(&id, deadline),
-            EndpointChange::Rewriting(id, entry, deadline) => self.rewrite(
-                now, id, entry, deadline,
-            )?,
-            EndpointChange::Addition(registration) => self.add(registration)?,
-            EndpointChange::Removal(id) => self.remove(&id),
+            EndpointChange::Renewal(id, deadline) => self.renew(id.get(), deadline),
+            EndpointChange::Rewriting(id, entry, deadline) => {
+                self.rewrite(now, id.get(), entry, deadline)?
+            }
+            EndpointChange::Addition(registration) => self.add(registration.into_inner())?,
+            EndpointChange::Removal(id) => self.remove(id.get()),
         }
         let _ = &self.registrations;
         Ok(())
@@ -211,13 +211,13 @@ impl Endpoints {
     fn rewrite(
         &mut self,
         now: Moment,
-        id: EndpointId,
+        endpoint: &EndpointId,
         entry: Entry,
         deadline: u64,
     ) -> Result<(), AllocError>
-        requires { IsRewritable self.old id entry }
+        requires { IsRewritable self.old endpoint.now entry }
         ensures live { OnOk result (self.new.live
-            ≡ after_endpoint_change now (EndpointChange.Rewriting id entry deadline)
+            ≡ after_endpoint_change now (EndpointChange.Rewriting endpoint.now entry deadline)
             self.old.live) }
         ensures most { self.new.most ≡ self.old.most }
         ensures err { OnErr result (self.new ≡ self.old) }
@@ -228,10 +228,11 @@ impl Endpoints {
             aliases,
         } = entry;
         self.aliases.reserve(aliases.as_slice().len())?;
-        drop_aliases(&self.registrations, &mut self.aliases, &id);
-        self.aliases.set_all(aliases.as_slice(), id, call_signal);
-        self.registrations.rewrite(&id, ras, aliases, deadline);
-        self.registrations.hear(&id, now.milliseconds());
+        drop_aliases(&self.registrations, &mut self.aliases, endpoint);
+        self.aliases
+            .set_all(aliases.as_slice(), *endpoint, call_signal);
+        self.registrations.rewrite(endpoint, ras, aliases, deadline);
+        self.registrations.hear(endpoint, now.milliseconds());
         Ok(())
     }
 

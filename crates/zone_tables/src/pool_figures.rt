@@ -68,8 +68,8 @@ impl PoolFigures {
         self.items.as_slice()[i]
     }
 
-    /// Notes that pool i gave this answer to a request for units. A loan of fewer units than `least`
-    /// has gone back. `i` has to be below `len`. No other figures change.
+    /// Notes that pool i gave this answer to a request for units. A loan of fewer units than
+    /// `least` has gone back. `i` has to be below `len`. No other figures change.
     pub fn note_answer(&mut self, i: usize, units: u64, least: u64, answer: Lend)
         requires asked { MayBeAsked self.old i units }
         requires answer { IsAnswer (figures_at self.old i) units answer }
@@ -92,8 +92,8 @@ impl PoolFigures {
         self.items.as_mut_slice()[i].lent -= n;
     }
 
-    /// Whether a fresh pool that is offered with these figures may take the place of pool i. `i` may
-    /// be any number.
+    /// Whether a fresh pool that is offered with these figures may take the place of pool i. `i`
+    /// may be any number.
     pub fn may_replace(&self, i: usize, offered: Figures) -> bool
         ensures { IsTrue result ↔ MayReplace self.now i offered }
     {

@@ -331,23 +331,20 @@ impl ZoneTables {
         Ok(())
     }
 
-    /// Notes that the endpoint that a request names was heard, if it is registered.
-    pub fn hear(&mut self, now: Moment, endpoint: Option<EndpointId>)
-        ensures heard { self.new ≡ heard self.old now endpoint }
+    /// Notes that an endpoint was heard, if it is registered.
+    pub fn hear(&mut self, now: Moment, id: &EndpointId)
+        ensures heard { self.new ≡ heard self.old now (Some id.now) }
         ensures sound { SoundTables self.new }
     {
-        let _ = &self.endpoints;
-        if let Some(id) = endpoint {
-            let times = self.times();
-            self.endpoints.hear(now, &id);
-            watch(
-                &mut self.silences,
-                &times,
-                &self.endpoints,
-                &self.bandwidth,
-                &id,
-            );
-        }
+        let times = self.times();
+        self.endpoints.hear(now, id);
+        watch(
+            &mut self.silences,
+            &times,
+            &self.endpoints,
+            &self.bandwidth,
+            id,
+        );
     }
 
     /// Requests units of a pool, once, for a call. If enough units are lent, the call opens with
@@ -376,13 +373,13 @@ impl ZoneTables {
         let times = self.times();
         self.bandwidth.reserve(1)?;
         let answer = self.bandwidth.request_units(request, lender);
-        if let Purpose::Opening(leg) = request.purpose {
+        if let Purpose::Opening(leg) = &request.purpose {
             watch(
                 &mut self.silences,
                 &times,
                 &self.endpoints,
                 &self.bandwidth,
-                &leg.endpoint,
+                &leg.get().endpoint,
             );
         }
         Ok(answer)

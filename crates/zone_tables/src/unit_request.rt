@@ -8,23 +8,22 @@ ghost use Rattle.zone_tables.specs.Pools.{grant_of};
 use admission::Leg;
 use pools::Lend;
 use ras_module::{
-    AdmissionRejectReason, BandRejectReason, CallKey, Delay, EndpointId, Reply, RequestSeqNum,
+    AdmissionRejectReason, BandRejectReason, Boxed, CallKey, Delay, Reply, RequestSeqNum,
 };
 
 /// What the units of a request to a pool are for.
-#[derive(Clone, Copy)]
+#[derive(Drop)]
 pub enum Purpose {
     /// A call opens, with this leg.
-    Opening(Leg),
+    Opening(Boxed<Leg>),
     /// A call that has these units gets more.
     Raising(u32),
 }
 
 /// A request about a call for which a pool is asked for units.
-#[derive(Clone, Copy)]
+#[derive(Drop)]
 pub struct UnitRequest {
     pub seq: RequestSeqNum,
-    pub endpoint: EndpointId,
     pub call: CallKey,
     pub pool: usize,
     pub units: u32,
@@ -51,15 +50,15 @@ impl UnitRequest {
         requires { IsBandWidth self.now.purpose units }
         ensures { result ≡ granted_reply self.now self.now.purpose units }
     {
-        match self.purpose {
+        match &self.purpose {
             Purpose::Opening(leg) => Reply::Acf {
                 seq: self.seq,
                 units,
-                dest: leg.told,
+                dest: leg.get().told,
             },
             Purpose::Raising(had) => Reply::Bcf {
                 seq: self.seq,
-                units: had + units,
+                units: *had + units,
             },
         }
     }
@@ -68,7 +67,7 @@ impl UnitRequest {
     pub fn refused(&self) -> Reply
         ensures { result ≡ refused_reply self.now self.now.purpose }
     {
-        match self.purpose {
+        match &self.purpose {
             Purpose::Opening(_) => Reply::Arj {
                 seq: self.seq,
                 reason: AdmissionRejectReason::RequestDenied,
@@ -76,7 +75,7 @@ impl UnitRequest {
             Purpose::Raising(had) => Reply::Brj {
                 seq: self.seq,
                 reason: BandRejectReason::InsufficientResources,
-                allowed: had,
+                allowed: *had,
             },
         }
     }

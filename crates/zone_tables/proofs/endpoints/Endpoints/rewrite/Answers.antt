@@ -20,7 +20,7 @@ set_all-requires-clause-free c alias has other =
     let agree = subst (λ (t : Roll). Agree t.live held) c.self.view_is c.self.invariant.agree in
     let sound =
     subst (λ (t : Roll). IsConsistent t.live) c.self.view_is c.self.invariant.sound.consistent in
-    let id = c.args.id in
+    let id = c.args.endpoint.now in
     let dropped : c.drop_aliases.new.aliases.held ≡ without_holder held id =
     c.drop_aliases.ensures.rows ∙ ap (λ h. without_holder h id) c.reserve.ensures.held in
     not_held (without_holder held id) alias id
@@ -34,7 +34,7 @@ rewrite-requires c =
     let agree = subst (λ (t : Roll). Agree t.live held) c.self.view_is c.self.invariant.agree in
     let sound =
     subst (λ (t : Roll). IsConsistent t.live) c.self.view_is c.self.invariant.sound.consistent in
-    let id = c.args.id in
+    let id = c.args.endpoint.now in
     is_there (fin.get c.self.inside.registrations.live id) c.requires.old
     (ap (λ (t : Roll). fin.get t.live id) c.self.view_is
     ∙ is_live c.args.self.now held agree sound id c.args.entry c.requires)
@@ -45,7 +45,7 @@ hear-requires c =
     let agree = subst (λ (t : Roll). Agree t.live held) c.self.view_is c.self.invariant.agree in
     let sound =
     subst (λ (t : Roll). IsConsistent t.live) c.self.view_is c.self.invariant.sound.consistent in
-    let id = c.args.id in
+    let id = c.args.endpoint.now in
     let e = c.args.entry in
     subst (λ (l : Live). IsSome (fin.get l id)) (sym c.rewrite.ensures.rows)
     (is_there_after c.self.inside.registrations.live id
@@ -59,7 +59,7 @@ invariant_of-self-2 c =
     let agree = subst (λ (t : Roll). Agree t.live held) c.self.view_is c.self.invariant.agree in
     let sound =
     subst (λ (t : Roll). IsConsistent t.live) c.self.view_is c.self.invariant.sound.consistent in
-    let id = c.args.id in
+    let id = c.args.endpoint.now in
     let e = c.args.entry in
     let now = c.milliseconds.result in
     let dropped : c.drop_aliases.new.aliases.held ≡ without_holder held id =

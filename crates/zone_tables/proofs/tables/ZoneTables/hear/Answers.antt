@@ -14,7 +14,7 @@ pub watch-requires-clause-others : goal.watch-requires-clause-others
 watch-requires-clause-others c =
     let i = c.self.inside in
     let u = i.bandwidth.usage in
-    let id = c.in-Some.id in
+    let id = c.args.id.now in
     let same = c.times-times.ensures.same
     ∙ ap (λ (m : Tables). times_of m.config) (sym c.self.view_is) in
     let watched = subst (λ t. AreWatched t i.endpoints.live u.calls i.silences.ends)
@@ -35,17 +35,12 @@ invariant_of-self c =
       endpoints = c.hear.ensures.sound;
       calls = c.self.invariant.calls;
       parts = AreParts-live i.config i.endpoints c.hear.new.self u parts c.hear.ensures.most _
-          c.hear.ensures.live (legs-heard i.endpoints.live u.calls c.args.now c.in-Some.id
+          c.hear.ensures.live (legs-heard i.endpoints.live u.calls c.args.now c.args.id.now
           parts.legs);
       watched = subst (λ t. AreWatched t c.hear.new.self.live u.calls c.watch.new.silences.ends)
           (c.times-times.ensures.same ∙ ap (λ (m : Tables). times_of m.config) (sym c.self.view_is))
           c.watch.ensures;
     }
 
-pub returns-in-Some-clause-sound : goal.returns-in-Some-clause-sound
-returns-in-Some-clause-sound c = SoundTables-parts _ _ _ _ (invariant_of-self c)
-
-pub returns-in_default-clause-sound : goal.returns-in_default-clause-sound
-returns-in_default-clause-sound c =
-    subst SoundTables c.self.view_is
-    (SoundTables-parts _ _ _ _ c.self.invariant)
+pub returns-clause-sound : goal.returns-clause-sound
+returns-clause-sound c = SoundTables-parts _ _ _ _ (invariant_of-self c)

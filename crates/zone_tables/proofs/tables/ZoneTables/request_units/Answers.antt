@@ -9,7 +9,7 @@ use Rattle.zone_tables.specs.Parts.{AreParts, AreSoundParts, Usage, usage_of, wi
 use Rattle.zone_tables.specs.Pools.{figures_at, pools_after_answer}
 use Rattle.zone_tables.specs.Changes.{IsRegistered}
 use Rattle.zone_tables.specs.Silence.{times_of}
-use Rattle.zone_tables.specs.inside.Watched.{AreWatched}
+use Rattle.zone_tables.specs.inside.Watched.{AreOthersWatched, AreWatched}
 use Rattle.zone_tables.specs.Tables.{Tables}
 use Rattle.zone_tables.specs.UnitRequests.{IsUnitRequest, calls_after_answer, leg_of_purpose}
 use Rattle.zone_tables.specs.UnitRequests.{units_requested}
@@ -40,7 +40,9 @@ watch-requires-clause-others g c =
     (subst (λ (m : Tables). IsUnitRequest (usage_of m) q) (sym c.self.view_is) c.requires.may) in
     let same = c.times-times.ensures.same
     ∙ ap (λ (m : Tables). times_of m.config) (sym c.self.view_is) in
-    others_watched c.times-times.result i.endpoints.live old.calls i.silences.ends
+    subst (λ (l : Leg). AreOthersWatched c.times-times.result i.endpoints.live
+    c.request_units-answer.new.self.usage.calls i.silences.ends l.endpoint) (sym c.get.ensures)
+    (others_watched c.times-times.result i.endpoints.live old.calls i.silences.ends
     (subst (λ t. AreWatched t i.endpoints.live old.calls i.silences.ends) (sym same)
     c.self.invariant.watched)
     i.endpoints.live c.request_units-answer.new.self.usage.calls c.in-Opening.leg.endpoint
@@ -48,7 +50,7 @@ watch-requires-clause-others g c =
     (λ x differ. ap (λ (u : Usage). legs_of u.calls x) usage
     ∙ legs_after_answer old q answer may.purpose x (λ leg opens is.
     differ (sym is ∙ ap (λ (l : Leg). l.endpoint)
-    (same_some leg c.in-Opening.leg (ap leg_of_purpose (sym opens ∙ c.in-Opening.is))))))
+    (same_some leg c.in-Opening.leg (ap leg_of_purpose (sym opens ∙ c.in-Opening.is)))))))
 
 pub invariant_of-self-in-Opening : goal.invariant_of-self-in-Opening
 invariant_of-self-in-Opening g c =
