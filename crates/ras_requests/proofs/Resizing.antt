@@ -20,7 +20,6 @@ module _ (z : Tables) (q : BandwidthRequest) (call : Call) (w r n l : ℕ) where
       → 0 < r → n ≡ min (w - call.units) r → l ≡ least_units z w - call.units
       → RequestsUnits z (resizing z q call) (record {
         seq = q.seq;
-        endpoint = q.endpoint;
         call = q.call;
         pool = call.pool;
         units = n;

@@ -1,6 +1,6 @@
 -- What the code concludes about a request: a reply with a change; a new endpoint; or a request to a
 -- pool.
-use Rattle.std.specs.Prelude.{◌≡◌, ℕ, List, Option, None, Some, IfSome}
+use Rattle.std.specs.Prelude.{◌≡◌, ℕ, List, Option, None, Some, IfSome, IsSome}
 use Rattle.std.specs.FinMap.{get}
 use Rattle.ras_module.specs.declared.reply.Reply.TheVariants.{Rcf}
 use Rattle.ras_module.specs.declared.request.Request.{Request}
@@ -45,7 +45,14 @@ registration_under n id = record {
 
 abbrev pub decision_under : Newcomer → List ℕ → Decision
 decision_under n id = record {
-  reply = Rcf n.seq n.entry.call_signal n.told n.gatekeeper id n.granted;
+  reply = Rcf (record {
+    seq = n.seq;
+    call_signal = n.entry.call_signal;
+    aliases = n.told;
+    gatekeeper = n.gatekeeper;
+    endpoint = id;
+    granted = n.granted;
+  });
   change = Endpoint (Addition (registration_under n id));
 }
 
@@ -83,8 +90,8 @@ abbrev pub IsConclusion : Tables → ℕ → Request → Conclusion → Type 0
 IsConclusion z now request c =
     (plan : Plan) → plan_of z now request ≡ Some plan → Concludes z now plan c
 
--- a question is put for this requestSeqNum and this endpoint
+-- a pool is asked for this requestSeqNum, and for an endpoint that the request names
 abbrev pub IsFor : ℕ → Option (List ℕ) → Conclusion → Type 0
 IsFor seq endpoint (conclusion.Settled d) = Unit {0}
 IsFor seq endpoint (conclusion.Naming n) = Unit {0}
-IsFor seq endpoint (conclusion.Asking q) = (seq ≡ q.seq) × (endpoint ≡ Some q.endpoint)
+IsFor seq endpoint (conclusion.Asking q) = (seq ≡ q.seq) × IsSome endpoint

@@ -18,4 +18,4 @@ abbrev pub discovery : Tables → GatekeeperRequest → Reply
 discovery z q =
     if is_foreign z q.gatekeeper
     then Grj q.seq TerminalExcluded
-    else Gcf q.seq z.config.identifier z.config.address
+    else Gcf (record { seq = q.seq; gatekeeper = z.config.identifier; ras = z.config.address })

@@ -37,7 +37,14 @@ rejection z q reason = Settled (unchanged z (Rrj q.seq reason))
 
 abbrev pub confirmation : Tables → RegistrationRequest → Address → List Alias → List ℕ → Reply
 confirmation z q call_signal aliases id =
-    Rcf q.seq call_signal aliases z.config.identifier id (granted z q.time_to_live)
+    Rcf (record {
+      seq = q.seq;
+      call_signal = call_signal;
+      aliases = aliases;
+      gatekeeper = z.config.identifier;
+      endpoint = id;
+      granted = granted z q.time_to_live;
+    })
 
 -- the endpoint that names itself so, if it is registered
 abbrev pub named : Tables → Option (List ℕ) → Option Registration

@@ -1,6 +1,6 @@
 //! Admission of calls.
 
-ghost use Rattle.std.specs.Prelude.{◌≡◌, ◌<◌, length, None, Some, IsSome};
+ghost use Rattle.std.specs.Prelude.{◌≡◌, ◌<◌, length, IfOk, None, Some, IsSome};
 ghost use Rattle.std.specs.FinMap as fin;
 ghost use Rattle.admission.specs.Legs.{leg_of};
 ghost use Rattle.ras_requests.specs.Arq.{admission, admission_of, destination};
@@ -12,8 +12,9 @@ ghost use Rattle.ras_requests.specs.Conclusions.{Concludes, Decides, IsFor};
 use crate::brq::{least_units, units_left, wanted};
 use crate::conclusion::{Conclusion, Decision};
 use admission::{Call, Leg};
-use ras_module::{Address, AdmissionRejectReason, AdmissionRequest, Reply};
+use ras_module::{Address, AdmissionRejectReason, AdmissionRequest, Boxed, Reply};
 use registrations::Registration;
+use std::alloc::{AllocError, Global};
 use zone_config::Moment;
 use zone_tables::{CallChange, Change, Purpose, UnitRequest, ZoneTables};
 
@@ -29,113 +30,121 @@ fn destination(tables: &ZoneTables, q: &AdmissionRequest, caller: &Registration)
 
 /// The second endpoint joins a call that is there.
 fn join(
+    alloc: Global,
     tables: &ZoneTables,
     now: Moment,
     q: &AdmissionRequest,
     call: &Call,
     told: Address,
-) -> Decision
+) -> Result<Decision, AllocError>
     requires endpoint { IsSome (fin.get tables.now.live q.now.endpoint) }
     requires call { fin.get tables.now.calls q.now.call ≡ Some call.now }
     requires leg { leg_of call.now.legs q.now.endpoint ≡ None }
-    ensures decides { Decides tables.now now (joining tables.now q.now call.now told) result }
+    ensures decides { IfOk result
+        (Decides tables.now now (joining tables.now q.now call.now told)) }
 {
     if call.legs.are_two() {
-        return denial(q, AdmissionRejectReason::ResourceUnavailable);
+        return Ok(denial(q, AdmissionRejectReason::ResourceUnavailable));
     }
-    Decision::calls(
+    let leg = leg_told(alloc, q, told)?;
+    Ok(Decision::calls(
         Reply::Acf {
             seq: q.seq,
             units: q.asked.min(call.units),
             dest: told,
         },
-        CallChange::Joining(q.call, leg_told(q, told)),
-    )
+        CallChange::Joining(q.call, leg),
+    ))
 }
 
 /// An endpoint makes a call.
 fn make(
+    alloc: Global,
     tables: &ZoneTables,
     now: Moment,
     q: &AdmissionRequest,
     pool: usize,
     told: Address,
-) -> Conclusion
+) -> Result<Conclusion, AllocError>
     requires endpoint { IsSome (fin.get tables.now.live q.now.endpoint) }
     requires call { fin.get tables.now.calls q.now.call ≡ None }
     requires pool { pool < length tables.now.pools }
-    ensures concludes { Concludes tables.now now
-        (making tables.now q.now pool told) result }
-    ensures about { IsFor q.now.seq (Some q.now.endpoint) result }
+    ensures concludes { IfOk result (Concludes tables.now now
+        (making tables.now q.now pool told)) }
+    ensures about { IfOk result (IsFor q.now.seq (Some q.now.endpoint)) }
 {
     if tables.calls_len() == tables.config().calls() {
-        let denial = denial(q, AdmissionRejectReason::ResourceUnavailable);
-        return Conclusion::Settled(denial);
+        return Ok(denied(q, AdmissionRejectReason::ResourceUnavailable));
     }
     let wanted = wanted(tables, q.asked);
     if wanted == 0 {
-        return Conclusion::Settled(opening_without_units(q, pool, told));
+        let opening = opening_without_units(alloc, q, pool, told)?;
+        return Ok(Conclusion::Settled(opening));
     }
     let left = units_left(tables);
     if left == 0 {
-        return Conclusion::Settled(denial(q, AdmissionRejectReason::RequestDenied));
+        return Ok(denied(q, AdmissionRejectReason::RequestDenied));
     }
-    Conclusion::Asking(UnitRequest {
+    Ok(Conclusion::Asking(UnitRequest {
         seq: q.seq,
-        endpoint: q.endpoint,
         call: q.call,
         pool,
         units: u64::from(wanted).min(left) as u32,
         least: least_units(tables, wanted),
-        purpose: Purpose::Opening(leg_told(q, told)),
-    })
+        purpose: Purpose::Opening(leg_told(alloc, q, told)?),
+    }))
 }
 
 /// An endpoint enters a call that is there.
 fn enter_call(
+    alloc: Global,
     tables: &ZoneTables,
     now: Moment,
     q: &AdmissionRequest,
     caller: &Registration,
     call: &Call,
-) -> Decision
+) -> Result<Decision, AllocError>
     requires endpoint { fin.get tables.now.live q.now.endpoint ≡ Some caller.now }
     requires call { fin.get tables.now.calls q.now.call ≡ Some call.now }
-    ensures decides { Decides tables.now now
+    ensures decides { IfOk result (Decides tables.now now
         (admission_of tables.now q.now (Some caller.now)
         (standing_in call.now (leg_of call.now.legs q.now.endpoint))
-        (destination tables.now q.now (Some caller.now))) result }
+        (destination tables.now q.now (Some caller.now)))) }
 {
     if let Some(leg) = call.legs.get(&q.endpoint) {
-        return Decision::reply(Reply::Acf {
+        return Ok(Decision::reply(Reply::Acf {
             seq: q.seq,
             units: q.asked.min(call.units),
             dest: leg.told,
-        });
+        }));
     }
     match destination(tables, q, caller) {
-        None => denial(q, AdmissionRejectReason::CalledPartyNotRegistered),
-        Some(told) => join(tables, now, q, call, told),
+        None => Ok(denial(q, AdmissionRejectReason::CalledPartyNotRegistered)),
+        Some(told) => join(alloc, tables, now, q, call, told),
     }
 }
 
 /// An endpoint makes a call that isn't there yet.
 fn make_call(
+    alloc: Global,
     tables: &ZoneTables,
     now: Moment,
     q: &AdmissionRequest,
     caller: &Registration,
-) -> Conclusion
+) -> Result<Conclusion, AllocError>
     requires endpoint { fin.get tables.now.live q.now.endpoint ≡ Some caller.now }
     requires call { fin.get tables.now.calls q.now.call ≡ None }
-    ensures concludes { Concludes tables.now now
+    ensures concludes { IfOk result (Concludes tables.now now
         (admission_of tables.now q.now (Some caller.now) NoCall
-        (destination tables.now q.now (Some caller.now))) result }
-    ensures about { IsFor q.now.seq (Some q.now.endpoint) result }
+        (destination tables.now q.now (Some caller.now)))) }
+    ensures about { IfOk result (IsFor q.now.seq (Some q.now.endpoint)) }
 {
     match destination(tables, q, caller) {
-        None => Conclusion::Settled(denial(q, AdmissionRejectReason::CalledPartyNotRegistered)),
-        Some(told) => make(tables, now, q, pool_of(tables, caller.call_signal), told),
+        None => Ok(denied(q, AdmissionRejectReason::CalledPartyNotRegistered)),
+        Some(told) => {
+            let pool = pool_of(tables, caller.call_signal);
+            make(alloc, tables, now, q, pool, told)
+        }
     }
 }
 
@@ -148,17 +157,24 @@ fn pool_of(tables: &ZoneTables, address: Address) -> usize
 }
 
 /// What is decided about an AdmissionRequest.
-pub(crate) fn admit(tables: &ZoneTables, now: Moment, q: &AdmissionRequest) -> Conclusion
-    ensures concludes { Concludes tables.now now (admission tables.now q.now) result }
-    ensures about { IsFor q.now.seq (Some q.now.endpoint) result }
+pub(crate) fn admit(
+    alloc: Global,
+    tables: &ZoneTables,
+    now: Moment,
+    q: &AdmissionRequest,
+) -> Result<Conclusion, AllocError>
+    ensures concludes { IfOk result (Concludes tables.now now (admission tables.now q.now)) }
+    ensures about { IfOk result (IsFor q.now.seq (Some q.now.endpoint)) }
 {
     let Some(caller) = tables.get(&q.endpoint) else {
-        let denial = denial(q, AdmissionRejectReason::InvalidEndpointIdentifier);
-        return Conclusion::Settled(denial);
+        return Ok(denied(q, AdmissionRejectReason::InvalidEndpointIdentifier));
     };
     match tables.call(&q.call) {
-        Some(call) => Conclusion::Settled(enter_call(tables, now, q, caller, call)),
-        None => make_call(tables, now, q, caller),
+        Some(call) => {
+            let entering = enter_call(alloc, tables, now, q, caller, call)?;
+            Ok(Conclusion::Settled(entering))
+        }
+        None => make_call(alloc, tables, now, q, caller),
     }
 }
 
@@ -172,29 +188,46 @@ fn denial(q: &AdmissionRequest, reason: AdmissionRejectReason) -> Decision
     Decision::reply(Reply::Arj { seq: q.seq, reason })
 }
 
-/// The endpoint's leg, which keeps the address that it is told.
-fn leg_told(q: &AdmissionRequest, told: Address) -> Leg
-    ensures { result ≡ leg_told q.now told }
+/// A request that is settled by an AdmissionReject.
+fn denied(q: &AdmissionRequest, reason: AdmissionRejectReason) -> Conclusion
+    ensures { result ≡ Conclusion.Settled (record {
+      reply = Reply.Arj q.now.seq reason;
+      change = Change.Nothing;
+    }) }
 {
-    Leg {
+    Conclusion::Settled(denial(q, reason))
+}
+
+/// The endpoint's leg, which keeps the address that it is told.
+fn leg_told(alloc: Global, q: &AdmissionRequest, told: Address) -> Result<Boxed<Leg>, AllocError>
+    ensures { IfOk result (λ leg. leg ≡ leg_told q.now told) }
+{
+    let leg = Leg {
         endpoint: q.endpoint,
         told,
-    }
+    };
+    Boxed::new(alloc, leg)
 }
 
 /// A call that wants no units opens without asking a pool.
-fn opening_without_units(q: &AdmissionRequest, pool: usize, told: Address) -> Decision
-    ensures { result ≡ record {
+fn opening_without_units(
+    alloc: Global,
+    q: &AdmissionRequest,
+    pool: usize,
+    told: Address,
+) -> Result<Decision, AllocError>
+    ensures { IfOk result (λ decision. decision ≡ record {
       reply = Reply.Acf q.now.seq 0 told;
       change = Change.Calls (CallChange.Opening q.now.call pool (leg_told q.now told));
-    } }
+    }) }
 {
-    Decision::calls(
+    let leg = leg_told(alloc, q, told)?;
+    Ok(Decision::calls(
         Reply::Acf {
             seq: q.seq,
             units: 0,
             dest: told,
         },
-        CallChange::Opening(q.call, pool, leg_told(q, told)),
-    )
+        CallChange::Opening(q.call, pool, leg),
+    ))
 }

@@ -52,7 +52,6 @@ fn resize(tables: &ZoneTables, now: Moment, q: &BandwidthRequest, call: &Call) -
     }
     Conclusion::Asking(UnitRequest {
         seq: q.seq,
-        endpoint: q.endpoint,
         call: q.call,
         pool: call.pool,
         units: u64::from(wanted - call.units).min(left) as u32,
@@ -67,15 +66,25 @@ pub(crate) fn change_bandwidth(tables: &ZoneTables, now: Moment, q: &BandwidthRe
     ensures about { IsFor q.now.seq (Some q.now.endpoint) result }
 {
     if tables.get(&q.endpoint).is_none() {
-        return Conclusion::Settled(rejection(q, BandRejectReason::NotBound, 0));
+        return rejected(q, BandRejectReason::NotBound);
     }
     let Some(call) = tables.call(&q.call) else {
-        return Conclusion::Settled(rejection(q, BandRejectReason::InvalidConferenceId, 0));
+        return rejected(q, BandRejectReason::InvalidConferenceId);
     };
     if call.legs.get(&q.endpoint).is_none() {
-        return Conclusion::Settled(rejection(q, BandRejectReason::InvalidConferenceId, 0));
+        return rejected(q, BandRejectReason::InvalidConferenceId);
     }
     resize(tables, now, q, call)
+}
+
+/// A request that is settled by a BandwidthReject: no bandwidth is allowed.
+fn rejected(q: &BandwidthRequest, reason: BandRejectReason) -> Conclusion
+    ensures { result ≡ Conclusion.Settled (record {
+      reply = Reply.Brj q.now.seq reason 0;
+      change = Change.Nothing;
+    }) }
+{
+    Conclusion::Settled(rejection(q, reason, 0))
 }
 
 /// A BandwidthReject, with the bandwidth that is allowed.

@@ -1,10 +1,13 @@
 //! What is concluded about a request.
 
-ghost use Rattle.std.specs.Prelude.{◌≡◌};
+ghost use Rattle.std.specs.Prelude.{◌≡◌, IfOk};
 ghost use Rattle.ras_requests.specs.Conclusions.{decision_under};
 
-use ras_module::{EndpointId, Name, Reply, ReplyAliases, RequestSeqNum, TimeToLive};
+use ras_module::{
+    Boxed, EndpointId, Name, RegistrationConfirm, Reply, ReplyAliases, RequestSeqNum, TimeToLive,
+};
 use registrations::Registration;
+use std::alloc::{AllocError, Global};
 use zone_config::Moment;
 use zone_tables::{CallChange, Change, EndpointChange, Entry, UnitRequest};
 
@@ -53,25 +56,29 @@ pub struct Newcomer {
 
 impl Newcomer {
     /// The registration under this identifier, with its RegistrationConfirm.
-    pub fn under(self, identifier: EndpointId) -> Decision
-        ensures { result ≡ decision_under self identifier }
+    pub fn under(self, alloc: Global, identifier: &EndpointId) -> Result<Decision, AllocError>
+        ensures { IfOk result (λ decision. decision ≡ decision_under self identifier.now) }
     {
         let Entry {
             call_signal,
             ras,
             aliases,
         } = self.entry;
-        Decision {
-            reply: Reply::Rcf {
+        let confirm = Boxed::new(
+            alloc,
+            RegistrationConfirm {
                 seq: self.seq,
                 call_signal,
                 aliases: self.told,
                 gatekeeper: self.gatekeeper,
-                endpoint: identifier,
+                endpoint: *identifier,
                 granted: self.granted,
             },
-            change: Change::Endpoint(EndpointChange::Addition(Registration {
-                identifier,
+        )?;
+        let registration = Boxed::new(
+            alloc,
+            Registration {
+                identifier: *identifier,
                 call_signal,
                 ras,
                 aliases,
@@ -79,8 +86,12 @@ impl Newcomer {
                 heard: self.heard.milliseconds(),
                 tries: 0,
                 asked: 0,
-            })),
-        }
+            },
+        )?;
+        Ok(Decision {
+            reply: Reply::Rcf(confirm),
+            change: Change::Endpoint(EndpointChange::Addition(registration)),
+        })
     }
 }
 
@@ -89,6 +100,6 @@ impl Newcomer {
 #[derive(Drop)]
 pub enum Conclusion {
     Settled(Decision),
-    Naming(Newcomer),
+    Naming(Boxed<Newcomer>),
     Asking(UnitRequest),
 }

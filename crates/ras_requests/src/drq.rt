@@ -1,28 +1,33 @@
 //! Disengaging from calls.
 
-ghost use Rattle.std.specs.Prelude.{◌≡◌, None};
+ghost use Rattle.std.specs.Prelude.{◌≡◌, IfOk, None};
 ghost use Rattle.ras_requests.specs.Drq.{disengagement};
 ghost use Rattle.ras_requests.specs.Conclusions.{Decides};
 
 use crate::conclusion::Decision;
-use ras_module::{DisengageRejectReason, DisengageRequest, Reply};
+use ras_module::{Boxed, DisengageRejectReason, DisengageRequest, Reply};
+use std::alloc::{AllocError, Global};
 use zone_config::Moment;
 use zone_tables::{CallChange, Change, ZoneTables};
 
 /// What is decided about a DisengageRequest.
-pub(crate) fn disengage(tables: &ZoneTables, now: Moment, q: &DisengageRequest) -> Decision
-    ensures decides { Decides tables.now now (disengagement tables.now q.now) result }
+pub(crate) fn disengage(
+    alloc: Global,
+    tables: &ZoneTables,
+    now: Moment,
+    q: &DisengageRequest,
+) -> Result<Decision, AllocError>
+    ensures decides { IfOk result (Decides tables.now now (disengagement tables.now q.now)) }
 {
     if tables.get(&q.endpoint).is_none() {
-        return rejection(q, DisengageRejectReason::NotRegistered);
+        return Ok(rejection(q, DisengageRejectReason::NotRegistered));
     }
     if tables.leg(&q.call, &q.endpoint).is_none() {
-        return rejection(q, DisengageRejectReason::RequestToDropOther);
+        return Ok(rejection(q, DisengageRejectReason::RequestToDropOther));
     }
-    Decision::calls(
-        Reply::Dcf { seq: q.seq },
-        CallChange::Leaving(q.call, q.endpoint),
-    )
+    let endpoint = Boxed::new(alloc, q.endpoint)?;
+    let leaving = CallChange::Leaving(q.call, endpoint);
+    Ok(Decision::calls(Reply::Dcf { seq: q.seq }, leaving))
 }
 
 /// A DisengageReject.

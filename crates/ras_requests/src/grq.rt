@@ -1,9 +1,12 @@
 //! Gatekeeper discovery.
 
-ghost use Rattle.std.specs.Prelude.{◌≡◌};
+ghost use Rattle.std.specs.Prelude.{◌≡◌, IfOk};
 ghost use Rattle.ras_requests.specs.Grq.{discovery, is_foreign};
 
-use ras_module::{GatekeeperRejectReason, GatekeeperRequest, Name, Reply};
+use ras_module::{
+    Boxed, GatekeeperConfirm, GatekeeperRejectReason, GatekeeperRequest, Name, Reply,
+};
+use std::alloc::{AllocError, Global};
 use zone_tables::ZoneTables;
 
 /// Whether another gatekeeper than this one is named.
@@ -17,19 +20,24 @@ pub(crate) fn is_foreign(tables: &ZoneTables, name: &Option<Name>) -> bool
 }
 
 /// The reply to a GatekeeperRequest.
-pub(crate) fn discover(tables: &ZoneTables, q: &GatekeeperRequest) -> Reply
-    ensures { result ≡ discovery tables.now q.now }
+pub(crate) fn discover(
+    alloc: Global,
+    tables: &ZoneTables,
+    q: &GatekeeperRequest,
+) -> Result<Reply, AllocError>
+    ensures { IfOk result (λ reply. reply ≡ discovery tables.now q.now) }
 {
     if is_foreign(tables, &q.gatekeeper) {
-        return Reply::Grj {
+        return Ok(Reply::Grj {
             seq: q.seq,
             reason: GatekeeperRejectReason::TerminalExcluded,
-        };
+        });
     }
     let parts = tables.config().parts();
-    Reply::Gcf {
+    let confirm = GatekeeperConfirm {
         seq: q.seq,
         gatekeeper: parts.identifier,
         ras: parts.address,
-    }
+    };
+    Ok(Reply::Gcf(Boxed::new(alloc, confirm)?))
 }

@@ -29,12 +29,15 @@ pub fn decide(
     ensures about { IfOk result (IsFor (seq_of request.now) (endpoint_of request.now)) }
 {
     match request {
-        Request::Grq(q) => Ok(Conclusion::Settled(Decision::reply(discover(tables, q)))),
-        Request::Rrq(q) => register(alloc, tables, now, q),
-        Request::Urq(q) => Ok(Conclusion::Settled(unregister(tables, now, q))),
-        Request::Arq(q) => Ok(admit(tables, now, q)),
-        Request::Brq(q) => Ok(change_bandwidth(tables, now, q)),
-        Request::Drq(q) => Ok(Conclusion::Settled(disengage(tables, now, q))),
+        Request::Grq(q) => {
+            let reply = discover(alloc, tables, q.get())?;
+            Ok(Conclusion::Settled(Decision::reply(reply)))
+        }
+        Request::Rrq(q) => register(alloc, tables, now, q.get()),
+        Request::Urq(q) => Ok(Conclusion::Settled(unregister(alloc, tables, now, q.get())?)),
+        Request::Arq(q) => admit(alloc, tables, now, q.get()),
+        Request::Brq(q) => Ok(change_bandwidth(tables, now, q.get())),
+        Request::Drq(q) => Ok(Conclusion::Settled(disengage(alloc, tables, now, q.get())?)),
         Request::Irr(_) => unreachable!(),
     }
 }

@@ -12,8 +12,8 @@ ghost use Rattle.ras_requests.specs.Conclusions.{Concludes, Decides, IsFor};
 use crate::conclusion::{Conclusion, Decision, Newcomer};
 use crate::grq::is_foreign;
 use ras_module::{
-    Address, Alias, AliasList, EndpointId, RegistrationRejectReason, RegistrationRequest, Reply,
-    ReplyAliases, TimeToLive,
+    Address, Alias, AliasList, Boxed, EndpointId, RegistrationConfirm, RegistrationRejectReason,
+    RegistrationRequest, Reply, ReplyAliases, TimeToLive,
 };
 use registrations::Registration;
 use std::alloc::{AllocError, Global};
@@ -39,27 +39,32 @@ fn deadline(tables: &ZoneTables, now: Moment, q: &RegistrationRequest) -> u64
     now.milliseconds() + 1000 * u64::from(granted.get())
 }
 
+/// The RegistrationConfirm of a registered endpoint.
 fn confirmation(
+    alloc: Global,
     tables: &ZoneTables,
     q: &RegistrationRequest,
     call_signal: Address,
     aliases: ReplyAliases,
-    endpoint: EndpointId,
-) -> Reply
-    ensures { result ≡ confirmation tables.now q.now call_signal aliases endpoint }
+    endpoint: &EndpointId,
+) -> Result<Reply, AllocError>
+    ensures { IfOk result (λ reply.
+        reply ≡ confirmation tables.now q.now call_signal aliases endpoint.now) }
 {
-    Reply::Rcf {
+    let confirm = RegistrationConfirm {
         seq: q.seq,
         call_signal,
         aliases,
         gatekeeper: tables.config().parts().identifier,
-        endpoint,
+        endpoint: *endpoint,
         granted: granted(tables, q.time_to_live),
-    }
+    };
+    Ok(Reply::Rcf(Boxed::new(alloc, confirm)?))
 }
 
 /// A registration is kept alive if it is known and the endpoint hasn't moved.
 fn keep_alive(
+    alloc: Global,
     tables: &ZoneTables,
     now: Moment,
     q: &RegistrationRequest,
@@ -67,18 +72,20 @@ fn keep_alive(
     ensures { IfOk result (Decides tables.now now
         (keep_alive tables.now now q.now (named tables.now q.now.endpoint))) }
 {
-    let Some(id) = q.endpoint else {
+    let Some(id) = &q.endpoint else {
         return Ok(rejection(q, RegistrationRejectReason::FullRegistrationRequired));
     };
-    let Some(r) = tables.get(&id) else {
+    let Some(r) = tables.get(id) else {
         return Ok(rejection(q, RegistrationRejectReason::FullRegistrationRequired));
     };
     if has_moved(r, q.ras) {
         return Ok(rejection(q, RegistrationRejectReason::FullRegistrationRequired));
     }
+    let told = r.aliases.copy()?;
+    let id = Boxed::new(alloc, r.identifier)?;
     Ok(Decision {
-        reply: confirmation(tables, q, r.call_signal, r.aliases.copy()?, r.identifier),
-        change: Change::Endpoint(EndpointChange::Renewal(r.identifier, deadline(tables, now, q))),
+        reply: confirmation(alloc, tables, q, r.call_signal, told, &r.identifier)?,
+        change: Change::Endpoint(EndpointChange::Renewal(id, deadline(tables, now, q))),
     })
 }
 
@@ -143,11 +150,12 @@ fn register_fully(
         ras,
         aliases,
     };
-    enter(tables, now, q, entry)
+    enter(alloc, tables, now, q, entry)
 }
 
 /// Registers anew the endpoint that has the address, or else registers a new endpoint.
 fn enter(
+    alloc: Global,
     tables: &ZoneTables,
     now: Moment,
     q: &RegistrationRequest,
@@ -162,15 +170,16 @@ fn enter(
     let told = entry.aliases.copy()?;
     let deadline = deadline(tables, now, q);
     if let Some(r) = tables.by_address(entry.call_signal) {
+        let id = Boxed::new(alloc, r.identifier)?;
         return Ok(Conclusion::Settled(Decision {
-            reply: confirmation(tables, q, entry.call_signal, told, r.identifier),
-            change: Change::Endpoint(EndpointChange::Rewriting(r.identifier, entry, deadline)),
+            reply: confirmation(alloc, tables, q, entry.call_signal, told, &r.identifier)?,
+            change: Change::Endpoint(EndpointChange::Rewriting(id, entry, deadline)),
         }));
     }
     if tables.len() == tables.config().endpoints() {
         return Ok(rejected(q, RegistrationRejectReason::ResourceUnavailable));
     }
-    Ok(Conclusion::Naming(Newcomer {
+    let newcomer = Newcomer {
         seq: q.seq,
         entry,
         told,
@@ -178,7 +187,8 @@ fn enter(
         granted: granted(tables, q.time_to_live),
         deadline,
         heard: now,
-    }))
+    };
+    Ok(Conclusion::Naming(Boxed::new(alloc, newcomer)?))
 }
 
 /// What is concluded about a RegistrationRequest.
@@ -196,7 +206,7 @@ pub(crate) fn register(
         return Ok(rejected(q, RegistrationRejectReason::DiscoveryRequired));
     }
     if q.keep_alive {
-        Ok(Conclusion::Settled(keep_alive(tables, now, q)?))
+        Ok(Conclusion::Settled(keep_alive(alloc, tables, now, q)?))
     } else {
         register_fully(alloc, tables, now, q)
     }
