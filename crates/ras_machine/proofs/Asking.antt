@@ -1,7 +1,7 @@
 -- What follows from a pool's answer about a request is what the request comes to.
 use Rattle.std.proofs.Common.{◌≡◌, ◌≤◌, ◌+◌, ℕ, length, Bool, true, false, List, refl, sym, ◌∙◌, ap}
 use Rattle.std.proofs.Common.{subst, Some, None}
-use Rattle.std.specs.Prelude.{Option, All, if◌then◌else◌}
+use Rattle.std.specs.Prelude.{Option, All, IsSome, if◌then◌else◌}
 use Rattle.ras_module.specs.declared.reply.Reply.{Reply}
 use Rattle.ras_module.specs.declared.request.Request.{Request}
 use Rattle.ras_module.specs.declared.reply.Reply.TheVariants.{Rip}
@@ -188,7 +188,8 @@ module _ (s : State) (now : ℕ) (key : KeptKey) (request : Request)
   ask_is (Again born left) = refl
 
   pools_are : (occasion : Occasion) (answer : Lend)
-      → (asked_tables occasion answer).pools ≡ pools_after_answer s.tables.pools (units_requested q) answer
+      → (asked_tables occasion answer).pools ≡ pools_after_answer s.tables.pools (units_requested
+      q) answer
   pools_are (First dropped) answer = refl
   pools_are (Again born left) answer = refl
 
@@ -290,3 +291,33 @@ does_answered s now job id request q answer w reply tables kept w_is seq fits ti
       tables = asked_tables s now job.key request id q job.occasion answer;
       kept = k;
     })) (sym kept_so) does))
+
+-- the same, of a request that names an endpoint
+pub does_answered_for : (old : State) (now : ℕ) (job : Job) (endpoint : Option (List ℕ))
+    → IsSome endpoint
+    → (request : Request) (q : UnitRequest) (answer : Lend) (w : Bool) (reply : Reply)
+    (tables : Tables) (kept : KeptReplies)
+    → w ≡ waits job.occasion answer → seq_of request ≡ q.seq
+    → IsAnswer (figures_at old.tables.pools q.pool) q.units answer
+    → IsTimely old now job.occasion → AreBornBefore old.steps old.kept
+    → reply ≡ reply_of q answer w old.tables.config.delay → length (encoding_of reply) ≤ 20000
+    → tables ≡ heard_at (record old.tables {
+      calls = calls_after_answer q answer old.tables.calls;
+      pools = pools_after_answer old.tables.pools (units_requested q) answer;
+    }) job.occasion now endpoint
+    → kept ≡ kept_with old.kept job.key job.occasion old.steps
+    (state_after request reply w (term_of old.tables.config now))
+    → (plan : Plan) → RequestsUnits old.tables plan q
+    → Does old now (Serving (record {
+      job = job;
+      request = request;
+      plan = plan_at job.occasion now endpoint plan;
+    })) (record {
+      answer = Some answer;
+      output = Some (record { to = job.key.source; bytes = encoding_of reply });
+      note = note_at job.occasion;
+      dropped = dropped_for job.occasion;
+      given = None;
+    }) (record old { tables = tables; kept = kept })
+does_answered_for s now job (Some id) there = does_answered s now job id
+does_answered_for s now job None there = absurd (cc there)

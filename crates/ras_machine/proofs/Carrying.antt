@@ -1,7 +1,7 @@
 -- What is decided about a request, once it is carried out and its reply is kept, is
 -- what it comes to.
 use Rattle.std.proofs.Common.{◌≡◌, ◌≤◌, ◌+◌, ℕ, length, List, refl, sym, ap, subst, Some, None}
-use Rattle.std.specs.Prelude.{Option, IfSome}
+use Rattle.std.specs.Prelude.{Err, IfSome, Ok, OnOk, Option, Result}
 use Rattle.keyed.proofs.Decide.{same_some}
 use Rattle.ras_module.specs.declared.reply.Reply.{Reply}
 use Rattle.ras_module.specs.declared.request.Request.{Request}
@@ -214,3 +214,8 @@ pub asked_nothing : {L : Type 0} (lends : L → List Figures → RequestedUnits 
     → ask ≡ None → IsAskedOnce lends old pools ask answer old
 asked_nothing lends old pools ask answer none =
     subst (λ (a : Option RequestedUnits). IsAskedOnce lends old pools a answer old) (sym none) refl
+
+-- what holds if there is a result, in other words
+pub on_ok_with : {A B P Q : Type 0} (r : Result A B) → OnOk r P → (P → Q) → OnOk r Q
+on_ok_with (Ok x) holds so = so holds
+on_ok_with (Err e) holds so = tt

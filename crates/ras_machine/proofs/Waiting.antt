@@ -16,7 +16,6 @@ use Rattle.kept_replies.specs.declared.entry.KeptState.TheVariants.{Done, Pendin
 use Rattle.kept_replies.specs.Kept.{KeptReplies, postponed_in}
 use Rattle.kept_replies.proofs.KeyOrder.{key_cmp_total, key_cmp-IsAntisymmetric}
 use Rattle.pools.specs.declared.interface.Lend.{Lend}
-use Rattle.pools.specs.declared.interface.Lend.TheVariants.{Lent, Refused, Wait}
 use Rattle.zone_config.specs.declared.config.ConfigParts.{ConfigParts}
 use Rattle.zone_config.specs.Terms.{term_of}
 use Rattle.zone_events.specs.declared.due_item.DueItem.{DueItem}

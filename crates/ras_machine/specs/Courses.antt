@@ -78,7 +78,7 @@ task_course now task (Some plan) = serving task.job now task.request plan
 
 abbrev pub course_of : State → ℕ → code.Course → Course
 course_of s now (course.Ignoring cause) = Ignoring cause
-course_of s now (course.Hearing endpoint) = Hearing endpoint
+course_of s now (course.Hearing response) = Hearing response.endpoint
 course_of s now (course.Repeating datagram) = Repeating datagram
 course_of s now (course.Serving task) = task_course now task (plan_of s.tables now task.request)
 course_of s now (course.Doing item) = Doing item

@@ -1,7 +1,7 @@
 //! What an event calls for.
 
 use crate::job::Job;
-use ras_module::{EndpointId, Request};
+use ras_module::{Boxed, InfoRequestResponse, Request};
 use ras_requests::Conclusion;
 use zone_events::{Datagram, DueItem, IgnoredCause};
 
@@ -10,8 +10,8 @@ use zone_events::{Datagram, DueItem, IgnoredCause};
 pub enum Course {
     /// Nothing is done for a datagram.
     Ignoring(IgnoredCause),
-    /// This endpoint gave a sign of life.
-    Hearing(EndpointId),
+    /// The endpoint of this response gave a sign of life.
+    Hearing(Boxed<InfoRequestResponse>),
     /// A kept reply is sent again.
     Repeating(Datagram),
     /// A request is served.

@@ -17,7 +17,7 @@ use crate::machine::Machine;
 use crate::prepared::Message;
 use kept_replies::{KeptEntry, KeptKey, KeptState};
 use ras_codec::write_reserved;
-use ras_module::{EndpointId, Octets, Reply, Request, Source};
+use ras_module::{Boxed, InfoRequestResponse, Octets, Reply, Request, Source};
 use ras_requests::decide;
 use std::alloc::AllocError;
 use zone_config::Moment;
@@ -56,9 +56,10 @@ impl Machine {
         ensures { IfOk result (CallsFor self.now now
             (request_course self.now now key dropped request)) }
     {
-        if let Request::Irr(response) = request {
-            return Ok(self.response_course(&response.endpoint));
-        }
+        let request = match request {
+            Request::Irr(response) => return Ok(self.response_course(response)),
+            request => request,
+        };
         if let Some(entry) = self.kept.find(&key) {
             if self.is_repeat(now, entry) {
                 return self.repeating(key.source, &entry.state);
@@ -75,14 +76,14 @@ impl Machine {
     }
 
     /// An InfoRequestResponse is a sign of life, if its endpoint is registered.
-    fn response_course(&self, endpoint: &EndpointId) -> Course
+    fn response_course(&self, response: Boxed<InfoRequestResponse>) -> Course
         ensures { (now : ℕ) → CallsFor self.now now
-            (response_course self.now (Some endpoint.now)) result }
+            (response_course self.now (Some response.endpoint)) result }
     {
-        if self.tables.get(endpoint).is_none() {
+        if self.tables.get(&response.get().endpoint).is_none() {
             return Course::Ignoring(IgnoredCause::UnknownEndpoint);
         }
-        Course::Hearing(*endpoint)
+        Course::Hearing(response)
     }
 
     /// Whether an entry answers its datagram as it comes again.

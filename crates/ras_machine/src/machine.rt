@@ -1,7 +1,7 @@
 //! The machine's state and its deed.
 
 ghost use Rattle.std.specs.Prelude.{◌≡◌, ◌<◌, ◌≤◌, ◌^◌, ◌+◌, ◌↔◌, All, IfOk};
-ghost use Rattle.std.specs.Prelude.{IfSome, IsTrue, OnErr, Some, length};
+ghost use Rattle.std.specs.Prelude.{IfSome, IsTrue, OnErr, OnOk, Some, length};
 ghost use Rattle.zone_tables.specs.Pools.{IsIdle};
 ghost use Rattle.ras_machine.specs.State.{opening};
 ghost use Rattle.ras_machine.specs.Machine.{Hearing, most_steps};
@@ -166,15 +166,19 @@ impl Machine {
 
     /// The identifier that is handed out, if the course calls for one: one that no endpoint has,
     /// and that no kept reply tells.
-    pub fn identifier_for(&self, course: &Course) -> Result<Option<EndpointId>, AllocError>
-        ensures { IfOk result (MayBeNamed self.now course.now) }
+    pub fn identify(
+        &self,
+        course: &Course,
+        given: &mut Option<EndpointId>,
+    ) -> Result<(), AllocError>
+        ensures { OnOk result (MayBeNamed self.now course.now given.new) }
     {
         if let Course::Serving(task) = course {
             if let Conclusion::Naming(_) = task.conclusion {
-                return Ok(Some(self.unused()?));
+                *given = Some(self.unused()?);
             }
         }
-        Ok(None)
+        Ok(())
     }
 
     /// An identifier that no endpoint has, and that no kept reply tells.
@@ -190,37 +194,39 @@ impl Machine {
         Ok(self.tables.unused(&told))
     }
 
-    /// One step by a course that was chosen, with the identifier that is handed out: what the
-    /// course calls for is done, and the clock stands at `now`. All that may want memory comes
-    /// before the first change, and before a pool is asked. Of the pools the machine keeps the
-    /// figures: whoever has the pools gives back to them what came back.
+    /// One step by a course that was chosen: what it calls for is done, and the clock stands at
+    /// `now`. The outcome is made in its place, where the identifier stands already that is handed
+    /// out if the course calls for one. All that may want memory comes before the first change, and
+    /// before a pool is asked. Of the pools the machine keeps the figures: whoever has the pools
+    /// gives back to them what came back.
     pub fn perform<L: Lender>(
         &mut self,
         now: Moment,
         course: Course,
-        given: Option<EndpointId>,
         lender: &mut L,
-    ) -> Result<Outcome, AllocError>
+        outcome: &mut Outcome,
+    ) -> Result<(), AllocError>
         requires lends_for { L.lends_for lender.old self.old.tables.pools }
         requires few { self.old.steps < most_steps }
         requires moment { now < 2 ^ 53 }
         requires sound { Sound self.old }
         requires stands { Stands self.old now course }
         requires ready { IsReady self.old now (course_of self.old now course) }
-        requires named { MayBeNamed self.old course given }
-        ensures performs { IfOk result (λ outcome.
-            Performs self.old now (course_of self.old now course) outcome self.new) }
-        ensures asks { IfOk result (λ outcome. IsAskedOnce L.lends lender.old self.old.tables.pools
-            (ask_in (course_of self.old now course)) outcome.answer lender.new) }
-        ensures named { IfOk result (λ outcome. IfSome outcome.given (λ id. given ≡ Some id)) }
+        requires named { MayBeNamed self.old course outcome.old.given }
+        ensures performs { OnOk result (Performs self.old now
+            (course_of self.old now course) outcome.new self.new) }
+        ensures asks { OnOk result (IsAskedOnce L.lends lender.old self.old.tables.pools
+            (ask_in (course_of self.old now course)) outcome.new.answer lender.new) }
+        ensures named { OnOk result
+            (IfSome outcome.new.given (λ id. outcome.old.given ≡ Some id)) }
         ensures err { OnErr result (self.new ≡ self.old) }
         ensures not_asked { OnErr result (lender.new ≡ lender.old) }
     {
         let steps = self.steps + 1;
-        let outcome = self.do_course(now, course, given, lender)?;
+        self.do_course(now, course, lender, outcome)?;
         self.clock = now;
         self.steps = steps;
-        Ok(outcome)
+        Ok(())
     }
 
     /// The deed: what a course calls for is done.
@@ -228,37 +234,39 @@ impl Machine {
         &mut self,
         now: Moment,
         course: Course,
-        given: Option<EndpointId>,
         lender: &mut L,
-    ) -> Result<Outcome, AllocError>
+        outcome: &mut Outcome,
+    ) -> Result<(), AllocError>
         requires lends_for { L.lends_for lender.old self.old.tables.pools }
         requires sound { Sound self.old }
         requires stands { Stands self.old now course }
         requires ready { IsReady self.old now (course_of self.old now course) }
-        requires named { MayBeNamed self.old course given }
-        ensures does { IfOk result (λ outcome.
-            Does self.old now (course_of self.old now course) outcome self.new) }
-        ensures asks { IfOk result (λ outcome. IsAskedOnce L.lends lender.old self.old.tables.pools
-            (ask_in (course_of self.old now course)) outcome.answer lender.new) }
-        ensures named { IfOk result (λ outcome. IfSome outcome.given (λ id. given ≡ Some id)) }
+        requires named { MayBeNamed self.old course outcome.old.given }
+        ensures does { OnOk result (Does self.old now
+            (course_of self.old now course) outcome.new self.new) }
+        ensures asks { OnOk result (IsAskedOnce L.lends lender.old self.old.tables.pools
+            (ask_in (course_of self.old now course)) outcome.new.answer lender.new) }
+        ensures named { OnOk result
+            (IfSome outcome.new.given (λ id. outcome.old.given ≡ Some id)) }
         ensures err { OnErr result (self.new ≡ self.old) }
         ensures not_asked { OnErr result (lender.new ≡ lender.old) }
     {
         match course {
-            Course::Ignoring(cause) => Ok(Outcome::ignored(cause)),
-            Course::Hearing(endpoint) => Ok(self.hear_response(now, endpoint)),
-            Course::Repeating(output) => Ok(Outcome::noted(Note::Kept, Some(output))),
-            Course::Serving(task) => self.serve(now, task, given, lender),
-            Course::Doing(item) => self.do_item(now, item),
-            Course::Idle => Ok(Outcome::noted(Note::Idle, None)),
+            Course::Ignoring(cause) => outcome.be_noted(Note::Ignored(cause), None),
+            Course::Hearing(response) => self.hear_response(now, &response.get().endpoint, outcome),
+            Course::Repeating(output) => outcome.be_noted(Note::Kept, Some(output)),
+            Course::Serving(task) => return self.serve(now, task, lender, outcome),
+            Course::Doing(item) => return self.do_item(now, &item, outcome),
+            Course::Idle => outcome.be_noted(Note::Idle, None),
         }
+        Ok(())
     }
 
     /// An endpoint gave a sign of life.
-    fn hear_response(&mut self, now: Moment, endpoint: EndpointId) -> Outcome
-        ensures { Does self.old now (Hearing endpoint) result self.new }
+    fn hear_response(&mut self, now: Moment, endpoint: &EndpointId, outcome: &mut Outcome)
+        ensures { Does self.old now (Hearing endpoint.now) outcome.new self.new }
     {
-        self.tables.hear(now, Some(endpoint));
-        Outcome::noted(Note::Served, None)
+        self.tables.hear(now, endpoint);
+        outcome.be_noted(Note::Served, None);
     }
 }

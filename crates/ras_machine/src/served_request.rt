@@ -1,7 +1,7 @@
 //! Serving requests: what was concluded is carried out, and its reply is kept.
 
-ghost use Rattle.std.specs.Prelude.{◌≡◌, ◌^◌, All, IfOk, IfSome, None, OnErr, Some};
-ghost use Rattle.ras_module.specs.declared.request.Request.{Request};
+ghost use Rattle.std.specs.Prelude.{◌≡◌, ◌^◌, All, IfSome, IsSome, None, OnErr, OnOk, Some};
+ghost use Rattle.std.specs.Option.{option_copied};
 ghost use Rattle.ras_requests.specs.Plans.{Plan};
 ghost use Rattle.ras_requests.specs.Requests.{endpoint_of, seq_of};
 ghost use Rattle.zone_tables.specs.Changes.{IsPossible, IsRegistered};
@@ -10,8 +10,7 @@ ghost use Rattle.zone_tables.specs.UnitRequests.{IsUnitRequest, leg_of_purpose, 
 ghost use Rattle.ras_requests.specs.Conclusions.{served};
 ghost use Rattle.zone_tables.specs.Parts.{usage_of};
 ghost use Rattle.zone_tables.specs.Soundness.{SoundTables};
-ghost use Rattle.ras_machine.specs.Keeping.{plan_at};
-ghost use Rattle.ras_machine.specs.Machine.{Serving};
+ghost use Rattle.ras_machine.specs.Machine.{serving};
 ghost use Rattle.ras_machine.specs.Soundness.{Sound};
 ghost use Rattle.ras_machine.specs.Steps.{IsAskedOnce, IsTimely, IsUnusedIn};
 ghost use Rattle.ras_machine.specs.Courses.{Does, IsAskedFor, IsPlacedIn};
@@ -36,24 +35,25 @@ const SHORT_REPLY: usize = 64;
 
 impl Machine {
     /// Serves a request: what was concluded about it is carried out, and its reply is kept. A new
-    /// endpoint gets the identifier that is given.
+    /// endpoint gets the identifier that stands in the outcome.
     pub(crate) fn serve<L: Lender>(
         &mut self,
         now: Moment,
         task: Task,
-        given: Option<EndpointId>,
         lender: &mut L,
-    ) -> Result<Outcome, AllocError>
+        outcome: &mut Outcome,
+    ) -> Result<(), AllocError>
         requires lends_for { L.lends_for lender.old self.old.tables.pools }
         requires sound { Sound self.old }
         requires task { IsTask self.old now task }
         requires timely { IsTimely self.old now task.job.occasion }
-        requires given { MayBeGiven self.old task.conclusion given }
-        ensures does { IfOk result (λ outcome. Serves self.old now task.job task.request
-            outcome self.new) }
-        ensures asks { IfOk result (λ outcome. IsAskedFor L.lends self.old now task.job task.request
-            outcome lender.old lender.new) }
-        ensures named { IfOk result (λ outcome. IfSome outcome.given (λ id. given ≡ Some id)) }
+        requires given { MayBeGiven self.old task.conclusion outcome.old.given }
+        ensures does { OnOk result (Serves self.old now task.job task.request
+            outcome.new self.new) }
+        ensures asks { OnOk result (IsAskedFor L.lends self.old now task.job task.request
+            outcome.new lender.old lender.new) }
+        ensures named { OnOk result
+            (IfSome outcome.new.given (λ id. outcome.old.given ≡ Some id)) }
         ensures err { OnErr result (self.new ≡ self.old) }
         ensures not_asked { OnErr result (lender.new ≡ lender.old) }
     {
@@ -62,42 +62,42 @@ impl Machine {
             request,
             conclusion,
         } = task;
-        let endpoint = endpoint_of(&request);
         match conclusion {
-            Conclusion::Settled(decision) => self.carry_out(now, job, endpoint, decision, None),
+            Conclusion::Settled(decision) => {
+                outcome.given = None;
+                self.carry_out(now, job, &request, decision, outcome)
+            }
             Conclusion::Naming(newcomer) => {
-                let id = given.unwrap();
-                self.carry_out(now, job, endpoint, newcomer.under(id), Some(id))
+                let id = outcome.given.as_ref().unwrap();
+                let decision = newcomer.into_inner().under(self.alloc, id)?;
+                self.carry_out(now, job, &request, decision, outcome)
             }
             Conclusion::Asking(unit_request) => {
-                self.request_units(now, job, request, unit_request, lender)
+                self.request_units(now, job, request, unit_request, lender, outcome)
             }
         }
     }
 
-    /// Does what was decided about a request that names this endpoint, and keeps the reply. All
-    /// that may want memory comes before the first change.
+    /// Does what was decided about a request, and keeps the reply. All that may want memory comes
+    /// before the first change.
     fn carry_out(
         &mut self,
         now: Moment,
         job: Job,
-        endpoint: Option<EndpointId>,
+        request: &Request,
         decision: Decision,
-        given: Option<EndpointId>,
-    ) -> Result<Outcome, AllocError>
+        outcome: &mut Outcome,
+    ) -> Result<(), AllocError>
         requires possible { IsPossible self.old.tables decision.change }
-        requires unused { IfSome given (IsUnusedIn self.old) }
+        requires unused { IfSome outcome.old.given (IsUnusedIn self.old) }
         requires placed { IsPlacedIn self.old job }
         requires timely { IsTimely self.old now job.occasion }
         requires sound { Sound self.old }
-        ensures does { IfOk result (λ outcome. (plan : Plan) (request : Request)
-            → resolved plan given ≡ Some (served self.old.tables now decision)
-            → Does self.old now (Serving (record {
-              job = job;
-              request = request;
-              plan = plan_at job.occasion now endpoint plan;
-            })) outcome self.new) }
-        ensures given { IfOk result (λ outcome. outcome.given ≡ given) }
+        ensures does { OnOk result ((plan : Plan)
+            → resolved plan outcome.old.given ≡ Some (served self.old.tables now decision)
+            → Does self.old now (serving job now request.now plan) outcome.new self.new) }
+        ensures given { OnOk result (outcome.new.given ≡ outcome.old.given) }
+        ensures answer { OnOk result (outcome.new.answer ≡ None) }
         ensures err { OnErr result (self.new ≡ self.old) }
     {
         let Decision { reply, change } = decision;
@@ -106,7 +106,7 @@ impl Machine {
         let occasion = job.occasion;
         reserve(&mut self.kept, now.milliseconds(), &job)?;
         self.tables.apply(now, change)?;
-        hear(&mut self.tables, occasion, now, endpoint);
+        hear(&mut self.tables, occasion, now, request);
         let until = term.until;
         keep(
             &mut self.kept,
@@ -114,13 +114,11 @@ impl Machine {
             self.steps,
             KeptState::Done { reply, until },
         );
-        Ok(Outcome {
-            answer: None,
-            output: Some(output),
-            note: occasion.note(),
-            dropped: occasion.dropped(),
-            given,
-        })
+        outcome.answer = None;
+        outcome.output = Some(output);
+        outcome.note = occasion.note();
+        outcome.dropped = occasion.dropped();
+        Ok(())
     }
 
     /// Requests units of a pool, and does what follows from its answer about a request. The memory
@@ -132,25 +130,23 @@ impl Machine {
         request: Request,
         unit_request: UnitRequest,
         lender: &mut L,
-    ) -> Result<Outcome, AllocError>
+        outcome: &mut Outcome,
+    ) -> Result<(), AllocError>
         requires lends_for { L.lends_for lender.old self.old.tables.pools }
         requires may { IsUnitRequest (usage_of self.old.tables) unit_request }
         requires leg { IfSome (leg_of_purpose unit_request.purpose)
             (IsRegistered self.old.tables.live) }
         requires seq { seq_of request ≡ unit_request.seq }
+        requires endpoint { IsSome (endpoint_of request) }
         requires placed { IsPlacedIn self.old job }
         requires timely { IsTimely self.old now job.occasion }
         requires sound { Sound self.old }
-        ensures does { IfOk result (λ outcome. (plan : Plan)
+        ensures does { OnOk result ((plan : Plan)
             → RequestsUnits self.old.tables plan unit_request
-            → Does self.old now (Serving (record {
-              job = job;
-              request = request;
-              plan = plan_at job.occasion now (Some unit_request.endpoint) plan;
-            })) outcome self.new) }
-        ensures asks { IfOk result (λ outcome. IsAskedOnce L.lends lender.old self.old.tables.pools
-            (Some (units_requested unit_request)) outcome.answer lender.new) }
-        ensures none_given { IfOk result (λ outcome. outcome.given ≡ None) }
+            → Does self.old now (serving job now request plan) outcome.new self.new) }
+        ensures asks { OnOk result (IsAskedOnce L.lends lender.old self.old.tables.pools
+            (Some (units_requested unit_request)) outcome.new.answer lender.new) }
+        ensures none_given { OnOk result (outcome.new.given ≡ None) }
         ensures err { OnErr result (self.new ≡ self.old) }
         ensures not_asked { OnErr result (lender.new ≡ lender.old) }
     {
@@ -162,46 +158,47 @@ impl Machine {
         let mut bytes = Vec::with_capacity(self.alloc, SHORT_REPLY)?;
         reserve(&mut self.kept, now.milliseconds(), &job)?;
         let answer = self.tables.request_units(&unit_request, lender)?;
-        let heard = Some(unit_request.endpoint);
-        hear(&mut self.tables, occasion, now, heard);
+        hear(&mut self.tables, occasion, now, &request);
         let waits = occasion.waits(answer);
         let reply = unit_request.reply(answer, waits, delay);
         write_reserved(&reply, &mut bytes);
         let state = state_after(request, reply, waits, term);
         keep(&mut self.kept, job, self.steps, state);
         let bytes = Octets::from_vec(bytes);
-        Ok(Outcome {
-            answer: Some(answer),
-            output: Some(Datagram { to, bytes }),
-            note: occasion.note(),
-            dropped: occasion.dropped(),
-            given: None,
-        })
+        outcome.answer = Some(answer);
+        outcome.output = Some(Datagram { to, bytes });
+        outcome.note = occasion.note();
+        outcome.dropped = occasion.dropped();
+        outcome.given = None;
+        Ok(())
     }
 }
 
 /// The endpointIdentifier of a request, if it has one.
-fn endpoint_of(request: &Request) -> Option<EndpointId>
-    ensures { result ≡ endpoint_of request.now }
+fn endpoint_of(request: &Request) -> Option<&EndpointId>
+    ensures { option_copied result ≡ endpoint_of request.now }
 {
     match request {
         Request::Grq(_) => None,
-        Request::Rrq(q) => q.endpoint,
-        Request::Urq(q) => q.endpoint,
-        Request::Arq(q) => Some(q.endpoint),
-        Request::Brq(q) => Some(q.endpoint),
-        Request::Drq(q) => Some(q.endpoint),
-        Request::Irr(q) => Some(q.endpoint),
+        Request::Rrq(q) => q.get().endpoint.as_ref(),
+        Request::Urq(q) => q.get().endpoint.as_ref(),
+        Request::Arq(q) => Some(&q.get().endpoint),
+        Request::Brq(q) => Some(&q.get().endpoint),
+        Request::Drq(q) => Some(&q.get().endpoint),
+        Request::Irr(q) => Some(&q.get().endpoint),
     }
 }
 
-/// Notes that the endpoint was heard, if it is registered and its request is served as it comes.
-fn hear(tables: &mut ZoneTables, occasion: Occasion, now: Moment, endpoint: Option<EndpointId>)
+/// Notes that the endpoint that a request names was heard, if it is registered and the request is
+/// served as it comes.
+fn hear(tables: &mut ZoneTables, occasion: Occasion, now: Moment, request: &Request)
     requires { SoundTables tables.old }
-    ensures heard { tables.new ≡ heard_at tables.old occasion now endpoint }
+    ensures heard { tables.new ≡ heard_at tables.old occasion now (endpoint_of request.now) }
     ensures sound { SoundTables tables.new }
 {
     if let Occasion::First { .. } = occasion {
-        tables.hear(now, endpoint);
+        if let Some(id) = endpoint_of(request) {
+            tables.hear(now, id);
+        }
     }
 }

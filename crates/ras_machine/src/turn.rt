@@ -1,6 +1,6 @@
 //! What a turn calls for, and what is done in it.
 
-ghost use Rattle.std.specs.Prelude.{◌≡◌, ◌≤◌, ℕ, IfOk, MatchOption, OnErr};
+ghost use Rattle.std.specs.Prelude.{◌≡◌, ◌≤◌, ℕ, IfOk, MatchOption, None, OnErr, OnOk};
 ghost use Rattle.std.specs.FinMap as fin;
 ghost use Rattle.kept_replies.specs.Kept.{births};
 ghost use Rattle.ras_machine.specs.Machine.{Doing, retry_course, turn_course};
@@ -82,73 +82,91 @@ impl Machine {
     }
 
     /// Does an item that is due, and is no request that waits.
-    pub(crate) fn do_item(&mut self, now: Moment, item: DueItem) -> Result<Outcome, AllocError>
+    pub(crate) fn do_item(
+        &mut self,
+        now: Moment,
+        item: &DueItem,
+        outcome: &mut Outcome,
+    ) -> Result<(), AllocError>
         requires sound { Sound self.old }
-        requires due { IsDueIn self.old now item }
-        ensures does { IfOk result (λ outcome. Does self.old now (Doing item) outcome self.new) }
+        requires due { IsDueIn self.old now item.now }
+        ensures does { OnOk result (Does self.old now (Doing item.now) outcome.new self.new) }
+        ensures given { OnOk result (outcome.new.given ≡ None) }
         ensures err { OnErr result (self.new ≡ self.old) }
     {
         match item {
-            DueItem::RegistrationOver(id) => Ok(self.lapse(now, id)),
-            DueItem::Interrogate(id) => self.interrogate(now, id),
-            DueItem::Silent(id) => Ok(self.silence(now, id)),
-            DueItem::Retry(_) => Ok(Outcome::noted(Note::Done(item), None)),
-            DueItem::KeptOver(born) => Ok(self.expire(now, born)),
-            DueItem::PoolTurn => Ok(self.turn_pools(now)),
+            DueItem::RegistrationOver(id) => self.lapse(now, id, outcome),
+            DueItem::Interrogate(id) => return self.interrogate(now, id, outcome),
+            DueItem::Silent(id) => self.silence(now, id, outcome),
+            DueItem::Retry(_) => outcome.be_noted(Note::Done(*item), None),
+            DueItem::KeptOver(born) => self.expire(now, *born, outcome),
+            DueItem::PoolTurn => self.turn_pools(now, outcome),
         }
+        Ok(())
     }
 
     /// A registration is over.
-    fn lapse(&mut self, now: Moment, id: EndpointId) -> Outcome
-        requires { IsDueIn self.old now (DueItem.RegistrationOver id) }
-        ensures { Does self.old now (Doing (DueItem.RegistrationOver id)) result self.new }
+    fn lapse(&mut self, now: Moment, id: &EndpointId, outcome: &mut Outcome)
+        requires { IsDueIn self.old now (DueItem.RegistrationOver id.now) }
+        ensures does { Does self.old now (Doing (DueItem.RegistrationOver id.now))
+            outcome.new self.new }
+        ensures given { outcome.new.given ≡ None }
     {
-        self.tables.lapse(&id);
-        Outcome::noted(Note::Done(DueItem::RegistrationOver(id)), None)
+        self.tables.lapse(id);
+        outcome.be_noted(Note::Done(DueItem::RegistrationOver(*id)), None);
     }
 
     /// The endpoint was interrogated `asks` times and never answered.
-    fn silence(&mut self, now: Moment, id: EndpointId) -> Outcome
-        requires { IsDueIn self.old now (DueItem.Silent id) }
-        ensures { Does self.old now (Doing (DueItem.Silent id)) result self.new }
+    fn silence(&mut self, now: Moment, id: &EndpointId, outcome: &mut Outcome)
+        requires { IsDueIn self.old now (DueItem.Silent id.now) }
+        ensures does { Does self.old now (Doing (DueItem.Silent id.now)) outcome.new self.new }
+        ensures given { outcome.new.given ≡ None }
     {
-        self.tables.silence(&id);
-        Outcome::noted(Note::Done(DueItem::Silent(id)), None)
+        self.tables.silence(id);
+        outcome.be_noted(Note::Done(DueItem::Silent(*id)), None);
     }
 
     /// A kept reply is over.
-    fn expire(&mut self, now: Moment, born: u64) -> Outcome
+    fn expire(&mut self, now: Moment, born: u64, outcome: &mut Outcome)
         requires { IsDueIn self.old now (DueItem.KeptOver born) }
-        ensures { Does self.old now (Doing (DueItem.KeptOver born)) result self.new }
+        ensures does { Does self.old now (Doing (DueItem.KeptOver born)) outcome.new self.new }
+        ensures given { outcome.new.given ≡ None }
     {
         self.kept.drop_born(born);
-        Outcome::noted(Note::Done(DueItem::KeptOver(born)), None)
+        outcome.be_noted(Note::Done(DueItem::KeptOver(born)), None);
     }
 
     /// The pools make their turn, and the next one is later.
-    fn turn_pools(&mut self, now: Moment) -> Outcome
+    fn turn_pools(&mut self, now: Moment, outcome: &mut Outcome)
         requires { IsDueIn self.old now DueItem.PoolTurn }
-        ensures { Does self.old now (Doing DueItem.PoolTurn) result self.new }
+        ensures does { Does self.old now (Doing DueItem.PoolTurn) outcome.new self.new }
+        ensures given { outcome.new.given ≡ None }
     {
         self.next_pool_turn = now.milliseconds() + self.tables.config().pool_turn();
-        Outcome::noted(Note::Done(DueItem::PoolTurn), None)
+        outcome.be_noted(Note::Done(DueItem::PoolTurn), None);
     }
 
     /// Asks an endpoint for a sign of life (H.225.0, InfoRequest).
-    fn interrogate(&mut self, now: Moment, id: EndpointId) -> Result<Outcome, AllocError>
+    fn interrogate(
+        &mut self,
+        now: Moment,
+        id: &EndpointId,
+        outcome: &mut Outcome,
+    ) -> Result<(), AllocError>
         requires sound { Sound self.old }
-        requires due { IsDueIn self.old now (DueItem.Interrogate id) }
-        ensures does { IfOk result (λ outcome.
-            Does self.old now (Doing (DueItem.Interrogate id)) outcome self.new) }
+        requires due { IsDueIn self.old now (DueItem.Interrogate id.now) }
+        ensures does { OnOk result (Does self.old now (Doing (DueItem.Interrogate id.now))
+            outcome.new self.new) }
+        ensures given { OnOk result (outcome.new.given ≡ None) }
         ensures err { OnErr result (self.new ≡ self.old) }
     {
         let seq = self.interrogation_number;
-        let to = self.tables.get(&id).unwrap().ras;
+        let to = self.tables.get(id).unwrap().ras;
         let output = self.datagram(to, &Reply::Irq { seq })?;
-        self.tables.interrogated(now, &id);
+        self.tables.interrogated(now, id);
         self.interrogation_number = following(seq);
-        let note = Note::Done(DueItem::Interrogate(id));
-        Ok(Outcome::noted(note, Some(output)))
+        outcome.be_noted(Note::Done(DueItem::Interrogate(*id)), Some(output));
+        Ok(())
     }
 }
 

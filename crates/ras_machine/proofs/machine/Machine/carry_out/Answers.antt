@@ -13,6 +13,7 @@ use Rattle.zone_config.specs.Terms.{term_of}
 use Rattle.ras_machine.specs.Keeping.{dropped_for, kept_with, plan_at}
 use Rattle.ras_machine.specs.Machine.{Serving, note_at}
 use Rattle.ras_requests.specs.Conclusions.{served}
+use Rattle.ras_requests.specs.Requests.{endpoint_of}
 use Rattle.zone_tables.specs.Changes.{after_change}
 use Rattle.ras_machine.specs.Courses.{Does, heard_at, resolved}
 use Rattle.ras_machine.specs.Soundness.{AreBornBefore}
@@ -42,13 +43,14 @@ invariant_of-self-2 c = record {
 }
 
 pub returns-clause-does : goal.returns-clause-does
-returns-clause-does c plan request is =
+returns-clause-does c plan is =
     let i = c.self.inside in
     let now = c.args.now in
     let job = c.args.job in
-    let endpoint = c.args.endpoint in
+    let request = c.args.request.now in
+    let endpoint = endpoint_of request in
     let d = c.args.decision in
-    let given = c.args.given in
+    let given = c.args.outcome.now.given in
     let old =
     state_of i.tables i.kept.kept i.clock i.interrogation_number i.next_pool_turn i.steps in
     let tables = c.hear.new.tables in
@@ -91,15 +93,15 @@ returns-clause-does c plan request is =
     let outcome : Outcome = record {
       answer = None;
       output = Some c.in_ok-output.output;
-      note = c.note.result;
-      dropped = c.dropped.result;
+      note = c.note-outcome.result;
+      dropped = c.dropped-outcome.result;
       given = given;
     } in
     let outcome_is : due ≡ outcome = λ j. record {
       answer = None;
       output = Some (sym c.in_ok-output.ensures.encoded j);
-      note = sym c.note.ensures j;
-      dropped = sym c.dropped.ensures j;
+      note = sym c.note-outcome.ensures j;
+      dropped = sym c.dropped-outcome.ensures j;
       given = given;
     } in
     subst (λ (m : State). Does m now course outcome new) c.self.view_is

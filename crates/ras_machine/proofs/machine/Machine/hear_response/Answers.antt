@@ -12,8 +12,8 @@ returns c =
     let i = c.self.inside in
     let old =
     state_of i.tables i.kept.kept i.clock i.interrogation_number i.next_pool_turn i.steps in
-    let id = c.args.endpoint in
+    let id = c.args.endpoint.now in
     let new : State = record old { tables = c.hear.new.self } in
-    subst (λ (m : State). Does m c.args.now (Hearing id) c.noted.result new) c.self.view_is
-    (subst (λ (o : Outcome). Does old c.args.now (Hearing id) o new) (sym c.noted.ensures)
+    subst (λ (m : State). Does m c.args.now (Hearing id) c.be_noted.new.self new) c.self.view_is
+    (subst (λ (o : Outcome). Does old c.args.now (Hearing id) o new) (sym c.be_noted.ensures)
     (does_hear old c.args.now id c.hear.new.self c.hear.ensures.heard))

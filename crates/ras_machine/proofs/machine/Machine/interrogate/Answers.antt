@@ -16,9 +16,9 @@ use Rattle.ras_machine.proofs.machine.Machine.interrogate.Goals as goal
 pub interrogated-requires : goal.interrogated-requires
 interrogated-requires c =
     let z = c.self.inside.tables in
-    let due = subst (λ (m : State). IsDueIn m c.args.now (Interrogate c.args.id))
+    let due = subst (λ (m : State). IsDueIn m c.args.now (Interrogate c.args.id.now))
     (sym c.self.view_is) c.requires.due in
-    tries_few_in (times_of z.config) c.args.now (fin.get z.live c.args.id) due.1
+    tries_few_in (times_of z.config) c.args.now (fin.get z.live c.args.id.now) due.1
     c.get.ensures.asks
 
 pub returns-clause-does : goal.returns-clause-does
@@ -31,11 +31,11 @@ returns-clause-does c =
       tables = c.interrogated.new.self;
       interrogation_number = number.result;
     } in
-    let there : fin.get i.tables.live c.args.id ≡ Some c.unwrap.result.now =
+    let there : fin.get i.tables.live c.args.id.now ≡ Some c.unwrap.result.now =
     sym c.get.ensures.found ∙ ap option_copied c.unwrap.ensures in
     let zone_is = sym c.interrogated.ensures.tables in
-    does_item old _ c.self.view_is c.args.now (Interrogate c.args.id) c.requires.due
-    (Some c.in_ok-output.output) c.noted.result c.noted.ensures new
+    does_item old _ c.self.view_is c.args.now (Interrogate c.args.id.now) c.requires.due
+    (Some c.in_ok-output.output) c.be_noted.new.self c.be_noted.ensures new
     (ap (option_map (inquiry i.interrogation_number)) there
     ∙ ap Some (sym c.in_ok-output.ensures.encoded))
     (λ j. record old { tables = zone_is j; interrogation_number = sym number.ensures j })

@@ -15,21 +15,21 @@ invariant_of-self c = record {
   kept = c.self.invariant.kept;
   most = c.self.invariant.most ∙ sym (ap (λ (z : Tables). z.config.kept) c.lapse.ensures.tables
       ∙ ap (λ (config : ConfigParts). config.kept)
-      (settings_stay c.self.inside.tables c.args.id));
+      (settings_stay c.self.inside.tables c.args.id.now));
   clock = c.self.invariant.clock;
   least_number = c.self.invariant.least_number;
   most_number = c.self.invariant.most_number;
   steps = c.self.invariant.steps;
 }
 
-pub returns : goal.returns
-returns c =
+pub returns-clause-does : goal.returns-clause-does
+returns-clause-does c =
     let i = c.self.inside in
     let old =
     state_of i.tables i.kept.kept i.clock i.interrogation_number i.next_pool_turn i.steps in
     let left = c.lapse.new.self in
     let new : State = record old { tables = left } in
-    does_item old _ c.self.view_is c.args.now (RegistrationOver c.args.id) c.requires
-    None c.noted.result c.noted.ensures new
+    does_item old _ c.self.view_is c.args.now (RegistrationOver c.args.id.now) c.requires
+    None c.be_noted.new.self c.be_noted.ensures new
     refl (ap (λ (z : Tables). record old { tables = z }) (sym c.lapse.ensures.tables))
     c.lapse.ensures.pools (λ before. born_same i.kept.kept i.steps before) tt

@@ -16,7 +16,8 @@ returns-in-Irr c =
     let s = c.args.self.now in
     let now = c.args.now in
     subst (λ r. CallsFor s now (request_course s now c.args.key c.args.dropped r)
-    c.response_course.result) (sym c.in-Irr.is) (c.response_course.ensures now)
+    c.response_course.result) (sym c.in-Irr.is)
+    (c.response_course.ensures now)
 
 pub returns-in-Some : goal.returns-in-Some
 returns-in-Some c =

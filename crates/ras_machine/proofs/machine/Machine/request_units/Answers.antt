@@ -12,11 +12,12 @@ use Rattle.ras_machine.specs.Keeping.{dropped_for, kept_with, plan_at, state_aft
 use Rattle.zone_config.specs.Terms.{term_of}
 use Rattle.ras_machine.specs.Machine.{Serving, note_at}
 use Rattle.ras_requests.specs.Conclusions.{RequestsUnits}
+use Rattle.ras_requests.specs.Requests.{endpoint_of}
 use Rattle.zone_tables.specs.UnitRequests.{calls_after_answer, reply_of, units_requested}
 use Rattle.ras_machine.specs.Courses.{heard_at, Does}
 use Rattle.ras_machine.specs.Soundness.{AreBornBefore}
 use Rattle.ras_machine.specs.Steps.{IsTimely}
-use Rattle.ras_machine.proofs.Asking.{does_answered}
+use Rattle.ras_machine.proofs.Asking.{does_answered_for}
 use Rattle.ras_machine.proofs.Dropping.{over_of}
 use Rattle.ras_machine.proofs.machine.Machine.request_units.Goals as goal
 
@@ -50,8 +51,8 @@ returns-clause-does g c plan asks =
     let now = c.args.now in
     let job = c.args.job in
     let q = c.args.unit_request in
-    let id = q.endpoint in
     let request = c.args.request in
+    let endpoint = endpoint_of request in
     let answer = c.in_ok-answer.answer in
     let w = c.waits-waits.result in
     let reply = c.reply-reply.result in
@@ -64,8 +65,8 @@ returns-clause-does g c plan asks =
       pools = pools_after_answer i.tables.pools (units_requested q) answer;
     } in
     let asked_is : c.request_units.new.self ≡ asked = c.in_ok-answer.ensures.tables in
-    let tables_is : tables ≡ heard_at asked job.occasion now (Some id) =
-    c.hear.ensures.heard ∙ ap (λ (z : Tables). heard_at z job.occasion now (Some id)) asked_is in
+    let tables_is : tables ≡ heard_at asked job.occasion now endpoint =
+    c.hear.ensures.heard ∙ ap (λ (z : Tables). heard_at z job.occasion now endpoint) asked_is in
     let config_is = c.config-config.ensures.same in
     let term_is = c.term-term.ensures.same
     ∙ ap (λ (config : ConfigParts). term_of config now) config_is in
@@ -78,7 +79,8 @@ returns-clause-does g c plan asks =
     c.reply-reply.ensures ∙ ap (λ n. reply_of q answer w n)
     (c.delay-delay.ensures ∙ ap (λ (config : ConfigParts). config.delay) config_is) in
     let back = sym c.self.view_is in
-    let does = does_answered old now job id request q answer w reply tables
+    let does = does_answered_for old now job endpoint c.requires.endpoint request q answer w reply
+    tables
     kept c.waits-waits.ensures
     c.requires.seq c.in_ok-answer.ensures.answer
     (subst (λ (m : State). IsTimely m now job.occasion) back c.requires.timely)
@@ -88,7 +90,7 @@ returns-clause-does g c plan asks =
     let course = Serving (record {
       job = job;
       request = request;
-      plan = plan_at job.occasion now (Some id) plan;
+      plan = plan_at job.occasion now endpoint plan;
     }) in
     let new : State = record old { tables = tables; kept = kept } in
     let bytes_is : c.from_vec-bytes.result ≡ encoding_of reply = search rules in
@@ -102,15 +104,15 @@ returns-clause-does g c plan asks =
     let outcome : Outcome = record {
       answer = Some answer;
       output = Some (record { to = job.key.source; bytes = c.from_vec-bytes.result });
-      note = c.note.result;
-      dropped = c.dropped.result;
+      note = c.note-outcome.result;
+      dropped = c.dropped-outcome.result;
       given = None;
     } in
     let outcome_is : due ≡ outcome = λ j. record {
       answer = Some answer;
       output = Some (record { to = job.key.source; bytes = sym bytes_is j });
-      note = sym c.note.ensures j;
-      dropped = sym c.dropped.ensures j;
+      note = sym c.note-outcome.ensures j;
+      dropped = sym c.dropped-outcome.ensures j;
       given = None;
     } in
     subst (λ (m : State). Does m now course outcome new) c.self.view_is

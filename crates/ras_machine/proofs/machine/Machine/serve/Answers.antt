@@ -1,18 +1,15 @@
 use Rattle.std.proofs.Common.{◌∙◌, List, ℕ, Some, None, ap, subst, sym}
 use Rattle.std.specs.Prelude.{Option}
-use Rattle.std.specs.Option.{IsSomeAnd}
+use Rattle.std.specs.Option.{IsSomeAnd, option_copied}
 use Rattle.ras_requests.specs.declared.conclusion.Decision.{Decision}
 use Rattle.zone_tables.specs.Changes.{IsPossible}
-use Rattle.ras_requests.specs.Conclusions.{IsConclusion, served}
-use Rattle.ras_requests.specs.Requests.{endpoint_of}
-use Rattle.zone_tables.proofs.Answered.{if_ok_with}
-use Rattle.ras_machine.specs.Keeping.{plan_at}
-use Rattle.ras_machine.specs.Machine.{Serving}
 use Rattle.zone_tables.specs.Pools.{RequestedUnits}
+use Rattle.ras_requests.specs.Conclusions.{IsConclusion, decision_under, served}
+use Rattle.ras_requests.specs.Requests.{endpoint_of}
 use Rattle.ras_machine.specs.Steps.{IsAskedOnce, IsUnusedIn}
-use Rattle.ras_machine.specs.Courses.{Does, MayBeGiven, resolved}
+use Rattle.ras_machine.specs.Courses.{MayBeGiven, resolved}
 use Rattle.ras_machine.proofs.Asking.{asks_by}
-use Rattle.ras_machine.proofs.Carrying.{asked_nothing, asks_nothing}
+use Rattle.ras_machine.proofs.Carrying.{asked_nothing, asks_nothing, on_ok_with}
 use Rattle.ras_machine.proofs.Planning.{requests_units_of, names_of, possible_of}
 use Rattle.ras_machine.proofs.machine.Machine.serve.Goals as goal
 
@@ -22,19 +19,6 @@ carry_out-requires-clause-possible g c =
     possible_of z c.args.now c.args.task.request c.requires.task.served c.in-Settled.decision
     (subst (IsConclusion z c.args.now c.args.task.request) c.in-Settled.is
     c.requires.task.concludes)
-
-pub carry_out-requires-in-Naming-clause-possible : goal.carry_out-requires-in-Naming-clause-possible
-carry_out-requires-in-Naming-clause-possible g c =
-    let z = c.args.self.now.tables in
-    let names = names_of z c.args.now c.args.task.request c.requires.task.served
-    c.in-Naming.newcomer (subst (IsConclusion z c.args.now c.args.task.request) c.in-Naming.is
-    c.requires.task.concludes) in
-    let unused = subst (λ (w : Option (List ℕ)). IsSomeAnd w (IsUnusedIn c.args.self.now))
-    c.unwrap-id.ensures
-    (subst (λ k. MayBeGiven c.args.self.now k c.args.given) c.in-Naming.is
-    c.requires.given) in
-    subst (λ (d : Decision). IsPossible z d.change) (sym c.under.ensures)
-    (names.possible c.unwrap-id.result unused.unused.not_live)
 
 pub request_units-requires-clause-may : goal.request_units-requires-clause-may
 request_units-requires-clause-may g c =
@@ -54,37 +38,12 @@ request_units-requires-clause-leg g c =
 
 pub returns-in-Settled-clause-does : goal.returns-in-Settled-clause-does
 returns-in-Settled-clause-does g c =
-    let now = c.args.now in
-    let job = c.args.task.job in
     let request = c.args.task.request in
     let z = c.args.self.now.tables in
-    let concludes = subst (IsConclusion z now request) c.in-Settled.is c.requires.task.concludes in
-    if_ok_with _ _ c.carry_out.result c.carry_out.ensures.does
-    (λ outcome does plan planned. subst (λ (id : Option (List ℕ)).
-    Does c.args.self.now now (Serving (record {
-      job = job;
-      request = request;
-      plan = plan_at job.occasion now id plan;
-    })) outcome c.carry_out.new.self) c.endpoint_of-endpoint.ensures
-    (does plan request (ap (λ p. resolved p None) (concludes plan planned).is)))
-
-pub returns-in-Naming-clause-does : goal.returns-in-Naming-clause-does
-returns-in-Naming-clause-does g c =
-    let now = c.args.now in
-    let job = c.args.task.job in
-    let request = c.args.task.request in
-    let z = c.args.self.now.tables in
-    let id = c.unwrap-id.result in
-    let concludes = subst (IsConclusion z now request) c.in-Naming.is c.requires.task.concludes in
-    if_ok_with _ _ c.carry_out-in-Naming.result c.carry_out-in-Naming.ensures.does
-    (λ outcome does plan planned. subst (λ (endpoint : Option (List ℕ)).
-    Does c.args.self.now now (Serving (record {
-      job = job;
-      request = request;
-      plan = plan_at job.occasion now endpoint plan;
-    })) outcome c.carry_out-in-Naming.new.self) c.endpoint_of-endpoint.ensures
-    (does plan request (ap (λ p. resolved p (Some id)) (concludes plan planned).is
-    ∙ ap (λ (d : Decision). Some (served z now d)) (sym c.under.ensures))))
+    let concludes = subst (IsConclusion z c.args.now request) c.in-Settled.is
+    c.requires.task.concludes in
+    on_ok_with c.carry_out.result c.carry_out.ensures.does
+    (λ does plan planned. does plan (ap (λ p. resolved p None) (concludes plan planned).is))
 
 pub returns-in-Settled-clause-asks : goal.returns-in-Settled-clause-asks
 returns-in-Settled-clause-asks g c =
@@ -93,24 +52,11 @@ returns-in-Settled-clause-asks g c =
     let request = c.args.task.request in
     let z = c.args.self.now.tables in
     let concludes = subst (IsConclusion z now request) c.in-Settled.is c.requires.task.concludes in
-    if_ok_with _ _ c.carry_out.result c.carry_out.ensures.does
-    (λ outcome does plan planned. asked_nothing g.L.Lender.lends _ z.pools _ outcome.answer
+    on_ok_with c.carry_out.result c.carry_out.ensures.does
+    (λ does plan planned. asked_nothing g.L.Lender.lends _ z.pools _
+    c.carry_out.new.outcome.answer
     (asks_nothing z now c.in-Settled.decision job.occasion (endpoint_of request) plan None
     (ap (λ p. resolved p None) (concludes plan planned).is)))
-
-pub returns-in-Naming-clause-asks : goal.returns-in-Naming-clause-asks
-returns-in-Naming-clause-asks g c =
-    let now = c.args.now in
-    let job = c.args.task.job in
-    let request = c.args.task.request in
-    let z = c.args.self.now.tables in
-    let id = c.unwrap-id.result in
-    let concludes = subst (IsConclusion z now request) c.in-Naming.is c.requires.task.concludes in
-    if_ok_with _ _ c.carry_out-in-Naming.result c.carry_out-in-Naming.ensures.does
-    (λ outcome does plan planned. asked_nothing g.L.Lender.lends _ z.pools _ outcome.answer
-    (asks_nothing z now c.under.result job.occasion (endpoint_of request) plan (Some id)
-    (ap (λ p. resolved p (Some id)) (concludes plan planned).is
-    ∙ ap (λ (d : Decision). Some (served z now d)) (sym c.under.ensures))))
 
 pub returns-in-Asking-clause-asks : goal.returns-in-Asking-clause-asks
 returns-in-Asking-clause-asks g c =
@@ -120,8 +66,42 @@ returns-in-Asking-clause-asks g c =
     let z = c.args.self.now.tables in
     let q = c.in-Asking.unit_request in
     let concludes = subst (IsConclusion z now request) c.in-Asking.is c.requires.task.concludes in
-    if_ok_with _ _ c.request_units.result c.request_units.ensures.asks
-    (λ outcome asks plan planned. subst (λ (ask : Option RequestedUnits).
-    IsAskedOnce g.L.Lender.lends c.args.lender.now z.pools ask outcome.answer
-    c.request_units.new.lender)
+    on_ok_with c.request_units.result c.request_units.ensures.asks
+    (λ asks plan planned. subst (λ (ask : Option RequestedUnits).
+    IsAskedOnce g.L.Lender.lends c.args.lender.now z.pools ask
+    c.request_units.new.outcome.answer c.request_units.new.lender)
     (sym (asks_by z plan q (concludes plan planned) job.occasion now (endpoint_of request))) asks)
+
+pub carry_out-requires-in-Naming-clause-possible : goal.carry_out-requires-in-Naming-clause-possible
+carry_out-requires-in-Naming-clause-possible g c =
+    let s = c.args.self.now in
+    let z = s.tables in
+    let id = c.unwrap-id.result.now in
+    let names = names_of z c.args.now c.args.task.request c.requires.task.served
+    c.in-Naming.newcomer (subst (IsConclusion z c.args.now c.args.task.request) c.in-Naming.is
+    c.requires.task.concludes) in
+    let given = sym c.as_ref.ensures.value ∙ ap option_copied c.unwrap-id.ensures in
+    let unused = subst (λ (w : Option (List ℕ)). IsSomeAnd w (IsUnusedIn s)) given
+    (subst (λ k. MayBeGiven s k c.args.outcome.now.given) c.in-Naming.is c.requires.given) in
+    let decided = c.in_ok-decision-in-Naming.ensures
+    ∙ ap (λ n. decision_under n id) c.into_inner.ensures in
+    subst (λ (d : Decision). IsPossible z d.change) (sym decided)
+    (names.possible id unused.unused.not_live)
+
+pub returns-in_ok-decision-in-Naming-clause-asks : goal.returns-in_ok-decision-in-Naming-clause-asks
+returns-in_ok-decision-in-Naming-clause-asks g c =
+    let now = c.args.now in
+    let job = c.args.task.job in
+    let request = c.args.task.request in
+    let z = c.args.self.now.tables in
+    let id = c.unwrap-id.result.now in
+    let decision = c.in_ok-decision-in-Naming.decision in
+    let concludes = subst (IsConclusion z now request) c.in-Naming.is c.requires.task.concludes in
+    let decided = c.in_ok-decision-in-Naming.ensures
+    ∙ ap (λ n. decision_under n id) c.into_inner.ensures in
+    on_ok_with c.carry_out-in-Naming.result c.carry_out-in-Naming.ensures.does
+    (λ does plan planned. asked_nothing g.L.Lender.lends _ z.pools _
+    c.carry_out-in-Naming.new.outcome.answer
+    (asks_nothing z now decision job.occasion (endpoint_of request) plan (Some id)
+    (ap (λ p. resolved p (Some id)) (concludes plan planned).is
+    ∙ ap (λ (d : Decision). Some (served z now d)) (sym decided))))

@@ -8,8 +8,8 @@ use Rattle.ras_machine.proofs.Dropping.{born_same}
 use Rattle.ras_machine.proofs.Noting.{does_item}
 use Rattle.ras_machine.proofs.machine.Machine.turn_pools.Goals as goal
 
-pub returns : goal.returns
-returns c =
+pub returns-clause-does : goal.returns-clause-does
+returns-clause-does c =
     let i = c.self.inside in
     let old =
     state_of i.tables i.kept.kept i.clock i.interrogation_number i.next_pool_turn i.steps in
@@ -19,7 +19,7 @@ returns c =
     let turn_is = sym (c.pool_turn.ensures.same
     ∙ ap (λ (config : ConfigParts). config.pool_turn) c.config.ensures.same) in
     does_item old _ c.self.view_is c.args.now PoolTurn c.requires
-    None c.noted.result c.noted.ensures new
+    None c.be_noted.new.self c.be_noted.ensures new
     refl (λ j. record old { next_pool_turn = now_is j + turn_is j })
     (same_after_end i.tables.pools None)
     (λ before. born_same i.kept.kept i.steps before) tt
