@@ -13,8 +13,6 @@ use Rattle.kept_replies.specs.declared.key.KeptKey.{KeptKey}
 use Rattle.kept_replies.specs.declared.entry.KeptEntry.{KeptEntry}
 use Rattle.kept_replies.specs.Kept.{reply_in}
 use Rattle.zone_events.specs.declared.change.Change.{Change}
-use Rattle.zone_events.specs.declared.change.Change.TheVariants as change
-use Rattle.zone_events.specs.declared.event.Event.{Event}
 use Rattle.zone_events.specs.declared.event.Event.TheVariants as event
 use Rattle.ras_machine.specs.declared.prepared.Message.TheVariants.{TooLong}
 use Rattle.ras_machine.specs.Prepared.{message_by}
@@ -23,14 +21,14 @@ use Rattle.zone_events.specs.declared.outcome.Note.TheVariants as note
 use Rattle.zone_events.specs.declared.outcome.Outcome.{Outcome}
 use Rattle.ras_machine.specs.State.{State}
 use Rattle.ras_core.specs.Running.{Running}
+use Rattle.ras_core.proofs.Changing.{sound_after}
 use Rattle.ras_requests.specs.Requests.{HasReply}
 use Rattle.ras_machine.specs.Keeping.{is_repeat}
-use Rattle.ras_machine.specs.Soundness.{Sound}
 use Rattle.ras_machine.specs.Turns.{IsNothingDueIn}
 use Rattle.ras_machine.specs.Machine.{Ending, Course, Repeating, at_moment, course}
 use Rattle.ras_machine.specs.Machine.{course_ending, datagram_course, message_course, most_steps}
 use Rattle.ras_machine.specs.Machine.{turn_course}
-use Rattle.ras_core.specs.Runs.{EachState, IsWithinLimit, RunningChange, RunningRun}
+use Rattle.ras_core.specs.Runs.{EachState, IsWithinLimit, RunningRun}
 use Rattle.ras_machine.specs.Steps.{IsAllowed, Step, choices_of}
 use Rattle.ras_machine.specs.Steps.{item_of}
 use Rattle.ras_machine.proofs.Calling.{repeats}
@@ -94,12 +92,6 @@ idle s moment outcome after step noted =
     subst (λ (n : Note). IsAllowed s (max s.clock moment)
     (turn_course s (max s.clock moment) (item_of n)) (choices_of outcome))
     noted step.allowed
-
--- a step leads to a sound state
-sound_after : (old : Running) (what : Change) (outcome : Outcome) (new : Running)
-    → RunningChange old what outcome new → Sound new.state
-sound_after old (change.Event event) outcome new step = step.sound
-sound_after old (change.PoolChange replacement) outcome new step = step.sound
 
 pub within_limit : (old : Running) (entries : List (Change × Outcome)) (new : Running)
     (run : RunningRun old entries new) → EachState IsWithinLimit old entries new run

@@ -1,6 +1,6 @@
 -- The figures and the tallies of pools, as the members of their set change.
-use Rattle.std.proofs.Common.{◌≡◌, ◌≤◌, ◌+◌, ◌-◌, ◌^◌, IsTrue, ℕ, List, [], ◌∷◌, length, map}
-use Rattle.std.proofs.Common.{get_or, set, All, refl, sym, ◌∙◌, ap, subst, arith, Some, None, false}
+use Rattle.std.proofs.Common.{◌≡◌, ◌≤◌, ◌-◌, IsTrue, ℕ, List, [], ◌∷◌, map}
+use Rattle.std.proofs.Common.{get_or, set, All, refl, sym, ◌∙◌, ap, subst, arith, Some, None}
 use Rattle.std.specs.Prelude.{Option}
 use Rattle.std.proofs.lemmas.List.{map-set, set-get_or}
 use Rattle.std.proofs.lemmas.List.Elements.{All-map}
@@ -18,7 +18,7 @@ use Rattle.zone_tables.specs.Pools.{pools_after_answer, pools_after_return}
 use Rattle.zone_tables.specs.Leaving.{IsSameButLent}
 use Rattle.zone_tables.proofs.Members.{figures_there}
 use Rattle.ras_machine.specs.Steps.{IsAskedOnce, pools_after_ask}
-use Rattle.ras_core.specs.Tallies.{Tally, figures_without_loans, lasts_of, tallies_after_answer}
+use Rattle.ras_core.specs.Tallies.{figures_without_loans, lasts_of, tallies_after_answer}
 use Rattle.ras_core.specs.Tallies.{tallies_after_ask, tallies_after_turn, tallies_of}
 use Rattle.ras_core.specs.Tallies.{tally_after_answer, tally_after_turn, tally_at, tally_of}
 use Rattle.ras_core.specs.Tallies.{without_loans}

@@ -1,8 +1,7 @@
 -- The turns of the pools in the tallies.
-use Rattle.std.proofs.Common.{◌≡◌, true, List, refl}
+use Rattle.std.proofs.Common.{◌≡◌, List, refl}
 use Rattle.std.specs.Prelude.{Option}
 use Rattle.pools.specs.declared.interface.Lend.{Lend}
-use Rattle.ras_requests.specs.Plans.{Plan}
 use Rattle.zone_events.specs.declared.due_item.DueItem.TheVariants as item
 use Rattle.ras_machine.specs.Machine.{Course, Ignoring, Hearing, Repeating, Serving, Doing, Idle}
 use Rattle.ras_machine.specs.Steps.{ask_in}

@@ -1,7 +1,10 @@
 -- A step of the machine, with the pools, is one of the gatekeeper as it runs.
-use Rattle.std.proofs.Common.{◌≡◌, ◌<◌, ◌∙◌, ◌+◌, ℕ, true, List, ap, subst, sym, None, arith}
-use Rattle.std.specs.Prelude.{nat_lt, if◌then◌else◌}
+use Rattle.std.proofs.Common.{◌≡◌, ◌<◌, ◌≤◌, ◌∙◌, ◌+◌, ℕ, Bool, true, false, List, ap, subst, sym}
+use Rattle.std.proofs.Common.{None}
+use Rattle.std.proofs.Common.{arith}
+use Rattle.std.specs.Prelude.{IsTrue, nat_lt, ◌↔◌, if◌then◌else◌}
 use Rattle.std.proofs.lemmas.Bool.Decides.{nat_tests}
+use Rattle.keyed.proofs.Decide.{by_place}
 use Rattle.pools.specs.declared.interface.Figures.{Figures}
 use Rattle.pools.specs.Members.{Member, accounts_of}
 use Rattle.zone_events.specs.declared.event.Event.{Event}
@@ -30,6 +33,13 @@ to_be_settled old new now c outcome before asked same performs asks =
     subst (λ fs. AreSameButLent fs new.tables.pools)
     (sym (figures-asked before asked old.tables.pools (ask_in c) outcome.answer asks
     ∙ ap (λ fs. pools_after_ask fs (ask_in c) outcome.answer) same)) performs.pools
+
+-- a machine that isn't closed may make one step more
+pub open_below : (steps most : ℕ) (closed : Bool) → (IsTrue closed ↔ (steps ≡ most))
+    → closed ≡ false → steps ≤ most → steps < most
+open_below steps most closed closes is_open least =
+    by_place steps most (steps < most) (λ same. absurd (cc (sym (closes.1 same) ∙ is_open)))
+    (λ differ. omega (arith, differ, least))
 
 pub running_step : (old : Running) (what : Event) (outcome : Outcome) (new : State)
     (tallies : List Tally) → old.state.steps < most_steps

@@ -1,5 +1,6 @@
 -- Runs go on by one step.
-use Rattle.std.proofs.Common.{◌≡◌, ℕ, ◌+◌, ◌<◌, List, [], ◌∷◌, ◌++◌, length, take, get_or, refl, map}
+use Rattle.std.proofs.Common.{◌≡◌, ℕ, ◌+◌, ◌<◌, List, [], ◌∷◌, ◌++◌, length, take, get_or, refl}
+use Rattle.std.proofs.Common.{map}
 use Rattle.std.proofs.Common.{sym, ◌∙◌, ap, subst, append_assoc, arith, length-append}
 use Rattle.std.proofs.lemmas.List.{take_more}
 use Rattle.std.specs.List.{zip}
@@ -31,7 +32,8 @@ run_more z mid after [] (o ∷ made) event outcome each run step = absurd (omega
 run_more z mid after (e ∷ events) [] event outcome each run step = absurd (omega (arith, each))
 
 steps_more : (old mid new : Running) (events : List Event) (made : List Outcome) (event : Event)
-    (outcome : Outcome) → length made ≡ length events → RunningRun old (zip (changes_of events) made) mid
+    (outcome : Outcome) → length made ≡ length events
+    → RunningRun old (zip (changes_of events) made) mid
     → RunningStep mid event outcome new
     → RunningRun old (zip (changes_of (events ++ event ∷ [])) (made ++ outcome ∷ [])) new
 steps_more old mid new [] [] event outcome each run step =
@@ -62,11 +64,13 @@ runs_on old mid new events i event before now outcome below is run step =
         length-append run.made (outcome ∷ []),
         length-append (take i events) (event ∷ []),
       ));
-      run = subst (λ (es : List Event). Run old.state (zip (changes_of es) (run.made ++ outcome ∷ [])) new.state)
+      run = subst (λ (es : List Event). Run old.state (zip (changes_of es)
+          (run.made ++ outcome ∷ [])) new.state)
           (sym longer)
           (run_more old.state mid.state new.state (take i events) run.made event outcome
           run.each run.run step.step);
-      steps = subst (λ (es : List Event). RunningRun old (zip (changes_of es) (run.made ++ outcome ∷ [])) new)
+      steps = subst (λ (es : List Event). RunningRun old (zip (changes_of es)
+          (run.made ++ outcome ∷ [])) new)
           (sym longer)
           (steps_more old mid new (take i events) run.made event outcome run.each run.steps
           step);

@@ -1,8 +1,8 @@
 -- A fresh pool takes over the loans of another one: what the pools' set says of it, in the words of
 -- the zone.
-use Rattle.std.proofs.Common.{◌≡◌, ◌≢◌, ◌≤◌, ◌<◌, ◌==◌, ℕ, Bool, true, false, List, length}
+use Rattle.std.proofs.Common.{◌≡◌, ◌≤◌, ◌<◌, ◌==◌, ℕ, Bool, true, false, List, length}
 use Rattle.std.proofs.Common.{refl, sym, ◌∙◌, ap, subst, set, arith, Some, None}
-use Rattle.std.specs.Prelude.{◌↔◌, IsTrue, Option, nat_lt, if◌then◌else◌}
+use Rattle.std.specs.Prelude.{◌↔◌, IsTrue, nat_lt, if◌then◌else◌}
 use Rattle.std.proofs.lemmas.Bool.Decides.{Decides-eqb, nat_tests}
 use Rattle.std.proofs.lemmas.List.{length-map, map-set}
 use Rattle.pools.specs.declared.fault.ReplaceFault.{ReplaceFault}
@@ -14,12 +14,12 @@ use Rattle.pools.specs.Members.{Member, accounts_of, member_at}
 use Rattle.pools.specs.Replacing as by_set
 use Rattle.pools.specs.Replacing.{FellShort, IsReplaceFault, lent_by, member_with_loans}
 use Rattle.pools.specs.Replacing.{members_after_replacing}
-use Rattle.zone_tables.specs.Pools.{IsIdle, MayReplace, figures_at, figures_of, pools_after_replacing}
+use Rattle.zone_tables.specs.Pools.{IsIdle, MayReplace, figures_at, figures_of}
+use Rattle.zone_tables.specs.Pools.{pools_after_replacing}
 use Rattle.zone_tables.proofs.Members.{figures_there}
 use Rattle.ras_machine.specs.Machine.{most_steps}
 use Rattle.ras_machine.specs.State.{State}
 use Rattle.ras_core.specs.Replacing.{IsOldPool, IsRefusal, fault_unasked}
-use Rattle.ras_core.specs.Running.{Running}
 use Rattle.ras_core.specs.Tallies.{tallies_after_replacing, tallies_of, tally_of}
 use Rattle.ras_core.specs.Tallies.{without_loans}
 use Rattle.ras_core.proofs.Members.{figures-set, idle_figures, tally_there}

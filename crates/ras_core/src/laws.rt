@@ -43,8 +43,8 @@ pub fn a_turn_is_idle_only_if_nothing_is_due()
         → IsNothingDueIn s (max s.clock moment) }
 {}
 
-/// In every state that a run of steps and replacements comes to, bandwidth in use, the sum over the calls, is
-/// within the zone's limit, and each pool has lent what its calls use.
+/// In every state that a run of steps and replacements comes to, bandwidth in use, the sum over the
+/// calls, is within the zone's limit, and each pool has lent what its calls use.
 pub fn bandwidth_is_within_the_limit_all_along()
     ensures { (old : Running) (entries : List (Change × Outcome)) (new : Running)
         (run : RunningRun old entries new) → EachState IsWithinLimit old entries new run }

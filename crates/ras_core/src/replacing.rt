@@ -17,17 +17,18 @@ use zone_events::{Outcome, PoolChange};
 impl<P: Pool> Zone<P> {
     /// One step in which a fresh pool takes the place of the pool with this number, and takes over
     /// its loans: no call loses its bandwidth, and no other pool changes. The old pool comes back
-    /// with nothing lent; its limit, refusals, waits and last answer stay. The network stays that of
-    /// the old pool. `pool` may be any number. No memory is taken.
+    /// with nothing lent; its limit, refusals, waits and last answer stay. The network stays that
+    /// of the old pool. `pool` may be any number. No memory is taken.
     ///
     /// The fresh pool is asked for what the old one has lent, in loans that are each of the lesser
-    /// of 4,294,967,295 units and what is still to be lent. If nothing is lent, it is asked nothing.
+    /// of 4,294,967,295 units and what is still to be lent. If nothing is lent, it is asked
+    /// nothing.
     ///
-    /// Otherwise nothing in the zone changes, and the fresh pool comes back: `Closed` if and only if
-    /// 2^62 steps were made, else `NoPool` if and only if there is no such pool, else `NotIdle` if
-    /// and only if the fresh one has something lent, or has counted 2^62 refusals or waits. It is
-    /// asked nothing then. `NotLent` is for one that answers otherwise than by a loan of all that
-    /// was asked. It is asked no more, and has nothing lent.
+    /// Otherwise nothing in the zone changes, and the fresh pool comes back: `Closed` if and only
+    /// if 2^62 steps were made, else `NoPool` if and only if there is no such pool, else `NotIdle`
+    /// if and only if the fresh one has something lent, or has counted 2^62 refusals or waits. It
+    /// is asked nothing then. `NotLent` is for one that answers otherwise than by a loan of all
+    /// that was asked. It is asked no more, and has nothing lent.
     pub fn replace(
         &mut self,
         pool: usize,

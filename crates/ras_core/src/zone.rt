@@ -26,7 +26,7 @@ use registrations::RegistrationList;
 use std::alloc::{AllocError, Global};
 use std::marker::Model;
 use zone_config::{Config, Moment};
-use zone_events::{Event, Outcome};
+use zone_events::{Event, Note, Outcome};
 use zone_tables::PoolFigures;
 
 /// The zone of one gatekeeper, with the pools from which its calls have their bandwidth. Contracts
@@ -113,26 +113,30 @@ impl<P: Pool> Zone<P> {
         ensures err { OnErr result (self.new ≡ self.old) }
         ensures sound { Sound self.new.state }
     {
-        if self.machine.is_closed() {
-            return Err(StepFault::Closed);
-        }
-        Ok(self.respond(prepared)?)
+        let mut outcome = Outcome::noted(Note::Idle, None);
+        self.step_into(prepared, &mut outcome)?;
+        Ok(outcome)
     }
 
-    /// What comes of an event: what it calls for, the choices that are open, and then the deed.
-    fn respond(&mut self, prepared: Prepared) -> Result<Outcome, AllocError>
-        requires few { self.old.state.steps < most_steps }
-        ensures step { IfOk result (λ outcome. RunningStep self.old prepared outcome self.new) }
+    /// One step, as `step_prepared` makes it: what the event calls for, the choices that are open,
+    /// and then the deed. Its outcome is made where the caller wants it, so that it isn't moved.
+    /// After a refusal what stands there means nothing.
+    pub fn step_into(&mut self, prepared: Prepared, outcome: &mut Outcome) -> Result<(), StepFault>
+        ensures step { OnOk result (RunningStep self.old prepared outcome.new self.new) }
+        ensures closed { (result ≡ Err StepFault.Closed) ↔ (self.old.state.steps ≡ most_steps) }
         ensures err { OnErr result (self.new ≡ self.old) }
         ensures sound { Sound self.new.state }
     {
+        if self.machine.is_closed() {
+            return Err(StepFault::Closed);
+        }
         let now = self.clock().later(prepared.moment());
         let course = chosen_course(&self.machine, now, prepared.into_arrival())?;
-        let given = self.machine.identifier_for(&course)?;
+        self.machine.identify(&course, &mut outcome.given)?;
         let turn = is_pool_turn(&course);
-        let outcome = self.machine.perform(now, course, given, &mut self.pools)?;
+        self.machine.perform(now, course, &mut self.pools, outcome)?;
         settle(&mut self.pools, self.machine.pools(), turn);
-        Ok(outcome)
+        Ok(())
     }
 
     /// A step of an event that stays with the caller.

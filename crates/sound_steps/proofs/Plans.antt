@@ -177,7 +177,6 @@ module _ (z : Tables) (sound : SoundTables z) where
       (λ some. by_test (units_left z == 0) _ _ (λ empty. still)
       (λ left. asks z sound (record {
         seq = q.seq;
-        endpoint = q.endpoint;
         call = q.call;
         pool = pool;
         units = min (wanted z q.asked) (units_left z);
@@ -253,7 +252,6 @@ module _ (z : Tables) (sound : SoundTables z) where
       let has : 0 < units_left z = omega (arith, differ (units_left z) 0 left) in
       asks z sound (record {
         seq = q.seq;
-        endpoint = q.endpoint;
         call = q.call;
         pool = call.pool;
         units = min (wanted z q.asked - call.units) (units_left z);

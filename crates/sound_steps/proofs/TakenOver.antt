@@ -1,5 +1,6 @@
 -- A fresh pool that takes over the loans of another one leaves a sound state.
-use Rattle.std.proofs.Common.{◌≡◌, ◌≢◌, ◌<◌, ◌≤◌, ◌+◌, ◌^◌, ◌==◌, All, ℕ, Bool, true, false, ap, arith}
+use Rattle.std.proofs.Common.{◌≡◌, ◌≢◌, ◌<◌, ◌≤◌, ◌+◌, ◌^◌, ◌==◌, All, ℕ, Bool, true, false, ap}
+use Rattle.std.proofs.Common.{arith}
 use Rattle.std.proofs.Common.{List, get_or, length, refl, set, subst, sym, ◌∙◌}
 use Rattle.std.specs.Prelude.{max}
 use Rattle.std.proofs.lemmas.Bool.Decides.{Decides-eqb}

@@ -9,9 +9,9 @@ ghost use Rattle.ras_machine.specs.State.{State};
 ghost use Rattle.ras_core.specs.Runs.{ChangeStep, IsWithinLimit, Run};
 ghost use Rattle.sound_steps.specs.Runs.{EachStateOf};
 
-/// From a sound state each step leads to a sound state, be it of an event or of a pool that takes the
-/// place of another one. Its moment is below 2^53, as each moment of the code is; nothing else is
-/// asked of the step or of its outcome.
+/// From a sound state each step leads to a sound state, be it of an event or of a pool that takes
+/// the place of another one. Its moment is below 2^53, as each moment of the code is; nothing else
+/// is asked of the step or of its outcome.
 pub fn each_step_leads_to_a_sound_state()
     ensures { (s : State) (what : Change) (outcome : Outcome) (after : State)
         → moment_of_change what < 2 ^ 53 → Sound s → ChangeStep s what outcome after

@@ -1,11 +1,11 @@
 -- A step that is done again by what its outcome shows is that step.
-use Rattle.std.proofs.Common.{◌≡◌, ◌<◌, ◌≤◌, ◌↔◌, ◌∙◌, ◌+◌, ℕ, Bool, true, false, List, Some, None}
+use Rattle.std.proofs.Common.{◌≡◌, ◌<◌, ◌∙◌, ◌+◌, ℕ, Bool, true, false, List, Some, None}
 use Rattle.std.proofs.Common.{ap, subst}
 use Rattle.std.proofs.Common.{sym, refl, arith}
-use Rattle.std.specs.Prelude.{Option, IfSome, IsTrue, max, nat_lt, if◌then◌else◌}
+use Rattle.std.specs.Prelude.{Option, IfSome, max, nat_lt, if◌then◌else◌}
 use Rattle.std.specs.Option.{IsSomeAnd}
 use Rattle.std.proofs.lemmas.Bool.Decides.{nat_tests}
-use Rattle.keyed.proofs.Decide.{by_place, same_some}
+use Rattle.keyed.proofs.Decide.{same_some}
 use Rattle.pools.specs.declared.interface.Figures.{Figures}
 use Rattle.pools.specs.declared.interface.Lend.{Lend}
 use Rattle.pools.specs.Account.{IsAnswer}
@@ -337,13 +337,6 @@ module _ (s : State) (now : ℕ) (same event : Event) (is : same ≡ event) (out
       → IsFound s now same outcome found → CannotBeChosen s now event outcome
   none_found None none h = subst (λ (e : Event). CannotBeChosen s now e outcome) is h
   none_found (Some called) none h = absurd (none called refl)
-
--- a machine that isn't closed may make one step more
-pub open_below : (steps most : ℕ) (closed : Bool) → (IsTrue closed ↔ (steps ≡ most))
-    → closed ≡ false → steps ≤ most → steps < most
-open_below steps most closed closes is_open least =
-    by_place steps most (steps < most) (λ same. absurd (cc (sym (closes.1 same) ∙ is_open)))
-    (λ differ. omega (arith, differ, least))
 
 -- the moment of a step
 pub at_its_moment : (s : State) (now clock moment : ℕ) (same event : Event) → same ≡ event

@@ -11,7 +11,7 @@ use pools::Pool;
 use ras_core::{Snapshot, Zone};
 use ras_machine::{Machine, prepare};
 use std::alloc::AllocError;
-use zone_events::{Change, Event, Outcome, PoolChange};
+use zone_events::{Change, Event, Note, Outcome, PoolChange};
 
 /// Does a recorded step again. True is returned if and only if the machine has a step of this
 /// change with this outcome from where it stands; then the machine stands at the state after that
@@ -51,7 +51,9 @@ fn redo_event(machine: &mut Machine, event: &Event, outcome: &Outcome) -> Result
     let mut lender = Recorded {
         answer: outcome.answer,
     };
-    let again = machine.perform(now, course, outcome.given, &mut lender)?;
+    let mut again = Outcome::noted(Note::Idle, None);
+    again.given = outcome.given;
+    machine.perform(now, course, &mut lender, &mut again)?;
     Ok(again == *outcome)
 }
 

@@ -1,4 +1,4 @@
-use Rattle.std.proofs.Common.{◌≡◌, ◌∙◌, ap, sym, slice_set}
+use Rattle.std.proofs.Common.{◌∙◌, ap}
 use Rattle.pools.specs.Members.{accounts_of}
 use Rattle.zone_tables.specs.Pools.{figures_of}
 use Rattle.ras_core.specs.Tallies.{tallies_of}

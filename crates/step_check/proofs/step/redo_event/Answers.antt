@@ -2,7 +2,9 @@ use Rattle.std.proofs.Common.{◌∙◌, subst, sym}
 use Rattle.zone_events.specs.Events.{moment_in}
 use Rattle.ras_machine.specs.Machine.{most_steps}
 use Rattle.ras_machine.specs.Courses.{IsReady}
-use Rattle.step_check.proofs.Redoing.{absent, at_its_moment, found_shown, none_found, open_below}
+use Rattle.zone_tables.proofs.Answered.{on_ok}
+use Rattle.step_check.proofs.Redoing.{absent, at_its_moment, found_shown, none_found}
+use Rattle.ras_core.proofs.Responding.{open_below}
 use Rattle.step_check.proofs.Redoing.{redoes, unnamed}
 use Rattle.step_check.proofs.step.redo_event.Goals as goal
 
@@ -76,5 +78,7 @@ returns-clause-redoes c =
     c.in-Some.course
     (found_shown s now _ event (c.into_arrival.ensures.event ∙ is) outcome c.in_ok-course.field-0
     c.in-Some.course c.in-Some.is (c.in_ok-course.ensures (moment_in prepared)))
-    c.in_ok-again.again c.perform.new.self c.perform.new.lender c.eq.result c.eq.ensures
-    c.in_ok-again.ensures.performs c.in_ok-again.ensures.named c.in_ok-again.ensures.asks
+    c.perform.new.outcome c.perform.new.self c.perform.new.lender c.eq.result c.eq.ensures
+    (on_ok c.perform.result c.in_ok-perform.field-0 c.in_ok-perform.was c.perform.ensures.performs)
+    (on_ok c.perform.result c.in_ok-perform.field-0 c.in_ok-perform.was c.perform.ensures.named)
+    (on_ok c.perform.result c.in_ok-perform.field-0 c.in_ok-perform.was c.perform.ensures.asks)

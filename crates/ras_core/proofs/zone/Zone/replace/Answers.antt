@@ -8,7 +8,6 @@ use Rattle.ras_machine.specs.Replacing.{Replaces}
 use Rattle.ras_machine.specs.State.{State}
 use Rattle.ras_core.specs.Running.{Running}
 use Rattle.ras_core.specs.Replacing.{IsOldPool, IsRefusal, change_by, fault_unasked}
-use Rattle.ras_core.specs.Runs.{RunningReplacement}
 use Rattle.ras_core.specs.Tallies.{tallies_after_replacing, tallies_of}
 use Rattle.ras_core.proofs.TakingOver.{figures_replaced, found_open, may_replace, old_pool, refusal}
 use Rattle.ras_core.proofs.TakingOver.{tallies_replaced}

@@ -1,4 +1,4 @@
-use Rattle.std.proofs.Common.{◌≡◌, ◌<◌, ◌∙◌, ap, subst, sym}
+use Rattle.std.proofs.Common.{◌≡◌, ◌∙◌, ap, subst, sym}
 use Rattle.std.specs.Prelude.{max}
 use Rattle.zone_events.specs.Events.{moment_in}
 use Rattle.ras_core.specs.Running.{Running}
@@ -9,11 +9,12 @@ use Rattle.ras_machine.proofs.Choosing.{ready_of, course_shown}
 use Rattle.pools.specs.Members.{accounts_of}
 use Rattle.zone_tables.specs.Leaving.{AreSameButLent}
 use Rattle.zone_tables.specs.Pools.{figures_of}
+use Rattle.zone_tables.proofs.Answered.{on_ok}
 use Rattle.ras_core.specs.Runs.{RunningStep}
 use Rattle.ras_core.specs.Tallies.{tallies_after, tallies_of}
 use Rattle.ras_core.specs.inside.PoolTurns.{tallies_turned}
-use Rattle.ras_core.proofs.Responding.{running_step, tallies_counted, to_be_settled}
-use Rattle.ras_core.proofs.zone.Zone.respond.Goals as goal
+use Rattle.ras_core.proofs.Responding.{open_below, running_step, tallies_counted, to_be_settled}
+use Rattle.ras_core.proofs.zone.Zone.step_into.Goals as goal
 
 pub perform-requires-clause-ready : goal.perform-requires-clause-ready
 perform-requires-clause-ready g c =
@@ -33,9 +34,12 @@ settle-requires g c =
     let now = c.later-now.result in
     let called = course_of i.machine now c.in_ok-course.course in
     subst (AreSameButLent (figures_of (accounts_of c.perform.new.lender))) (sym c.pools.ensures)
-    (to_be_settled i.machine c.perform.new.self now called c.in_ok-outcome.outcome i.pools
-    c.perform.new.lender c.self.invariant.pools c.in_ok-outcome.ensures.performs
-    c.in_ok-outcome.ensures.asks)
+    (to_be_settled i.machine c.perform.new.self now called c.perform.new.outcome i.pools
+    c.perform.new.lender c.self.invariant.pools (on_ok c.perform.result c.in_ok-perform.field-0
+    c.in_ok-perform.was
+    c.perform.ensures.performs)
+    (on_ok c.perform.result c.in_ok-perform.field-0 c.in_ok-perform.was
+    c.perform.ensures.asks))
 
 pub returns-clause-step : goal.returns-clause-step
 returns-clause-step g c =
@@ -44,8 +48,9 @@ returns-clause-step g c =
     let now = c.later-now.result in
     let what = c.args.prepared in
     let new = c.perform.new.self in
-    let outcome = c.in_ok-outcome.outcome in
-    let performs = c.in_ok-outcome.ensures.performs in
+    let outcome = c.perform.new.outcome in
+    let performs = (on_ok c.perform.result c.in_ok-perform.field-0 c.in_ok-perform.was
+    c.perform.ensures.performs) in
     let chosen = subst (λ e. IsChosen s now e c.in_ok-course.course)
     c.into_arrival.ensures.event (c.in_ok-course.ensures (moment_in what)) in
     let clock_is = c.clock.ensures ∙ sym (ap (λ (r : Running). r.state.clock) c.self.view_is) in
@@ -55,11 +60,13 @@ returns-clause-step g c =
     course_shown s now what c.in_ok-course.course chosen outcome new performs
     ∙ ap (λ n. course_at s n what (choices_of outcome)) now_is in
     let counted = tallies_counted i.pools c.perform.new.lender c.settle.new.pools s.tables.pools
-    (course_of s now c.in_ok-course.course) outcome c.in_ok-outcome.ensures.asks
+    (course_of s now c.in_ok-course.course) outcome (on_ok c.perform.result c.in_ok-perform.field-0
+    c.in_ok-perform.was
+    c.perform.ensures.asks)
     (c.settle.ensures.tallies
     ∙ ap (tallies_turned (tallies_of c.perform.new.lender)) (c.is_pool_turn-turn.ensures s now)) in
-    let few = subst (λ (r : Running). r.state.steps < most_steps) (sym c.self.view_is)
-    c.requires.few in
+    let few = open_below s.steps most_steps c.is_closed.result c.is_closed.ensures
+    c.if-is_closed.false c.self.invariant.sound.steps in
     subst (λ (r : Running). RunningStep r what outcome
     (record { state = new; tallies = tallies_of c.settle.new.pools })) c.self.view_is
     (running_step (record { state = s; tallies = tallies_of i.pools }) what outcome new
