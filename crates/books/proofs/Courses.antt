@@ -101,7 +101,8 @@ module _ (s : State) (now : ℕ) where
   turns (Some (item.KeptOver born)) = tt
   turns (Some item.PoolTurn) = tt
 
-  pub along : (what : Event) (choices : Choices) → AddsAlong s (machine.course_at s now what choices)
+  pub along : (what : Event) (choices : Choices)
+      → AddsAlong s (machine.course_at s now what choices)
   along (event.Datagram source bytes moment) choices =
       messages (record { source = source; bytes = bytes }) choices.dropped (message_in bytes)
   along (event.Turn moment) choices = turns choices.item

@@ -13,9 +13,9 @@ use ras_machine::Machine;
 use std::marker::Model;
 
 /// A history that goes no further: the zone as it is left; its last entries; the state from which
-/// they lead to the zone, or nothing if that is the state of the zone itself; the place of the first
-/// of these entries in the whole history; and the totals of the entries before it, which were cut
-/// off as chapters or let go.
+/// they lead to the zone, or nothing if that is the state of the zone itself; the place of the
+/// first of these entries in the whole history; and the totals of the entries before it, which were
+/// cut off as chapters or let go.
 pub struct Finished<P: Pool> {
     zone: Zone<P>,
     base: Option<SharedSnapshot>,

@@ -197,7 +197,8 @@ pub do_apply_to : (x : Scene) (w : ℕ) (got new : WorkerState) (copied event : 
     → got ≡ get_or x.workers w got → Some copied ≡ event_of got.hand → event_of got.hand
     ≡ Some event → call ≡ length got.settled → RunningStep x.zone copied outcome after
     → place ≡ length before → new ≡ record got { hand = Done place } → before ≡ x.entries → base
-    ≡ x.base → entries ≡ before ++ entry_by w call (change.Event event) outcome ∷ [] → told ≡ outcome
+    ≡ x.base → entries ≡ before ++ entry_by w call (change.Event event) outcome ∷ []
+    → told ≡ outcome
     → (let y : Scene = record {
       base = base;
       zone = after;

@@ -8,11 +8,8 @@ use Rattle.std.proofs.lemmas.Option.{slice_get_within}
 use Rattle.zone_events.specs.declared.event.Event.{Event}
 use Rattle.zone_events.specs.declared.outcome.Datagram.{Datagram}
 use Rattle.ras_core.specs.Running.{Running}
-use Rattle.zone_events.specs.declared.change.Change.{Change}
-use Rattle.zone_events.specs.declared.change.Change.TheVariants as change
-use Rattle.zone_events.specs.declared.outcome.Outcome.{Outcome}
-use Rattle.ras_machine.specs.Soundness.{Sound}
-use Rattle.ras_core.specs.Runs.{ChangeStep, RunningChange}
+use Rattle.ras_core.proofs.Changing.{sound_after, step_of}
+use Rattle.ras_core.specs.Runs.{RunningChange}
 use Rattle.books.specs.declared.book.Entry.{Entry}
 use Rattle.books.specs.Books.{entries_of_seat}
 use Rattle.books.proofs.Entries.{run_more, counted_more, of_seat_more, of_own_seat, of_other_seat}
@@ -181,17 +178,6 @@ settled_all es w k event s holding =
     let split : entries_of_seat w es ≡ s.past = s.split
     ∙ (ap (λ xs. s.past ++ xs) none ∙ append-nil s.past) in
     sym s.marked ∙ ap length (sym split)
-
--- A step of a zone is one of its machine, and leads to a sound state.
-step_of : (old : Running) (what : Change) (outcome : Outcome) (new : Running)
-    → RunningChange old what outcome new → ChangeStep old.state what outcome new.state
-step_of old (change.Event event) outcome new step = step.step
-step_of old (change.PoolChange replacement) outcome new step = step.step
-
-sound_after : (old : Running) (what : Change) (outcome : Outcome) (new : Running)
-    → RunningChange old what outcome new → Sound new.state
-sound_after old (change.Event event) outcome new step = step.sound
-sound_after old (change.PoolChange replacement) outcome new step = step.sound
 
 pub order_apply : (x : Scene) (w : ℕ) (k : WorkerState) (event : Event) (e : Entry)
     (after : Running) → IsInOrder x → slice_get x.workers w ≡ Some k → e.seat ≡ w → e.call

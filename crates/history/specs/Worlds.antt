@@ -166,8 +166,8 @@ Happens x (Take w) (acted.Took output) y = Takes x w output y
 Happens x step told y = ⊥
 
 -- A fresh pool takes the place of one of the zone's, by one step, which is the last entry of the
--- book. No worker has made it: its seat is the number of workers, and its call is the number of such
--- steps before it. The workers stay as they are.
+-- book. No worker has made it: its seat is the number of workers, and its call is the number of
+-- such steps before it. The workers stay as they are.
 pub record ReplacesPool (x : Scene) (replacement : PoolChange) (outcome : Outcome) (y : Scene)
     : Type 0 where
   pub step : RunningReplacement x.zone replacement outcome y.zone

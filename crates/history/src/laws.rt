@@ -8,10 +8,9 @@ ghost use Rattle.history.specs.Orders.{AreServedInOrder, Deed, Interleaving, out
 
 use crate::world::{Acted, WorldStep};
 
-/// Whatever the workers do, in whichever order, and whichever pools are replaced meanwhile: the book
-/// leads from where the world began to the
-/// zone's state, the zone is sound, and each worker's replies are served in order. Where the world
-/// began stays.
+/// Whatever the workers do, in whichever order, and whichever pools are replaced meanwhile: the
+/// book leads from where the world began to the zone's state, the zone is sound, and each worker's
+/// replies are served in order. Where the world began stays.
 pub fn every_interleaving_is_in_order()
     ensures { (x y : Scene) (deeds : List Deed) → IsInOrder x
         → Interleaving x deeds y → IsInOrder y × (y.base ≡ x.base) }

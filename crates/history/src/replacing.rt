@@ -4,6 +4,8 @@ ghost use Rattle.std.specs.Prelude.{◌≡◌, ◌≢◌, IfErr, IfOk, MatchResu
 ghost use Rattle.pools.specs.Replacing.{IsHandedBack};
 ghost use Rattle.zone_events.specs.Events.{noted_outcome};
 ghost use Rattle.ras_core.specs.Replacing.{IsOldPool, IsRefusalOrMemory, change_by, fault_unasked};
+ghost use Rattle.ras_core.specs.Tallies.{tallies_after_replacing};
+ghost use Rattle.zone_tables.specs.Pools.{figures_at};
 ghost use Rattle.books.specs.Books.{entries_of_seat};
 ghost use Rattle.history.specs.Worlds.{IsInOrder, ReplacesPool};
 
@@ -22,6 +24,9 @@ impl<P: Pool> World<P> {
         ensures ok { OnOk result (ReplacesPool self.old
             (change_by pool (P.account fresh) moment)
             (noted_outcome (Note.Replaced pool) None) self.new) }
+        ensures tallies { IfOk result (λ _. self.new.zone.tallies
+            ≡ tallies_after_replacing self.old.zone.tallies pool (P.account fresh)
+            (figures_at self.old.zone.state.tables.pools pool).lent) }
         ensures old_pool { IfOk result (λ old. IsOldPool self.old.zone pool (P.account old)) }
         ensures fault { MatchResult result
             (λ _. fault_unasked self.old.zone.state pool (P.account fresh) ≡ None)

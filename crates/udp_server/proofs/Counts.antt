@@ -7,7 +7,8 @@ use Rattle.books.specs.Totals.{changes_of, datagrams_of, no_totals, totals_with,
 use Rattle.zone_lock.proofs.Counted.{all_counted}
 
 pub few_counted : (f : FinishedValue) (carried since : Totals) (es : List Entry)
-    → f.carried.datagrams + f.carried.turns + f.carried.changes ≡ f.first → f.first + length f.entries ≤ 2 ^ 62
+    → f.carried.datagrams + f.carried.turns + f.carried.changes ≡ f.first
+    → f.first + length f.entries ≤ 2 ^ 62
     → carried ≡ f.carried → es ≡ f.entries → since ≡ totals_with no_totals es 0
     → (carried.datagrams + since.datagrams < 2 ^ 64) × (carried.turns + since.turns < 2 ^ 64)
     × (carried.changes + since.changes < 2 ^ 64)

@@ -1,6 +1,6 @@
 //! The server of a zone behind a lock: a worker for each end that receives datagrams, one worker
-//! for the turns of the timers and the pools that are replaced, and a sender. Each worker makes its steps under the lock and hands
-//! replies to the sender over a ring of its own.
+//! for the turns of the timers and the pools that are replaced, and a sender. Each worker makes its
+//! steps under the lock and hands replies to the sender over a ring of its own.
 #![tactic(auto)]
 
 mod board;

@@ -38,8 +38,8 @@ pub(crate) struct Crew<
     pub(crate) orders: Orders<P>,
 }
 
-/// What the threads leave: what each worker leaves, in order; what came back of the orders; and what
-/// was sent.
+/// What the threads leave: what each worker leaves, in order; what came back of the orders; and
+/// what was sent.
 #[derive(Drop)]
 pub(crate) struct CrewRecord<P: Pool, D: Hall, T: Ledger, U: Ledger, V: Ledger> {
     pub(crate) workers: Vec<WorkerRecord<D, T, U, V>>,

@@ -10,6 +10,7 @@ use Rattle.zone_events.specs.declared.change.Change.TheVariants.{Event, PoolChan
 use Rattle.zone_events.specs.declared.outcome.Outcome.{Outcome}
 use Rattle.ras_machine.specs.State.{State}
 use Rattle.ras_core.specs.Running.{Running}
+use Rattle.ras_core.proofs.Changing.{sound_after, step_of}
 use Rattle.ras_core.specs.Runs.{ChangeStep, RunningChange}
 use Rattle.books.specs.declared.book.Entry.{Entry}
 use Rattle.books.specs.declared.totals.Totals.{Totals}
@@ -47,17 +48,6 @@ longer h entry after = record {
   entries = h.entries ++ entry ∷ [];
   zone = after;
 }
-
--- A step of a zone is one of its machine, and leads to a sound state.
-step_of : (old : Running) (event : Change) (outcome : Outcome) (new : Running)
-    → RunningChange old event outcome new → ChangeStep old.state event outcome new.state
-step_of old (Event event) outcome new step = step.step
-step_of old (PoolChange replacement) outcome new step = step.step
-
-sound_after : (old : Running) (event : Change) (outcome : Outcome) (new : Running)
-    → RunningChange old event outcome new → Sound new.state
-sound_after old (Event event) outcome new step = step.sound
-sound_after old (PoolChange replacement) outcome new step = step.sound
 
 kept_more : (opened : State) (h : Held) (entry : Entry) (after : Running) → IsKept opened h
     → RunningChange h.zone entry.event entry.outcome after → IsKept opened (longer h entry after)

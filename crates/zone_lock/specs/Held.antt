@@ -120,8 +120,8 @@ pub record IsStepUnderLock (opened : State) (place : ℕ) (entry : Entry) : Type
   pub first : new.first ≡ old.first
   pub is_at : place ≡ old.first + length old.entries
 
--- a pool was replaced by one step: its entry stands behind the others then, and the old pool, seen as
--- this account, came back with nothing lent
+-- a pool was replaced by one step: its entry stands behind the others then, and the old pool, seen
+-- as this account, came back with nothing lent
 pub record IsReplacedUnderLock (opened : State) (place : ℕ) (entry : Entry) (pool : ℕ)
     (back : Account) : Type 0 where
   pub made : IsStepUnderLock opened place entry

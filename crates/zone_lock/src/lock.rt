@@ -179,9 +179,9 @@ impl<P: Pool, D: Hall, T: Ledger, U: Ledger, V: Ledger> ZoneLock<P, D, T, U, V> 
         }
     }
 
-    /// Waits for the lock and puts a fresh pool in the place of the zone's pool with this number, as
-    /// `replace_locked` does. The old pool comes back with nothing lent; or nothing changes, and the
-    /// fresh pool comes back.
+    /// Waits for the lock and puts a fresh pool in the place of the zone's pool with this number,
+    /// as `replace_locked` does. The old pool comes back with nothing lent; or nothing changes, and
+    /// the fresh pool comes back.
     pub fn replace<R: Wait>(
         &self,
         rt: &R,

@@ -111,7 +111,8 @@ pub(crate) fn make_step<P: Pool, D: Hall, T: Ledger, U: Ledger, V: Ledger>(
     ensures step { IfOk result (λ receipt.
         RunningStep locked.old.zone order.prepared receipt.outcome locked.new.zone) }
     ensures entry { IfOk result (λ receipt. locked.new.entries ≡ locked.old.entries
-        ++ entry_by seat.old.number seat.old.calls (Change.Event order.prepared) receipt.outcome ∷ []) }
+        ++ entry_by seat.old.number seat.old.calls (Change.Event order.prepared)
+        receipt.outcome ∷ []) }
     ensures receipt { IfOk result (λ receipt. receipt
         ≡ receipt_at (locked.old.first + length locked.old.entries)
         (entry_by seat.old.number seat.old.calls (Change.Event order.prepared) receipt.outcome)) }

@@ -30,8 +30,10 @@ invariant_of-locked g c =
           l.ledgers.changes.total)
           (sym first_is)
           (subst (λ (s : Option State). IsInside g.D.Hall.opened
-          (cut_so (l.first + length l.entries.items) carried s c.replace-entries.new.dest.items l.zone)
-          carried l.opened_units l.ledgers.datagrams.total l.ledgers.turns.total l.ledgers.lent.total
+          (cut_so (l.first + length l.entries.items) carried s c.replace-entries.new.dest.items
+          l.zone)
+          carried l.opened_units l.ledgers.datagrams.total l.ledgers.turns.total
+          l.ledgers.lent.total
           l.ledgers.changes.total)
           (sym base_is)
           (subst (λ (es : List Entry). IsInside g.D.Hall.opened

@@ -11,7 +11,8 @@ new-requires g c =
     let h = cut_so l.first l.carried l.base l.entries.items l.zone in
     let none = subst (λ (x : Held). x.base ≡ None → x.entries ≡ []) (sym c.first.view_is)
     c.settled.ensures.begun in
-    (rest_of g.D.Hall.opened h (left_of h (base_or l.base l.zone.state)) c.first.invariant.0.kept none
+    (rest_of g.D.Hall.opened h (left_of h (base_or l.base l.zone.state)) c.first.invariant.0.kept
+    none
     refl
     refl refl refl refl).run
 

@@ -50,7 +50,8 @@ invariant_of-locked-2 g c =
           (inside_more g.D.Hall.opened
           (cut_so c.locked.inside.first c.locked.inside.carried c.locked.inside.base
           c.locked.inside.entries.items c.locked.inside.zone) c.locked.inside.so_far next.result
-          c.locked.inside.opened_units _ _ _ _ _ _ _ _ entry c.step_prepared.new.self c.locked.invariant.0 step
+          c.locked.inside.opened_units _ _ _ _ _ _ _ _ entry c.step_prepared.new.self
+          c.locked.invariant.0 step
           next.ensures.few next.ensures.datagrams next.ensures.turns next.ensures.lent
           next.ensures.returned next.ensures.changes
           (omega (arith, c.count.ensures.datagrams, c.audit.ensures.datagrams))

@@ -8,7 +8,8 @@ pub returns-in-Ok-clause-step : goal.returns-in-Ok-clause-step
 returns-in-Ok-clause-step g c =
     let told = c.make_step.ensures in
     step_told g.D.Hall.opened c.make_step.result _ _ _ _ _ _ c.in-Ok.ensures.seat
-    (ap change.Event c.in-Ok.ensures.prepared) told.before told.kept told.step told.entry told.receipt told.first
+    (ap change.Event c.in-Ok.ensures.prepared) told.before told.kept told.step told.entry
+    told.receipt told.first
 
 pub returns-in-Ok-clause-closed : goal.returns-in-Ok-clause-closed
 returns-in-Ok-clause-closed g c is =
