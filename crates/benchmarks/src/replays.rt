@@ -3,7 +3,7 @@
 use crate::requests::{Endpoint, admission, disengage, keep_alive};
 use crate::zones::{MOST_KEPT, datagram, register_all, zone_of};
 use anyhow::{Context, Result, bail, ensure};
-use book_replay::replays;
+use book_audit::replays;
 use books::{Book, Entry};
 use pools::FixedPool;
 use ras_core::{Change, Event, Moment, Note, Outcome, Zone};

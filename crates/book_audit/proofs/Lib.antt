@@ -4,3 +4,4 @@ pub mod Joining
 pub mod Places
 pub mod GoodReceipts
 pub mod WholeHistory
+pub mod Remaining

@@ -57,8 +57,8 @@ pub record IsJoined (chapters : List ChapterValue) (finished : FinishedValue) : 
   pub carried : finished.carried ≡ chapters_totals chapters
 
 -- The totals of entries that lead from one state to another: how many are of datagrams, of turns
--- and of pools that took the place of others, and what was lent in them. What was in use before, plus what was lent, is what is in
--- use after, plus what came back.
+-- and of pools that took the place of others, and what was lent in them. What was in use before,
+-- plus what was lent, is what is in use after, plus what came back.
 pub record AreTotals (base : State) (entries : List Entry) (now : State) (totals : Totals)
     : Type 0 where
   pub datagrams : totals.datagrams ≡ datagrams_of entries

@@ -1,12 +1,15 @@
-//! The audit of a history: whether its chapters, what is left of it, and the receipts that callers
-//! were given belong together. Nothing here makes a step.
+//! The checks of what was recorded: whether the steps of a book lead from its base to a zone, and
+//! whether the chapters of a history, what is left of it, and the receipts that callers were given
+//! belong together. Nothing here makes a step of the zone itself.
 #![tactic(auto)]
 
 mod auditing;
 mod fault;
 mod joined;
 mod receipts;
+mod replay;
 mod sums;
 
 pub use auditing::audit;
 pub use fault::AuditFault;
+pub use replay::replays;

@@ -107,7 +107,8 @@ fn is_receipt_of(receipt: &Receipt, entry: &Entry) -> bool
         && is_same_outcome(&entry.outcome, &receipt.outcome)
 }
 
-/// Whether two steps are of the same: of the same event, or of the same fresh pool for the same one.
+/// Whether two steps are of the same: of the same event, or of the same fresh pool for the same
+/// one.
 fn is_same_change(a: &Change, b: &Change) -> bool
     ensures { IsTrue result ↔ (a.now ≡ b.now) }
 {

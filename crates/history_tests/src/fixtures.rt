@@ -1,6 +1,6 @@
 //! A world over the zone of the worked examples, and what its workers do.
 
-use book_replay::replays;
+use book_audit::replays;
 use history::{Acted, World, WorldFault, WorldStep};
 use pools::{FixedPool, PoolSet};
 use ras_core::{Config, ConfigParts, Moment, Networks, Zone};

@@ -63,8 +63,8 @@ fn is_of_replacement(receipt: &Receipt) -> bool {
         && receipt.place == 3
 }
 
-/// Whether the audit counts three datagrams, 1,280 units lent, none of which came back, and one pool
-/// that was replaced; 1,280 units are in use.
+/// Whether the audit counts three datagrams, 1,280 units lent, none of which came back, and one
+/// pool that was replaced; 1,280 units are in use.
 fn is_counted<P: Pool>(finished: &Finished<P>, receipts: &[Receipt]) -> bool {
     match audit(&[], finished, receipts) {
         Ok(totals) => {

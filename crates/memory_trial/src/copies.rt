@@ -1,10 +1,10 @@
 //! The copies of values that take memory, made again if they were refused.
 
 use ras_module::{
-    AdmissionRequest, Alias, AliasList, BmpString, CallKey, DialledDigits, EndpointId, Octets,
-    RegistrationRejectReason, Reply, ReplyAliases, Request, RequestSeqNum,
+    AdmissionRequest, Alias, AliasList, BmpString, Boxed, CallKey, DialledDigits, EndpointId,
+    Octets, RegistrationRejectReason, Reply, ReplyAliases, Request, RequestSeqNum,
 };
-use std::alloc::Global;
+use std::alloc::{AllocError, Global};
 
 const TWICE: &str = "a copy was refused twice";
 
@@ -36,7 +36,8 @@ fn octets(alloc: Global) -> Result<(), &'static str> {
     Ok(())
 }
 
-fn request(alloc: Global, seq: RequestSeqNum) -> Result<(), &'static str> {
+/// A list without its doubles.
+fn distinct(alloc: Global) -> Result<(), &'static str> {
     let list = doubled(alloc)?;
     let distinct = list
         .distinct()
@@ -45,15 +46,34 @@ fn request(alloc: Global, seq: RequestSeqNum) -> Result<(), &'static str> {
     if distinct.len() != 1 {
         return Err(OTHERWISE);
     }
-    let request = Request::Arq(AdmissionRequest {
+    Ok(())
+}
+
+/// An AdmissionRequest in its box. If its memory is refused, the list is let go.
+fn admission(
+    alloc: Global,
+    seq: RequestSeqNum,
+    endpoint: EndpointId,
+    dest: AliasList,
+) -> Result<Request, AllocError> {
+    let request = AdmissionRequest {
         seq,
-        endpoint: EndpointId::new(BmpString::new(&[48]).ok_or("no text")?),
-        dest: list,
+        endpoint,
+        dest,
         dest_address: None,
         asked: 1280,
         call: CallKey { octets: [1; 16] },
         answer: false,
-    });
+    };
+    Ok(Request::Arq(Boxed::new(alloc, request)?))
+}
+
+fn request(alloc: Global, seq: RequestSeqNum) -> Result<(), &'static str> {
+    let endpoint = EndpointId::new(BmpString::new(&[48]).ok_or("no text")?);
+    let request = match admission(alloc, seq, endpoint, doubled(alloc)?) {
+        Ok(request) => request,
+        Err(_) => admission(alloc, seq, endpoint, doubled(alloc)?).map_err(|_| TWICE)?,
+    };
     let copy = request
         .copy()
         .or_else(|_| request.copy())
@@ -84,6 +104,7 @@ fn reply(alloc: Global, seq: RequestSeqNum) -> Result<(), &'static str> {
 pub fn copies(alloc: Global) -> Result<(), &'static str> {
     let seq = RequestSeqNum::new(1).ok_or("no number")?;
     octets(alloc)?;
+    distinct(alloc)?;
     request(alloc, seq)?;
     reply(alloc, seq)
 }

@@ -6,7 +6,7 @@ ghost use Rattle.std.specs.Prelude.{◌<◌, OnOk, vec_len, vec_capacity};
 
 use crate::rehearsal::{Stage, step};
 use crate::sights::sight_of;
-use book_replay::replays;
+use book_audit::replays;
 use books::{Book, Entry};
 use pools::Pool;
 use ras_core::{Change, Event, Outcome, Snapshot};

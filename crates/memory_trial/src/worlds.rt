@@ -3,7 +3,7 @@
 
 use crate::rehearsal::Stage;
 use crate::sights::sight_of;
-use book_replay::replays;
+use book_audit::replays;
 use history::{Acted, World, WorldFault, WorldStep};
 use pools::Pool;
 use ras_core::{Event, Outcome, Zone};

@@ -1,7 +1,7 @@
 //! Whether a book is a run, and no longer one once an entry of it is changed.
 
 use crate::fixtures::{ENDPOINT, call, zone};
-use book_replay::replays;
+use book_audit::replays;
 use books::{Book, Entry};
 use pools::{FixedPool, Lend};
 use ras_core::{Datagram, Note, Zone};

@@ -2,7 +2,7 @@
 //! changed.
 
 use crate::fixtures::{call, zone};
-use book_replay::replays;
+use book_audit::replays;
 use books::{Book, Entry};
 use pools::{Figures, FixedPool};
 use ras_core::{Change, Moment, Note, PoolChange, Zone, figures_of};

@@ -103,8 +103,8 @@ fn units_of<P: Pool>(zone: &Zone<CountingPool<P>>) -> Result<Option<(u32, Option
 }
 
 /// Whether the first call opens with 1,280 units, which is all that it wants, and a request behind
-/// it gets this answer of the pool and this reply. The pool is then seen so, and these are the units
-/// of the first call, and of the second one if there are two.
+/// it gets this answer of the pool and this reply. The pool is then seen so, and these are the
+/// units of the first call, and of the second one if there are two.
 fn is_second_told(
     alloc: Global,
     zone: &mut Zone<CountingPool<FixedPool>>,

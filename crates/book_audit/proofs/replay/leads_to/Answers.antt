@@ -1,7 +1,7 @@
 use Rattle.std.proofs.Common.{◌≡◌, ◌<◌, ◌≤◌, List, length, get_or, rules, subst}
 use Rattle.books.specs.declared.book.Entry.{Entry}
-use Rattle.book_replay.proofs.Remaining.{at_end, at_first, goes_on, stops}
-use Rattle.book_replay.proofs.replay.leads_to.Goals as goal
+use Rattle.book_audit.proofs.Remaining.{at_end, at_first, goes_on, stops}
+use Rattle.book_audit.proofs.replay.leads_to.Goals as goal
 
 pub loop-entry-init : goal.loop-entry-init
 loop-entry-init c =

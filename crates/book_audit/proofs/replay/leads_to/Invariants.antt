@@ -1,6 +1,6 @@
 use Rattle.std.proofs.Common.{drop}
-use Rattle.book_replay.proofs.Remaining.{IsLeft}
-use Rattle.book_replay.proofs.replay.leads_to.Given as goal
+use Rattle.book_audit.proofs.Remaining.{IsLeft}
+use Rattle.book_audit.proofs.replay.leads_to.Given as goal
 
 -- the entries from here on lead to where the book leads
 abbrev pub invariant-loop-entry : goal.invariant-loop-entry
