@@ -6,3 +6,5 @@ pub mod Printing
 pub mod Offers
 pub mod Running
 pub mod Starting
+pub mod Digits
+pub mod Marks

@@ -70,8 +70,8 @@ pub enum RunFault {
     /// A write failed.
     #[error("stream failed")]
     Stream,
-    /// The pools are not as many as the script's, or one of them is not idle, or the fresh pools are
-    /// not as many as its events name; nothing was written.
+    /// The pools are not as many as the script's, or one of them is not idle, or the fresh pools
+    /// are not as many as its events name; nothing was written.
     #[error("wrong pools")]
     WrongPools,
 }

@@ -1,17 +1,16 @@
 //! The lines of a script.
 
 ghost use Rattle.std.specs.Prelude.{◌≡◌, IfOk};
-ghost use Rattle.script.specs.Fields.{octets_of};
 ghost use Rattle.script.specs.Lines.{zone_line, set_line, pool_line, moment_of, event_of, at_line};
 ghost use Rattle.script.specs.Lines.{turn_line, number_of_pool, replace_line, line_of};
 
 use crate::event::{Replacement, ScriptEvent};
+use crate::hex_digits::octets_of;
 use crate::pool::{PoolLine, fresh_pool};
 use crate::setting::Setting;
 use crate::words::Words;
-use hex::FromHexError;
 use ras_core::{Event, Moment};
-use ras_module::{Address, Name, Octets};
+use ras_module::{Address, Name};
 use std::alloc::{AllocError, Global};
 use value_texts::{address_of, is_word, name_of, number_of};
 
@@ -56,17 +55,6 @@ fn pool_line(words: Words) -> Option<Line>
     ensures { result ≡ pool_line words.entry }
 {
     Some(Line::Pool(PoolLine::new(words)?))
-}
-
-/// The octets that a word writes as pairs of hexadecimal digits.
-fn octets_of(alloc: Global, word: &[u8]) -> Result<Option<Octets>, AllocError>
-    ensures { IfOk result (λ octets. octets ≡ octets_of word.now) }
-{
-    match hex::decode(alloc, word) {
-        Ok(octets) => Ok(Some(Octets::from_vec(octets))),
-        Err(FromHexError::OutOfMemory) => Err(AllocError),
-        Err(_) => Ok(None),
-    }
 }
 
 /// The event of a datagram, by the words of its line.

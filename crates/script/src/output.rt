@@ -2,7 +2,7 @@
 
 ghost use Rattle.std.specs.Prelude.{◌≡◌, false, OnOk, IsTrue};
 ghost use Rattle.std.specs.Io.{WritesAtMost};
-ghost use Rattle.std.specs.Io.KnownBytes.{Keeps, WriteAppends};
+ghost use Rattle.std.specs.Io.KnownBytes.{Appends, Keeps, WriteAppends};
 
 use std::io;
 use std::io::Write;
@@ -54,6 +54,16 @@ impl<W: Write + Drop> Write for Output<W> {
     {
         self.flushed = false;
         self.writer.write(buf)
+    }
+
+    // A writer with a buffer takes all in one step, which the loop over `write` would not see.
+    #[inline(always)]
+    fn write_all(&mut self, buf: &[u8]) -> io::Result<()>
+        ensures bytes { OnOk result (Appends self.old.contents self.new.contents buf.now) }
+        ensures flushed { self.new.flushed ≡ false }
+    {
+        self.flushed = false;
+        self.writer.write_all(buf)
     }
 
     fn flush(&mut self) -> io::Result<()>

@@ -1,13 +1,13 @@
 //! Printing outcomes.
 
-ghost use Rattle.std.specs.Prelude.{◌≡◌, ◌+◌, ◌<◌, ◌≤◌, OnOk, length, slice_index};
+ghost use Rattle.std.specs.Prelude.{◌≡◌, ◌+◌, ◌≤◌, OnOk, length};
 ghost use Rattle.std.specs.Io.KnownBytes.{Appends};
-ghost use Rattle.hex.specs.Hex.{encode_upper, upper_digits};
+ghost use Rattle.hex.specs.Hex.{encode_upper};
 ghost use Rattle.script.specs.Prints.{character_of, identifier_text, cause_text, item_text};
 ghost use Rattle.script.specs.Prints.{note_text, answer_text, dropped_text, address_text};
 ghost use Rattle.script.specs.Prints.{output_text, outcome_line, outcome_lines, refusal_line};
 
-use arrayvec::ArrayVec;
+use crate::hex_digits::put_digits;
 use pools::{Lend, ReplaceFault};
 use ras_core::{Datagram, DueItem, IgnoredCause, Note, Outcome};
 use ras_module::{Address, EndpointId};
@@ -15,7 +15,7 @@ use std::io;
 use std::io::Write;
 
 /// The octets whose digits are written in one piece.
-const OCTETS_AT_ONCE: usize = 32;
+const OCTETS_AT_ONCE: usize = 64;
 
 /// The character with this code; U+FFFD if it has none.
 fn character_of(code: u16) -> char
@@ -89,25 +89,16 @@ fn write_note<W: Write>(note: &Note, out: &mut W) -> io::Result<()>
     }
 }
 
-/// The hexadecimal digit of a number below 16.
-fn digit(number: u8) -> u8
-    requires { number < 16 }
-    ensures { result ≡ slice_index upper_digits number }
+/// Writes the digits of at most 64 octets.
+fn write_digits<W: Write>(octets: &[u8], out: &mut W) -> io::Result<()>
+    requires { length octets.now ≤ 64 }
+    ensures { OnOk result (Appends (W.contents out.old) (W.contents out.new)
+        (encode_upper octets.now)) }
 {
-    b"0123456789ABCDEF"[usize::from(number)]
-}
-
-/// The digits of at most 32 octets.
-fn digits_of(octets: &[u8]) -> ArrayVec<u8, 64>
-    requires { length octets.now ≤ 32 }
-    ensures { result.items ≡ encode_upper octets.now }
-{
-    let mut digits = ArrayVec::new();
-    for octet in octets {
-        digits.push(digit(*octet / 16));
-        digits.push(digit(*octet % 16));
-    }
-    digits
+    let mut room = [0u8; 2 * OCTETS_AT_ONCE];
+    let digits = &mut room[..2 * octets.len()];
+    put_digits(octets, digits);
+    out.write_all(digits)
 }
 
 fn write_hex<W: Write>(octets: &[u8], out: &mut W) -> io::Result<()>
@@ -117,7 +108,7 @@ fn write_hex<W: Write>(octets: &[u8], out: &mut W) -> io::Result<()>
     let mut rest = octets;
     while !rest.is_empty() {
         let (some, others) = rest.split_at(rest.len().min(OCTETS_AT_ONCE));
-        out.write_all(&digits_of(some))?;
+        write_digits(some, out)?;
         rest = others;
     }
     Ok(())

@@ -9,11 +9,11 @@ use crate::event::Events;
 use crate::fault::ScriptFault;
 use crate::input::{Input, read_whole};
 use crate::line::line_of;
+use crate::long_parts::long_parted;
 use pools::PoolSpecs;
 use ras_core::Config;
 use std::alloc::Global;
 use std::io::Read;
-use value_texts::parted;
 
 /// A script: the configuration of its zone, the pools that it is to have, one for each network of
 /// the configuration, and its events, some of which may replace a pool.
@@ -33,7 +33,7 @@ fn script_of(alloc: Global, text: &[u8]) -> Result<Script, ScriptFault>
     let mut rest = text;
     let mut number = 0;
     while !rest.is_empty() {
-        let (line, others) = parted(rest, b'\n');
+        let (line, others) = long_parted(rest, b'\n');
         rest = others;
         number += 1;
         let Some(line) = line_of(alloc, line)? else {

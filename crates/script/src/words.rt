@@ -3,8 +3,8 @@
 ghost use Rattle.std.specs.Prelude.{◌≡◌, ◌∷◌, [], MatchOption};
 ghost use Rattle.script.specs.Words.{words_of};
 
+use crate::long_parts::long_parted;
 use std::marker::Model;
-use value_texts::parted;
 
 /// The words of a line that are left. Contracts see the list of them.
 #[derive(Drop)]
@@ -34,7 +34,7 @@ impl<'a> Words<'a> {
         ensures { MatchOption result (self.old ≡ []) (λ word. self.old ≡ word.now ∷ self.new) }
     {
         while !self.rest.is_empty() {
-            let (word, rest) = parted(self.rest, b' ');
+            let (word, rest) = long_parted(self.rest, b' ');
             self.rest = rest;
             if !word.is_empty() {
                 return Some(word);

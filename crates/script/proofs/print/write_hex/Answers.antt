@@ -1,4 +1,4 @@
-use Rattle.std.proofs.Common.{rules, [], ◌++◌, List, ℕ, refl, sym, ap, subst, ◌∙◌, append_assoc}
+use Rattle.std.proofs.Common.{[], ◌++◌, List, ℕ, refl, sym, ap, subst, ◌∙◌, append_assoc}
 use Rattle.std.specs.Io.KnownBytes.{Appends}
 use Rattle.std.proofs.KnownBytes.{Appends-nil, Appends-trans}
 use Rattle.hex.specs.Hex.{encode_upper, encode_with}
@@ -16,14 +16,12 @@ loop-rest-preserved g c =
     let others = c.split_at.result.1.now in
     let start = g.W.Write.contents c.args.out.now in
     let before = g.W.Write.contents c.loop-rest.out in
-    let after = g.W.Write.contents c.write_all.new.self in
-    let wrote : Appends before after (encode_upper some) =
-    search (rules, c.deref.ensures, c.digits_of.ensures, c.in_ok-write_all.ensures.bytes) in (
+    let after = g.W.Write.contents c.write_digits.new.out in (
       front ++ some,
       c.loop-rest.invariant.1
           ∙ ap (λ (t : List ℕ). front ++ t) c.split_at.ensures.by_index.0
           ∙ sym (append_assoc front some others),
       subst (λ (t : List ℕ). Appends start after t) (sym (encode_upper-append front some))
           (Appends-trans start before after (encode_upper front) (encode_upper some)
-          c.loop-rest.invariant.2 wrote),
+          c.loop-rest.invariant.2 c.in_ok-write_digits.ensures),
     )

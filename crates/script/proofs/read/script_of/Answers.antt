@@ -21,7 +21,8 @@ pub returns-in_default : goal.returns-in_default
 returns-in_default c =
     c.loop-rest.invariant.answer
     ∙ unread_line (c.loop-rest.number + 1) c.loop-rest.draft c.loop-rest.rest.now
-    c.parted.result.0.now c.parted.result.1.now c.parted.ensures.front c.parted.ensures.rest
+    c.long_parted.result.0.now c.long_parted.result.1.now
+    c.long_parted.ensures.front c.long_parted.ensures.rest
     (sym c.in_ok-line.ensures ∙ c.in_default.is)
 
 pub returns-then-not-takes : goal.returns-then-not-takes
@@ -30,25 +31,25 @@ returns-then-not-takes c =
     λ may. absurd (cc (c.takes.ensures.1 may, c.if-not-takes.true)) in
     c.loop-rest.invariant.answer
     ∙ misplaced_line (c.loop-rest.number + 1) c.loop-rest.draft c.loop-rest.rest.now
-    c.parted.result.0.now c.parted.result.1.now c.in-Some.line
-    c.parted.ensures.front c.parted.ensures.rest
+    c.long_parted.result.0.now c.long_parted.result.1.now c.in-Some.line
+    c.long_parted.ensures.front c.long_parted.ensures.rest
     (sym c.in_ok-line.ensures ∙ c.in-Some.is) not_so
 
 pub loop-rest-preserved : goal.loop-rest-preserved
 loop-rest-preserved c =
     let may : MayFollow c.loop-rest.draft c.in-Some.line = c.takes.ensures.0 (search rules) in
     let some : 0 < length c.loop-rest.rest.now = grind (arith, nat_tests) in
-    let shorter : length c.parted.result.1.now < length c.loop-rest.rest.now =
-    rw c.parted.ensures.rest (rest_shorter 10 c.loop-rest.rest.now some) in
+    let shorter : length c.long_parted.result.1.now < length c.loop-rest.rest.now =
+    rw c.long_parted.ensures.rest (rest_shorter 10 c.loop-rest.rest.now some) in
     record {
       few = omega (arith, c.loop-rest.invariant.few, shorter);
       answer = c.loop-rest.invariant.answer
           ∙ answer_more (c.loop-rest.number + 1) c.loop-rest.draft c.loop-rest.rest.now
-          c.parted.result.0.now c.parted.result.1.now c.in-Some.line
-          c.parted.ensures.front c.parted.ensures.rest
+          c.long_parted.result.0.now c.long_parted.result.1.now c.in-Some.line
+          c.long_parted.ensures.front c.long_parted.ensures.rest
           (sym c.in_ok-line.ensures ∙ c.in-Some.is) may
           ∙ ap (λ (said : Said). answer_from (c.loop-rest.number + 1 + 1) said
-          (readings c.parted.result.1.now)) (sym c.in_ok-add.ensures);
+          (readings c.long_parted.result.1.now)) (sym c.in_ok-add.ensures);
     }
 
 pub returns : goal.returns

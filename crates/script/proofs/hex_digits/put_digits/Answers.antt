@@ -1,0 +1,13 @@
+use Rattle.std.proofs.Common.{arith}
+use Rattle.hex.specs.Hex.{upper_digits}
+use Rattle.hex.proofs.Pairs.{encode_step, encode_done}
+use Rattle.script.proofs.hex_digits.put_digits.Goals as goal
+
+pub loop-i-preserved : goal.loop-i-preserved
+loop-i-preserved c =
+    encode_step upper_digits c.args.octets.now c.loop-i.digits c.loop-i.i _ _
+    (omega arith) (omega arith) c.digit_of.ensures c.digit_of-in-loop-i.ensures c.loop-i.invariant
+
+pub returns : goal.returns
+returns c =
+    encode_done upper_digits _ _ c.loop-i.i (omega arith) (omega arith) c.loop-i.invariant
