@@ -9,3 +9,4 @@ pub mod OpenTypesWritten
 pub mod AdditionsWritten
 pub mod ReasonsWritten
 pub mod RepliesRead
+mod EncodedReplies

@@ -3,3 +3,4 @@ pub mod Replies
 pub mod Chain
 pub mod ReplyGrammar
 pub mod Properties
+pub mod Encoded

@@ -2,7 +2,9 @@
 //! (ITU-T X.691).
 #![tactic(auto)]
 
+mod encoded;
 mod encoder;
 mod reply;
 
+pub use encoded::EncodedReply;
 pub use reply::{write_into, write_reserved};

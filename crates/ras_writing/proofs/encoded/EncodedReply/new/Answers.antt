@@ -1,0 +1,13 @@
+use Rattle.std.proofs.Common.{◌≤◌, List, ℕ, length, ◌∙◌, subst, sym}
+use Rattle.ras_writing.proofs.EncodedReplies.{encoded, read_from}
+use Rattle.ras_writing.proofs.encoded.EncodedReply.new.Goals as goal
+
+pub invariant_of-result : goal.invariant_of-result
+invariant_of-result c =
+    encoded c.args.reply.now c.filled.result.items c.requires.reads_back
+    (c.filled.ensures ∙ c.requires.written)
+    (subst (λ (t : List ℕ). length t ≤ 20000) (sym c.filled.ensures) c.requires.few)
+
+pub returns : goal.returns
+returns c = read_from c.args.reply.now c.filled.result.items c.requires.reads_back
+    (c.filled.ensures ∙ c.requires.written)
