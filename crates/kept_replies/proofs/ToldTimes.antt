@@ -13,7 +13,8 @@ use Rattle.std.proofs.lemmas.Map.Entries.{sum_by-set_value}
 use Rattle.std.proofs.lemmas.Option.{slice_get_within, slice_get-map, get_or_from_slice_get}
 use Rattle.indexmap.specs.IndexMap.{IndexMap}
 use Rattle.indexmap.proofs.SetLemmas.{map-swap_remove}
-use Rattle.kept_replies.specs.Kept.{named_by, identifier_in, reply_in, postponed_in}
+use Rattle.kept_replies.specs.Kept.{named_by, reply_in, postponed_in}
+use Rattle.kept_replies.specs.Told.{identifier_in}
 use Rattle.kept_replies.specs.declared.entry.KeptState.{KeptState}
 use Rattle.kept_replies.specs.declared.entry.KeptState.TheVariants.{Done, Pending}
 use Rattle.kept_replies.specs.Keys.{same_key}

@@ -8,10 +8,9 @@ use Rattle.std.specs.Ordering.{nat_cmp}
 use Rattle.std.specs.FinMap.{FinMap, get, remove, len, entries, from_entries}
 use Rattle.keyed.specs.Places as places
 use Rattle.ras_module.specs.declared.reply.Reply.{Reply}
-use Rattle.ras_module.specs.declared.reply.Reply.TheVariants.{Rcf}
-use Rattle.ras_module.specs.contracts.reply.ReplyPartialEq.TheImpl as reply_eq
 use Rattle.ras_module.specs.declared.request.Request.{Request}
 use Rattle.kept_replies.specs.Keys.{key_cmp}
+use Rattle.kept_replies.specs.Told.{identifier_in}
 use Rattle.kept_replies.specs.declared.key.KeptKey.{KeptKey}
 use Rattle.kept_replies.specs.declared.entry.KeptEntry.{KeptEntry}
 use Rattle.kept_replies.specs.declared.entry.KeptState.{KeptState}
@@ -65,10 +64,6 @@ abbrev pub reply_in : KeptState → Reply
 reply_in (Done reply until) = reply
 reply_in (Pending request reply retry left) = reply
 
--- whether two replies are equal
-abbrev pub same_reply : Reply → Reply → Bool
-same_reply a b = (reply_eq.ghosts).eq a b
-
 -- the moment until which the reply is kept has come
 abbrev pub is_over_in : ℕ → KeptState → Bool
 is_over_in now (Done reply until) = nat_le until now
@@ -98,11 +93,6 @@ NonePasses test kept =
 pub record IsBusy (t : KeptTable) (now : ℕ) : Type 0 where
   pub full : len t.kept ≡ t.most
   pub none_over : NonePasses (is_over now) t.kept
-
--- the identifier that a RegistrationConfirm tells
-abbrev pub identifier_in : Reply → Option (List ℕ)
-identifier_in (Rcf confirm) = Some confirm.endpoint
-identifier_in other = None
 
 abbrev pub named_by : KeptEntry → Option (List ℕ)
 named_by entry = identifier_in (reply_in entry.state)

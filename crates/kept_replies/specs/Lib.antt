@@ -1,4 +1,5 @@
 pub mod Keys
+pub mod Told
 pub mod Kept
 pub mod Faults
 pub mod inside

@@ -2,10 +2,12 @@
 
 ghost use Rattle.std.specs.Prelude.{◌≡◌, IfOk};
 ghost use Rattle.std.specs.Option.{option_copied};
-ghost use Rattle.kept_replies.specs.Kept.{is_over, is_retry, named_by, identifier_in};
+ghost use Rattle.kept_replies.specs.Kept.{is_over, is_retry, named_by};
 
 use crate::in_progress::InProgress;
-use ras_module::{EndpointId, Reply, Request};
+use crate::kept_reply::KeptReply;
+use crate::told_id::ToldId;
+use ras_module::Request;
 use std::alloc::AllocError;
 
 /// What is kept of the reply to a datagram. Moments are in milliseconds.
@@ -22,7 +24,7 @@ pub struct KeptEntry {
 pub enum KeptState {
     /// It was answered, and the reply is kept until a moment.
     Done {
-        reply: Reply,
+        reply: KeptReply,
         until: u64,
     },
     /// It was told to wait, by `reply` (H.225.0, RequestInProgress). It is served again at the
@@ -82,11 +84,11 @@ impl KeptEntry {
     }
 
     /// The identifier that it tells an endpoint, if its reply is a RegistrationConfirm.
-    pub fn identifier(&self) -> Option<&EndpointId>
+    pub fn identifier(&self) -> Option<&ToldId>
         ensures { option_copied result ≡ named_by self.now }
     {
         match &self.state {
-            KeptState::Done { reply, .. } => identifier_in(reply),
+            KeptState::Done { reply, .. } => reply.identifier(),
             KeptState::Pending { reply, .. } => reply.identifier(),
         }
     }
@@ -99,15 +101,5 @@ impl KeptEntry {
             born: self.born,
             state: self.state.copy()?,
         })
-    }
-}
-
-/// The identifier that a reply tells an endpoint, if it is a RegistrationConfirm.
-pub(crate) fn identifier_in(reply: &Reply) -> Option<&EndpointId>
-    ensures { option_copied result ≡ identifier_in reply.now }
-{
-    match reply {
-        Reply::Rcf(confirm) => Some(&confirm.get().endpoint),
-        _ => None,
     }
 }

@@ -5,9 +5,11 @@ ghost use Rattle.std.specs.Cmp.{decided, partial_equiv_from_equiv};
 ghost use Rattle.std.specs.Option.{option_copied};
 ghost use Rattle.ras_module.specs.declared.reply.Reply.TheVariants.{Rip};
 ghost use Rattle.ras_module.proofs.Deciding.{reply_decides};
-ghost use Rattle.kept_replies.specs.Kept.{identifier_in, same_reply};
+ghost use Rattle.ras_writing.specs.Encoded.{same_reply};
+ghost use Rattle.kept_replies.specs.Told.{identifier_in};
 
-use ras_module::{Delay, EndpointId, Reply, RequestSeqNum};
+use crate::told_id::ToldId;
+use ras_module::{Delay, Reply, RequestSeqNum};
 use std::marker::Model;
 
 /// A RequestInProgress (H.225.0). It takes a hundredth of the memory of a [`Reply`], and each kept
@@ -46,7 +48,7 @@ impl InProgress {
     }
 
     /// The identifier that it tells an endpoint: none, since it is no RegistrationConfirm.
-    pub(crate) fn identifier(&self) -> Option<&EndpointId>
+    pub(crate) fn identifier(&self) -> Option<&ToldId>
         ensures { option_copied result ≡ identifier_in self.now }
     {
         // with a look at a field, the prover takes the reply for what it is

@@ -16,11 +16,12 @@ ghost use Rattle.kept_replies.specs.inside.Stored.{NoRowPasses, RowPasses, is_na
 use crate::birth_places::BirthPlaces;
 use crate::copies::copies_of;
 use crate::due_moments::DueMoments;
-use crate::entry::{KeptEntry, KeptState, identifier_in};
+use crate::entry::{KeptEntry, KeptState};
+use crate::kept_reply::KeptReply;
 use crate::key::KeptKey;
 use crate::told_counts::ToldCounts;
 use indexmap::IndexMap;
-use ras_module::{EndpointId, Reply};
+use ras_module::EndpointId;
 use std::alloc::{AllocError, Global};
 use std::marker::Model;
 
@@ -183,21 +184,28 @@ impl KeptRows {
                 self.due.write(place, &entry.state);
                 replace_entry(&mut self.rows, &key, entry);
             }
-            None => {
-                self.births.add(entry.born);
-                self.told.add(entry.identifier());
-                self.due.write(self.rows.len(), &entry.state);
-                add_entry(&mut self.rows, key, entry);
-            }
+            None => self.add(key, entry),
         }
     }
 
+    /// Puts an entry under a key under which there is none. This takes no memory.
+    pub(crate) fn add(&mut self, key: KeptKey, entry: KeptEntry)
+        requires new { get same_key self.old key ≡ None }
+        requires room { 0 < spare self.old }
+        ensures { Puts self.old self.new key entry }
+    {
+        self.births.add(entry.born);
+        self.told.add(entry.identifier());
+        self.due.write(self.rows.len(), &entry.state);
+        add_entry(&mut self.rows, key, entry);
+    }
+
     /// Notes that the request of an entry was answered.
-    pub(crate) fn finish(&mut self, key: &KeptKey, reply: Reply, until: u64)
+    pub(crate) fn finish(&mut self, key: &KeptKey, reply: KeptReply, until: u64)
         ensures { Rewrites (finished reply until) self.old self.new key.now }
     {
         if let Some(place) = self.rows.get_index_of(key) {
-            self.told.replace(&self.rows, key, identifier_in(&reply));
+            self.told.replace(&self.rows, key, reply.identifier());
             write_done(&mut self.rows, key, reply, until);
             self.due.finish(place, until);
         }
@@ -260,7 +268,7 @@ fn replace_entry(rows: &mut IndexMap<KeptKey, KeptEntry>, key: &KeptKey, entry: 
     }
 }
 
-fn write_done(rows: &mut IndexMap<KeptKey, KeptEntry>, key: &KeptKey, reply: Reply, until: u64)
+fn write_done(rows: &mut IndexMap<KeptKey, KeptEntry>, key: &KeptKey, reply: KeptReply, until: u64)
     ensures { Rewrites (finished reply until) rows.old rows.new key.now }
 {
     if let Some(entry) = rows.get_mut(key) {

@@ -24,7 +24,7 @@ pub(crate) fn is_named_in(rows: &IndexMap<KeptKey, KeptEntry>, id: &EndpointId) 
 {
     for (_key, entry) in rows.iter() {
         if let Some(other) = entry.identifier() {
-            if *other == *id {
+            if other.as_slice() == id.as_slice() {
                 return true;
             }
         }
@@ -42,7 +42,7 @@ pub(crate) fn identifiers_in(
     let mut ids = Vec::new(alloc);
     for (_key, entry) in rows.iter() {
         if let Some(id) = entry.identifier() {
-            ids.push(*id)?;
+            ids.push(id.id())?;
         }
     }
     Ok(ids)

@@ -15,11 +15,12 @@ ghost use Rattle.kept_replies.specs.inside.Stored.{IsIn};
 use crate::entry::{KeptEntry, KeptState};
 use crate::fault::ReserveFault;
 use crate::in_progress::InProgress;
+use crate::kept_reply::KeptReply;
 use crate::key::KeptKey;
 use crate::list::{KeptList, rising};
 use crate::rows::KeptRows;
 use crate::searches::identifiers_in;
-use ras_module::{EndpointId, Reply, Request};
+use ras_module::{EndpointId, Request};
 use std::alloc::{AllocError, Global};
 use std::marker::Model;
 
@@ -224,7 +225,7 @@ impl Kept {
     }
 
     /// Keeps a reply until a moment. This takes no memory.
-    pub fn keep(&mut self, key: KeptKey, born: u64, reply: Reply, until: u64)
+    pub fn keep(&mut self, key: KeptKey, born: u64, reply: KeptReply, until: u64)
         requires few { map.get self.old.kept key ≡ None → map.len self.old.kept < self.old.most }
         requires room { map.get self.old.kept key ≡ None → 0 < self.old.room }
         requires birth { IsFreeBirth self.old.kept key born }
@@ -266,6 +267,20 @@ impl Kept {
         self.put(key, KeptEntry { born, state });
     }
 
+    /// Keeps an entry for a datagram for which nothing is kept, without a search for it. This takes
+    /// no memory.
+    pub fn add(&mut self, key: KeptKey, entry: KeptEntry)
+        requires new { map.get self.old.kept key ≡ None }
+        requires few { map.len self.old.kept < self.old.most }
+        requires room { 0 < self.old.room }
+        requires birth { IsFreeBirth self.old.kept key entry.born }
+        requires entry { IsEntry entry }
+        ensures adds { Adds self.old self.new (map.insert self.old.kept key entry) }
+        ensures sound { IsConsistent self.new }
+    {
+        self.rows.add(key, entry);
+    }
+
     fn put(&mut self, key: KeptKey, entry: KeptEntry)
         requires few { map.get self.old.kept key ≡ None → map.len self.old.kept < self.old.most }
         requires room { map.get self.old.kept key ≡ None → 0 < self.old.room }
@@ -280,7 +295,7 @@ impl Kept {
 
     /// Notes that the request of an entry was answered, and keeps its reply until a moment. This
     /// takes no memory.
-    pub fn finish(&mut self, key: &KeptKey, reply: Reply, until: u64)
+    pub fn finish(&mut self, key: &KeptKey, reply: KeptReply, until: u64)
         requires { IsSome (map.get self.old.kept key.now) }
         ensures becomes { Becomes self.old self.new
             (update self.old.kept key.now (finished reply until)) }

@@ -14,12 +14,13 @@ ghost use Rattle.kept_replies.specs.declared.entry.KeptEntry.{KeptEntry};
 use crate::entry::KeptEntry;
 use crate::key::KeptKey;
 use crate::searches::is_named_in;
+use crate::told_id::ToldId;
 use indexmap::IndexMap;
 use ras_module::{BmpString, EndpointId};
 use std::alloc::Global;
 use std::marker::Model;
 
-/// An identifier in a tenth of the memory of an [`EndpointId`]. Each that the gatekeeper hands out
+/// An identifier in a fifth of the memory of an [`EndpointId`]. Each that the gatekeeper hands out
 /// is such: its number has at most 20 digits.
 type ShortId = BmpString<20>;
 
@@ -100,11 +101,11 @@ impl ToldCounts {
         if !self.is_whole {
             return None;
         }
-        short(id)
+        ShortId::new(id.as_slice())
     }
 
     /// Counts one more kept reply, which may tell an identifier. This takes no memory.
-    pub(crate) fn add(&mut self, named: Option<&EndpointId>)
+    pub(crate) fn add(&mut self, named: Option<&ToldId>)
         ensures still { IsTrue self.new.is_whole → IsTrue self.old.is_whole }
         ensures times { IsTrue self.new.is_whole → (id : List ℕ)
             → times self.new id ≡ times self.old id + once (option_copied named.entry) id }
@@ -112,7 +113,7 @@ impl ToldCounts {
         let Some(id) = named else {
             return;
         };
-        let Some(key) = short(id) else {
+        let Some(key) = ShortId::new(id.as_slice()) else {
             self.is_whole = false;
             return;
         };
@@ -123,7 +124,7 @@ impl ToldCounts {
     }
 
     /// Takes a reply, which may tell an identifier, out of the counts.
-    pub(crate) fn take_out(&mut self, named: Option<&EndpointId>)
+    pub(crate) fn take_out(&mut self, named: Option<&ToldId>)
         ensures still { IsTrue self.new.is_whole → IsTrue self.old.is_whole }
         ensures times { IsTrue self.new.is_whole → (id : List ℕ)
             → times self.new id + once (option_copied named.entry) id ≡ times self.old id }
@@ -133,7 +134,7 @@ impl ToldCounts {
         let Some(id) = named else {
             return;
         };
-        let Some(key) = short(id) else {
+        let Some(key) = ShortId::new(id.as_slice()) else {
             self.is_whole = false;
             return;
         };
@@ -152,7 +153,7 @@ impl ToldCounts {
         &mut self,
         rows: &IndexMap<KeptKey, KeptEntry>,
         key: &KeptKey,
-        named: Option<&EndpointId>,
+        named: Option<&ToldId>,
     )
         ensures still { IsTrue self.new.is_whole → IsTrue self.old.is_whole }
         ensures times { (was : KeptEntry) → get same_key rows.now key.now ≡ Some was
@@ -165,13 +166,6 @@ impl ToldCounts {
             self.take_out(was.identifier());
         }
     }
-}
-
-/// The same identifier in less memory, if it is short enough.
-fn short(id: &EndpointId) -> Option<ShortId>
-    ensures { IfSome result (λ key. key ≡ id.now) }
-{
-    ShortId::new(id.as_slice())
 }
 
 fn times_of(counts: &IndexMap<ShortId, usize>, id: &ShortId) -> usize

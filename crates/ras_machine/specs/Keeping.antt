@@ -12,7 +12,8 @@ use Rattle.kept_replies.specs.declared.entry.KeptEntry.{KeptEntry}
 use Rattle.kept_replies.specs.declared.entry.KeptState.{KeptState}
 use Rattle.kept_replies.specs.declared.entry.KeptState.TheVariants.{Done, Pending}
 use Rattle.kept_replies.specs.declared.key.KeptKey.{KeptKey}
-use Rattle.kept_replies.specs.Kept.{KeptReplies, finished, postponed, identifier_in}
+use Rattle.kept_replies.specs.Kept.{KeptReplies, finished, postponed}
+use Rattle.kept_replies.specs.Told.{identifier_in}
 use Rattle.kept_replies.specs.Kept.{is_over, reply_in, without_birth}
 use Rattle.pools.specs.declared.interface.Lend.{Lend}
 use Rattle.pools.specs.declared.interface.Lend.TheVariants.{Lent, Refused, Wait}

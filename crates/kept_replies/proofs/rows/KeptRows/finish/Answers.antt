@@ -21,7 +21,7 @@ invariant_of-self c =
           c.args.key.now c.write_done.ensures was.0 was.1 refl,
       AreTold-rewritten i.rows c.write_done.new.rows i.told c.replace.new.self c.self.invariant.2
           c.replace.ensures.still change c.args.key.now c.write_done.ensures was.0 was.1
-          (rw c.identifier_in.ensures at c.replace.ensures.times was.0 was.1),
+          (rw c.identifier.ensures at c.replace.ensures.times was.0 was.1),
     )
 
 pub returns-in_default : goal.returns-in_default

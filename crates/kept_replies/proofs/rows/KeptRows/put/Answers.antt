@@ -37,44 +37,10 @@ replace-requires c whole =
       length-map rows birth_of,
     )
 
-pub write-requires-in-None : goal.write-requires-in-None
-write-requires-in-None c =
-    let i = c.self.inside in
-    let key = c.args.key in
-    let none = sym (ap (λ (u : Seen). hash.get same_key u key) c.self.view_is)
-    ∙ there_is_none (hash.get same_key i.rows key) c.in-None.ensures.found in
-    omega (
-      arith,
-      c.requires none,
-      ap (λ (u : Seen). spare u) c.self.view_is,
-      c.len.ensures.len,
-    )
-
-pub add_entry-requires-clause-room : goal.add_entry-requires-clause-room
-add_entry-requires-clause-room c =
+pub add-requires-clause-room : goal.add-requires-clause-room
+add-requires-clause-room c =
     let i = c.self.inside in
     let key = c.args.key in
     let none = sym (ap (λ (u : Seen). hash.get same_key u key) c.self.view_is)
     ∙ there_is_none (hash.get same_key i.rows key) c.in-None.ensures.found in
     omega (arith, c.requires none, ap (λ (u : Seen). spare u) c.self.view_is)
-
-pub invariant_of-self-in-None : goal.invariant_of-self-in-None
-invariant_of-self-in-None c =
-    let i = c.self.inside in
-    let key = c.args.key in
-    let none = sym (ap (λ (u : Seen). hash.get same_key u key) c.self.view_is)
-    ∙ there_is_none (hash.get same_key i.rows key) c.in-None.ensures.found in (
-      AreRows-appended i.rows c.add_entry.new.rows i.due c.write-in-None.new.self
-          c.self.invariant.0 (key, c.args.entry) c.add_entry.ensures.appends c.len.result
-          c.len.ensures.len c.write-in-None.ensures
-          (one_fits (hash.get same_key i.rows key) (length c.add_entry.new.rows.entries)
-          (length i.rows.entries) i.due.room c.add_entry.ensures.puts.longer
-          (omega (arith, c.requires none, ap (λ (u : Seen). spare u) c.self.view_is))),
-      AreBorn-appended i.rows c.add_entry.new.rows i.births c.add.new.self c.self.invariant.1
-          c.add.ensures.still (key, c.args.entry) c.add_entry.ensures.appends
-          c.add.ensures.births,
-      AreTold-appended i.rows c.add_entry.new.rows i.told c.add-in-None.new.self
-          c.self.invariant.2 c.add-in-None.ensures.still (key, c.args.entry)
-          c.add_entry.ensures.appends
-          (rw c.identifier-in-None.ensures at c.add-in-None.ensures.times),
-    )
