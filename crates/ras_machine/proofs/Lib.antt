@@ -10,3 +10,4 @@ pub mod PlansFor
 pub mod Waiting
 pub mod Performing
 pub mod Readying
+mod Untold

@@ -1,7 +1,8 @@
 //! What a datagram calls for.
 
-ghost use Rattle.std.specs.Prelude.{◌≡◌, ◌≤◌, ℕ, IfOk, IfSome, IsSome, None, Some, length};
+ghost use Rattle.std.specs.Prelude.{◌≡◌, ◌≤◌, ℕ, IfOk, IfSome, IsOk, IsSome, None, Some, length};
 ghost use Rattle.std.specs.FinMap as fin;
+ghost use Rattle.ras_writing.specs.Properties.{ReadsBack};
 ghost use Rattle.ras_writing.specs.Replies.{encoding_of};
 ghost use Rattle.kept_replies.specs.Kept.{NonePasses, Passes, is_over, reply_in};
 ghost use Rattle.ras_requests.specs.Plans.{Plan};
@@ -15,7 +16,7 @@ use crate::course::{Course, Task};
 use crate::job::{Job, Occasion};
 use crate::machine::Machine;
 use crate::prepared::Message;
-use kept_replies::{KeptEntry, KeptKey, KeptState};
+use kept_replies::{KeptEntry, KeptKey, KeptReply, KeptState};
 use ras_codec::write_reserved;
 use ras_module::{Boxed, InfoRequestResponse, Octets, Reply, Request, Source};
 use ras_requests::decide;
@@ -95,7 +96,7 @@ impl Machine {
         }
         match entry.identifier() {
             None => true,
-            Some(id) => self.tables.get(id).is_some(),
+            Some(told) => self.tables.get(&told.id()).is_some(),
         }
     }
 
@@ -105,10 +106,23 @@ impl Machine {
             (Repeating (record { to = to; bytes = encoding_of (reply_in state.now) })) course) }
     {
         let datagram = match state {
-            KeptState::Done { reply, .. } => self.datagram(to, reply)?,
+            KeptState::Done { reply, .. } => self.kept_datagram(to, reply)?,
             KeptState::Pending { reply, .. } => self.datagram(to, &reply.reply())?,
         };
         Ok(Course::Repeating(datagram))
+    }
+
+    /// The datagram in which a kept reply is sent again.
+    fn kept_datagram(&self, to: Source, reply: &KeptReply) -> Result<Datagram, AllocError>
+        ensures encoded { IfOk result (λ datagram.
+            datagram ≡ record { to = to; bytes = encoding_of reply.now }) }
+        ensures few { IfOk result (λ datagram. length datagram.bytes ≤ 20000) }
+    {
+        let bytes = Vec::from_slice(self.alloc, reply.as_slice())?;
+        Ok(Datagram {
+            to,
+            bytes: Octets::from_vec(bytes),
+        })
     }
 
     /// The datagram in which this reply is sent.
@@ -116,6 +130,7 @@ impl Machine {
         ensures encoded { IfOk result (λ datagram.
             datagram ≡ record { to = to; bytes = encoding_of reply.now }) }
         ensures few { IfOk result (λ datagram. length datagram.bytes ≤ 20000) }
+        ensures reads_back { IsOk result → ReadsBack reply.now }
     {
         let mut bytes = Vec::with_capacity(self.alloc, reply.room())?;
         write_reserved(reply, &mut bytes);

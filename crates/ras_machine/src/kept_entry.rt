@@ -7,7 +7,7 @@ ghost use Rattle.ras_machine.specs.inside.Room.{HasRoom, IsInProgress, IsPlaced,
 ghost use Rattle.ras_machine.specs.Soundness.{AreBornBefore};
 
 use crate::job::{Job, Occasion};
-use kept_replies::{InProgress, Kept, KeptState, ReserveFault};
+use kept_replies::{InProgress, Kept, KeptReply, KeptState, ReserveFault};
 use ras_module::{Reply, Request};
 use std::alloc::AllocError;
 use zone_config::Term;
@@ -32,8 +32,15 @@ pub fn reserve(kept: &mut Kept, now: u64, job: &Job) -> Result<(), AllocError>
 }
 
 /// How far a request is that was told this reply: it waits, or its reply is kept.
-pub fn state_after(request: Request, reply: Reply, waits: bool, term: Term) -> KeptState
+pub fn state_after(
+    request: Request,
+    reply: Reply,
+    kept: KeptReply,
+    waits: bool,
+    term: Term,
+) -> KeptState
     requires told { IsTrue waits → IsInProgress reply }
+    requires same { kept ≡ reply }
     ensures { result ≡ state_after request reply waits term }
 {
     match reply {
@@ -43,8 +50,8 @@ pub fn state_after(request: Request, reply: Reply, waits: bool, term: Term) -> K
             retry: term.retry,
             left: term.times,
         },
-        reply => KeptState::Done {
-            reply,
+        _ => KeptState::Done {
+            reply: kept,
             until: term.until,
         },
     }

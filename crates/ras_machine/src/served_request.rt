@@ -21,7 +21,7 @@ use crate::course::Task;
 use crate::job::{Job, Occasion};
 use crate::kept_entry::{keep, reserve, state_after};
 use crate::machine::Machine;
-use kept_replies::KeptState;
+use kept_replies::{KeptReply, KeptState};
 use ras_codec::write_reserved;
 use ras_module::{EndpointId, Octets, Request};
 use ras_requests::{Conclusion, Decision};
@@ -102,6 +102,7 @@ impl Machine {
     {
         let Decision { reply, change } = decision;
         let output = self.datagram(job.key.source, &reply)?;
+        let kept_reply = KeptReply::new(self.alloc, &reply, output.bytes.as_slice())?;
         let term = self.tables.config().term(now);
         let occasion = job.occasion;
         reserve(&mut self.kept, now.milliseconds(), &job)?;
@@ -112,7 +113,10 @@ impl Machine {
             &mut self.kept,
             job,
             self.steps,
-            KeptState::Done { reply, until },
+            KeptState::Done {
+                reply: kept_reply,
+                until,
+            },
         );
         outcome.answer = None;
         outcome.output = Some(output);
@@ -156,13 +160,15 @@ impl Machine {
         let to = job.key.source;
         let occasion = job.occasion;
         let mut bytes = Vec::with_capacity(self.alloc, SHORT_REPLY)?;
+        let buffer = Vec::with_capacity(self.alloc, SHORT_REPLY)?;
         reserve(&mut self.kept, now.milliseconds(), &job)?;
         let answer = self.tables.request_units(&unit_request, lender)?;
         hear(&mut self.tables, occasion, now, &request);
         let waits = occasion.waits(answer);
         let reply = unit_request.reply(answer, waits, delay);
         write_reserved(&reply, &mut bytes);
-        let state = state_after(request, reply, waits, term);
+        let kept_reply = KeptReply::in_buffer(buffer, &reply, &bytes);
+        let state = state_after(request, reply, kept_reply, waits, term);
         keep(&mut self.kept, job, self.steps, state);
         let bytes = Octets::from_vec(bytes);
         outcome.answer = Some(answer);

@@ -67,7 +67,7 @@ returns-clause-does c plan is =
     (Done d.reply (now + i.tables.config.window)) =
     c.keep.ensures.kept
     ∙ (λ j. kept_with (c.reserve.ensures.kept j) job.key job.occasion i.steps
-    (Done d.reply (until_is j))) in
+    (Done (c.in_ok-kept_reply.ensures j) (until_is j))) in
     let few = subst (λ (o : Datagram). length o.bytes ≤ 20000) c.in_ok-output.ensures.encoded
     c.in_ok-output.ensures.few in
     let back = sym c.self.view_is in

@@ -2,6 +2,7 @@ use Rattle.std.proofs.Common.{rules, ℕ, ◌≡◌, ◌∙◌, Some, None, ap, 
 use Rattle.std.specs.Prelude.{IfSome}
 use Rattle.ras_writing.specs.Replies.{encoding_of}
 use Rattle.kept_replies.specs.Kept.{Passes, is_over}
+use Rattle.kept_replies.specs.Told.{identifier_in}
 use Rattle.zone_events.specs.declared.outcome.Outcome.{Outcome}
 use Rattle.zone_config.specs.declared.config.ConfigParts.{ConfigParts}
 use Rattle.ras_machine.specs.State.{State}
@@ -19,6 +20,7 @@ use Rattle.ras_machine.specs.Soundness.{AreBornBefore}
 use Rattle.ras_machine.specs.Steps.{IsTimely}
 use Rattle.ras_machine.proofs.Asking.{does_answered_for}
 use Rattle.ras_machine.proofs.Dropping.{over_of}
+use Rattle.ras_machine.proofs.Untold.{same_settings, untold}
 use Rattle.ras_machine.proofs.machine.Machine.request_units.Goals as goal
 
 pub reserve-requires-clause-over : goal.reserve-requires-clause-over
@@ -35,15 +37,31 @@ keep-requires-clause-births g c =
     (subst (λ (m : State). AreBornBefore m.steps m.kept) (sym c.self.view_is) c.requires.sound.born)
 
 pub invariant_of-self-2 : goal.invariant_of-self-2
-invariant_of-self-2 g c = record {
-  tables = c.hear.ensures.sound;
-  kept = c.keep.ensures.sound;
-  most = search rules;
-  clock = c.self.invariant.clock;
-  least_number = c.self.invariant.least_number;
-  most_number = c.self.invariant.most_number;
-  steps = c.self.invariant.steps;
-}
+invariant_of-self-2 g c =
+    let i = c.self.inside in
+    let asked : c.request_units.new.self.config ≡ i.tables.config =
+    ap (λ (z : Tables). z.config) c.in_ok-answer.ensures.tables in
+    let heard : c.hear.new.tables.config ≡ c.request_units.new.self.config =
+    ap (λ (z : Tables). z.config) c.hear.ensures.heard
+    ∙ same_settings c.request_units.new.self c.args.job.occasion c.args.now
+    (endpoint_of c.args.request) in
+    let most : c.keep.new.kept.most ≡ i.kept.most =
+    c.keep.ensures.most ∙ c.reserve.ensures.most in
+    record {
+      tables = c.hear.ensures.sound;
+      kept = c.keep.ensures.sound;
+      most = most ∙ (c.self.invariant.most
+          ∙ ap (λ (config : ConfigParts). config.kept) (sym (heard ∙ asked)));
+      clock = c.self.invariant.clock;
+      least_number = c.self.invariant.least_number;
+      most_number = c.self.invariant.most_number;
+      steps = c.self.invariant.steps;
+    }
+
+pub in_buffer-kept_reply-requires-clause-untold : goal.in_buffer-kept_reply-requires-clause-untold
+in_buffer-kept_reply-requires-clause-untold g c =
+    ap identifier_in c.reply-reply.ensures
+    ∙ untold c.args.unit_request c.in_ok-answer.answer c.waits-waits.result c.delay-delay.result
 
 pub returns-clause-does : goal.returns-clause-does
 returns-clause-does g c plan asks =
