@@ -1,7 +1,7 @@
 //! Copies of the tables: equal to what was copied, and apart from it. A copy for which memory is
 //! refused leaves its table as it was, and is made with memory.
 
-use crate::fixtures::{address, endpoint, is_done, no_alias, seq};
+use crate::fixtures::{address, endpoint, is_confirmed, kept_reply, no_alias, seq};
 use admission::{Calls, Leg};
 use kept_replies::{Kept, KeptKey};
 use ras_module::{Address, CallKey, Octets, Reply};
@@ -169,7 +169,8 @@ fn keep(kept: &mut Kept, alloc: Global) -> Result<bool, AllocError> {
         if kept.reserve(0).is_err() && kept.reserve(0).is_err() {
             return Ok(false);
         }
-        kept.keep(key, born, confirm(number), 1000);
+        let reply = kept_reply(alloc, &confirm(number))?;
+        kept.keep(key, born, reply, 1000);
     }
     Ok(true)
 }
@@ -180,7 +181,7 @@ fn are_kept(kept: &Kept) -> bool {
         let Some((_datagram, entry)) = kept.by_born(u64::from(number)) else {
             return false;
         };
-        if !is_done(entry, &confirm(number)) {
+        if !is_confirmed(entry, u16::from(number)) {
             return false;
         }
     }

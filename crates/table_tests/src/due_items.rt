@@ -1,6 +1,6 @@
 //! What is due by the tables, and from which moment on.
 
-use crate::fixtures::{address, endpoint, no_alias, seq};
+use crate::fixtures::{address, endpoint, kept_reply, no_alias, seq};
 use admission::{Calls, Leg};
 use expiry::{DueItem, Times, due};
 use kept_replies::{InProgress, Kept, KeptKey};
@@ -95,7 +95,8 @@ fn keep(alloc: Global, kept: &mut Kept) -> Result<(), Fail> {
         return Err(Fail::from("there is no place"));
     }
     kept.reserve(0)?;
-    kept.keep(key, 5, Reply::Dcf { seq: seq(7) }, 10_000);
+    let reply = kept_reply(alloc, &Reply::Dcf { seq: seq(7) })?;
+    kept.keep(key, 5, reply, 10_000);
     Ok(())
 }
 

@@ -1,11 +1,12 @@
 //! What the tables are filled with.
 
-use kept_replies::{KeptEntry, KeptState};
+use kept_replies::{KeptEntry, KeptReply, KeptState};
 use ras_module::{
     Address, Alias, AliasList, BmpString, DialledDigits, EndpointId, Reply, ReplyAliases,
     RequestSeqNum,
 };
-use std::alloc::Global;
+use ras_writing::write_into;
+use std::alloc::{AllocError, Global};
 
 /// An identifier of four digits, of which the last is given.
 pub fn endpoint(last: u8) -> EndpointId {
@@ -32,10 +33,31 @@ pub fn seq(number: u16) -> RequestSeqNum {
     RequestSeqNum::new(number).unwrap_or(RequestSeqNum::new(1).unwrap())
 }
 
-/// Whether the request was answered by this reply.
-pub fn is_done(entry: &KeptEntry, answer: &Reply) -> bool {
+/// The reply as it is kept. What is refused for want of memory is made once more.
+pub fn kept_reply(alloc: Global, reply: &Reply) -> Result<KeptReply, AllocError> {
+    match kept_at_once(alloc, reply) {
+        Err(_) => kept_at_once(alloc, reply),
+        kept => kept,
+    }
+}
+
+fn kept_at_once(alloc: Global, reply: &Reply) -> Result<KeptReply, AllocError> {
+    let mut octets = Vec::new(alloc);
+    write_into(reply, &mut octets)?;
+    KeptReply::new(alloc, reply, &octets)
+}
+
+/// The octets of the DisengageConfirm with this number (H.225.0): the alternative 16 of RasMessage
+/// without options, and the number less 1.
+pub fn confirm_octets(number: u16) -> [u8; 3] {
+    let [high, low] = number.saturating_sub(1).to_be_bytes();
+    [0x40, high, low]
+}
+
+/// Whether the request was answered by the DisengageConfirm with this number.
+pub fn is_confirmed(entry: &KeptEntry, number: u16) -> bool {
     match &entry.state {
-        KeptState::Done { reply, .. } => reply == answer,
+        KeptState::Done { reply, .. } => reply.as_slice() == confirm_octets(number).as_slice(),
         KeptState::Pending { .. } => false,
     }
 }

@@ -1,7 +1,9 @@
 //! Replies that are kept, and requests that wait.
 
-use crate::fixtures::{endpoint, is_done, no_alias, seq};
-use kept_replies::{InProgress, Kept, KeptEntry, KeptKey, KeptList, KeptState, ReserveFault};
+use crate::fixtures::{endpoint, is_confirmed, kept_reply, no_alias, seq};
+use kept_replies::{
+    InProgress, Kept, KeptEntry, KeptKey, KeptList, KeptReply, KeptState, ReserveFault,
+};
 use ras_module::{
     Address, BandwidthRequest, Boxed, CallKey, Delay, Name, Octets, RegistrationConfirm, Reply,
     ReplyAliases, Request, TimeToLive,
@@ -57,7 +59,13 @@ fn request(alloc: Global) -> Result<Request, AllocError> {
     Ok(Request::Brq(Boxed::new(alloc, request)?))
 }
 
-fn keep(kept: &mut Kept, key: KeptKey, born: u64, reply: Reply, until: u64) -> Result<(), Fail> {
+fn keep(
+    kept: &mut Kept,
+    key: KeptKey,
+    born: u64,
+    reply: KeptReply,
+    until: u64,
+) -> Result<(), Fail> {
     if kept.is_full() && kept.find(&key).is_none() {
         return Err(Fail::from("there is no place"));
     }
@@ -102,11 +110,11 @@ fn postpone(kept: &mut Kept, key: &KeptKey, retry: u64) -> Result<(), Fail> {
     Ok(())
 }
 
-fn answer(kept: &mut Kept, key: &KeptKey, until: u64) -> Result<(), Fail> {
+fn answer(alloc: Global, kept: &mut Kept, key: &KeptKey, until: u64) -> Result<(), Fail> {
     if kept.find(key).is_none() {
         return Err(Fail::from("nothing is kept"));
     }
-    kept.finish(key, confirm(7), until);
+    kept.finish(key, kept_reply(alloc, &confirm(7))?, until);
     Ok(())
 }
 
@@ -119,7 +127,8 @@ fn keep_confirm(
     until: u64,
 ) -> Result<(), Fail> {
     let datagram = key(alloc, octet)?;
-    keep(kept, datagram, born, confirm(u16::from(octet)), until)
+    let reply = kept_reply(alloc, &confirm(u16::from(octet)))?;
+    keep(kept, datagram, born, reply, until)
 }
 
 fn keep_registered(
@@ -131,7 +140,13 @@ fn keep_registered(
 ) -> Result<(), Fail> {
     let datagram = key(alloc, octet)?;
     let reply = registered(alloc, few(alloc)?, last)?;
-    keep(kept, datagram, u64::from(octet), reply, until)
+    keep(
+        kept,
+        datagram,
+        u64::from(octet),
+        kept_reply(alloc, &reply)?,
+        until,
+    )
 }
 
 fn is_kept(alloc: Global, kept: &Kept, octet: u8) -> Result<bool, Fail> {
@@ -143,7 +158,7 @@ fn is_kept(alloc: Global, kept: &Kept, octet: u8) -> Result<bool, Fail> {
 fn is_confirm(kept: &Kept, born: u64, number: u16) -> Result<bool, Fail> {
     let (_datagram, entry) = kept.by_born(born).ok_or("it is kept")?;
     let copy = entry.copy()?;
-    Ok(is_done(entry, &confirm(number)) && copy == *entry)
+    Ok(is_confirmed(entry, number) && copy == *entry)
 }
 
 fn left_of(kept: &Kept, born: u64) -> u64 {
@@ -248,15 +263,15 @@ fn waits_twice(alloc: Global, kept: &mut Kept, waiting: &KeptKey) -> Result<bool
 }
 
 // It is then answered: its entry keeps its birth.
-fn is_answered(kept: &mut Kept, waiting: &KeptKey) -> Result<bool, Fail> {
-    answer(kept, waiting, 13_000)?;
+fn is_answered(alloc: Global, kept: &mut Kept, waiting: &KeptKey) -> Result<bool, Fail> {
+    answer(alloc, kept, waiting, 13_000)?;
     let waits_no_more = kept.retry(u64::MAX).is_none();
     Ok(waits_no_more && kept.over(13_000) == Some(3) && is_confirm(kept, 3, 7)?)
 }
 
 fn waits_and_is_answered(alloc: Global, kept: &mut Kept) -> Result<bool, Fail> {
     let waiting = key(alloc, 1)?;
-    Ok(waits_twice(alloc, kept, &waiting)? && is_answered(kept, &waiting)?)
+    Ok(waits_twice(alloc, kept, &waiting)? && is_answered(alloc, kept, &waiting)?)
 }
 
 #[test]
@@ -374,7 +389,13 @@ fn insist(alloc: Global, kept: &mut Kept, octet: u8) -> Result<(), Fail> {
         Ok(reply) => reply,
         Err(_) => registered(alloc, few(alloc)?, octet)?,
     };
-    keep(kept, datagram, u64::from(octet), reply, 10)
+    keep(
+        kept,
+        datagram,
+        u64::from(octet),
+        kept_reply(alloc, &reply)?,
+        10,
+    )
 }
 
 fn count_of_identifiers(kept: &Kept) -> Result<usize, Fail> {
