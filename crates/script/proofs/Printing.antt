@@ -83,14 +83,10 @@ pub refusal_flat : (number words fault end : List ℕ)
     → number ++ (words ++ (fault ++ end)) ≡ number ++ words ++ fault ++ end
 refusal_flat number words fault end = sym (simp append_assoc)
 
-pub address_flat : (a b c d port dot colon : List ℕ)
-    → a ++ (dot ++ (b ++ (dot ++ (c ++ (dot ++ (d ++ (colon ++ port)))))))
-    ≡ a ++ dot ++ b ++ dot ++ c ++ dot ++ d ++ colon ++ port
-address_flat a b c d port dot colon = sym (simp append_assoc)
-
-pub output_flat : (mark address space octets : List ℕ)
-    → mark ++ (address ++ (space ++ octets)) ≡ mark ++ address ++ space ++ octets
-output_flat mark address space octets = sym (simp append_assoc)
+pub address_flat : (a b c d port rest : List ℕ) (dot colon : ℕ)
+    → a ++ (dot ∷ (b ++ (dot ∷ (c ++ (dot ∷ (d ++ (colon ∷ (port ++ rest))))))))
+    ≡ a ++ (dot ∷ []) ++ b ++ (dot ∷ []) ++ c ++ (dot ∷ []) ++ d ++ (colon ∷ []) ++ port ++ rest
+address_flat a b c d port rest dot colon = sym (simp append_assoc)
 
 pub line_flat : (number space note answer dropped output end : List ℕ)
     → (number ++ space) ++ (note ++ (answer ++ (dropped ++ (output ++ end))))

@@ -11,7 +11,7 @@ use crate::line::Line;
 use crate::pool::PoolLine;
 use crate::read::Script;
 use crate::setting::Setting;
-use ras_module::{Address, Name};
+use ras_module::{Address, Boxed, Name};
 use std::alloc::{AllocError, Global};
 use std::marker::Model;
 
@@ -21,7 +21,7 @@ const MOST_POOLS: usize = 16;
 /// The zone, the settings, the pools and the events of the lines so far.
 #[derive(Drop)]
 pub struct Draft {
-    zone: Option<(Name, Address)>,
+    zone: Option<(Boxed<Name>, Address)>,
     settings: Vec<Setting>,
     pools: Vec<PoolLine>,
     events: Vec<ScriptEvent>,
@@ -93,7 +93,7 @@ impl Draft {
         let Some((name, address)) = zone else {
             return Err(ScriptFault::NoZone);
         };
-        let Some(config) = config_of(name, address, networks_of(alloc, &pools)?) else {
+        let Some(config) = config_of(name.into_inner(), address, networks_of(alloc, &pools)?) else {
             return Err(ScriptFault::NoDefaultPool);
         };
         let config = with_settings(config, &settings);

@@ -15,6 +15,7 @@ mod print;
 mod read;
 mod run;
 mod setting;
+mod short_text;
 mod words;
 
 pub use event::{Events, Replacement, ScriptEvent};

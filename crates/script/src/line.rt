@@ -10,17 +10,17 @@ use crate::pool::{PoolLine, fresh_pool};
 use crate::setting::Setting;
 use crate::words::Words;
 use ras_core::{Event, Moment};
-use ras_module::{Address, Name};
+use ras_module::{Address, Boxed, Name};
 use std::alloc::{AllocError, Global};
 use value_texts::{address_of, is_word, name_of, number_of};
 
-/// What a line says.
+/// What a line says. A name is large, so that it stands in a box: each line is moved.
 #[derive(Drop)]
 pub enum Line {
     /// Nothing.
     Blank,
     /// The zone has this name and this address.
-    Zone(Name, Address),
+    Zone(Boxed<Name>, Address),
     /// This is set.
     Set(Setting),
     /// The zone has this pool.
@@ -29,14 +29,19 @@ pub enum Line {
     At(ScriptEvent),
 }
 
-fn zone_line(mut words: Words) -> Option<Line>
-    ensures { result ≡ zone_line words.entry }
+fn zone_line(alloc: Global, mut words: Words) -> Result<Option<Line>, AllocError>
+    ensures { IfOk result (λ line. line ≡ zone_line words.entry) }
 {
-    let name = words.next_word()?;
-    let address = words.next_word()?;
-    match words.next_word() {
-        Some(_) => None,
-        None => Some(Line::Zone(name_of(name)?, address_of(address)?)),
+    let (Some(name), Some(address), None) = (
+        words.next_word(),
+        words.next_word(),
+        words.next_word(),
+    ) else {
+        return Ok(None);
+    };
+    match (name_of(name), address_of(address)) {
+        (Some(name), Some(address)) => { Ok(Some(Line::Zone(Boxed::new(alloc, name)?, address))) }
+        _ => Ok(None),
     }
 }
 
@@ -101,7 +106,7 @@ fn at_line(alloc: Global, mut words: Words) -> Result<Option<Line>, AllocError>
     ) else {
         return Ok(None);
     };
-    match (words.next_word(), words.next_word()) {
+    match (words.next_long_word(), words.next_word()) {
         (None, _) => event_of(alloc, moment, from, address, &[]),
         (Some(octets), None) => event_of(alloc, moment, from, address, octets),
         (Some(_), Some(_)) => Ok(None),
@@ -153,7 +158,7 @@ pub fn line_of(alloc: Global, line: &[u8]) -> Result<Option<Line>, AllocError>
         return Ok(Some(Line::Blank));
     };
     if is_word(kind, "zone") {
-        Ok(zone_line(words))
+        zone_line(alloc, words)
     } else if is_word(kind, "set") {
         Ok(set_line(words))
     } else if is_word(kind, "pool") {

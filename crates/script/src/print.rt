@@ -1,6 +1,7 @@
 //! Printing outcomes.
 
-ghost use Rattle.std.specs.Prelude.{◌≡◌, ◌+◌, ◌≤◌, OnOk, length};
+ghost use Rattle.std.specs.Prelude.{◌≡◌, ◌+◌, ◌++◌, ◌≤◌, OnOk, codes, length};
+ghost use Rattle.std.specs.Fmt.{decimal};
 ghost use Rattle.std.specs.Io.KnownBytes.{Appends};
 ghost use Rattle.hex.specs.Hex.{encode_upper};
 ghost use Rattle.script.specs.Prints.{character_of, identifier_text, cause_text, item_text};
@@ -8,6 +9,7 @@ ghost use Rattle.script.specs.Prints.{note_text, answer_text, dropped_text, addr
 ghost use Rattle.script.specs.Prints.{output_text, outcome_line, outcome_lines, refusal_line};
 
 use crate::hex_digits::put_digits;
+use crate::short_text::ShortText;
 use pools::{Lend, ReplaceFault};
 use ras_core::{Datagram, DueItem, IgnoredCause, Note, Outcome};
 use ras_module::{Address, EndpointId};
@@ -25,6 +27,24 @@ fn character_of(code: u16) -> char
         Some(character) => character,
         None => char::REPLACEMENT_CHARACTER,
     }
+}
+
+/// Writes a number.
+fn write_number<W: Write>(number: u64, out: &mut W) -> io::Result<()>
+    ensures { OnOk result (Appends (W.contents out.old) (W.contents out.new) (decimal number)) }
+{
+    let mut text = ShortText::new();
+    text.put_number(number);
+    out.write_all(text.as_slice())
+}
+
+/// Writes a text, and a number behind it.
+fn write_named<W: Write>(name: &[u8], number: u64, out: &mut W) -> io::Result<()>
+    ensures { OnOk result (Appends (W.contents out.old) (W.contents out.new)
+        (name.now ++ decimal number)) }
+{
+    out.write_all(name)?;
+    write_number(number, out)
 }
 
 fn write_identifier<W: Write>(id: &EndpointId, out: &mut W) -> io::Result<()>
@@ -66,8 +86,8 @@ fn write_item<W: Write>(item: &DueItem, out: &mut W) -> io::Result<()>
             out.write_all(b"silent ")?;
             write_identifier(id, out)
         }
-        DueItem::Retry(born) => write!(out, "retry {born}"),
-        DueItem::KeptOver(born) => write!(out, "kept-over {born}"),
+        DueItem::Retry(born) => write_named(b"retry ", *born, out),
+        DueItem::KeptOver(born) => write_named(b"kept-over ", *born, out),
         DueItem::PoolTurn => out.write_all(b"pool-turn"),
     }
 }
@@ -85,7 +105,7 @@ fn write_note<W: Write>(note: &Note, out: &mut W) -> io::Result<()>
             write_item(item, out)
         }
         Note::Idle => out.write_all(b"idle"),
-        Note::Replaced(pool) => write!(out, "replaced {pool}"),
+        Note::Replaced(pool) => write_named(b"replaced ", *pool as u64, out),
     }
 }
 
@@ -114,21 +134,13 @@ fn write_hex<W: Write>(octets: &[u8], out: &mut W) -> io::Result<()>
     Ok(())
 }
 
-fn write_address<W: Write>(address: &Address, out: &mut W) -> io::Result<()>
-    ensures { OnOk result (Appends (W.contents out.old) (W.contents out.new)
-        (address_text address.now)) }
-{
-    let [a, b, c, d] = address.ip;
-    write!(out, "{a}.{b}.{c}.{d}:{}", address.port)
-}
-
 fn write_answer<W: Write>(answer: &Option<Lend>, out: &mut W) -> io::Result<()>
     ensures { OnOk result (Appends (W.contents out.old) (W.contents out.new)
         (answer_text answer.now)) }
 {
     match answer {
         None => Ok(()),
-        Some(Lend::Lent(units)) => write!(out, " lent {units}"),
+        Some(Lend::Lent(units)) => write_named(b" lent ", *units, out),
         Some(Lend::Refused) => out.write_all(b" refused"),
         Some(Lend::Wait) => out.write_all(b" wait"),
     }
@@ -140,8 +152,22 @@ fn write_dropped<W: Write>(dropped: Option<u64>, out: &mut W) -> io::Result<()>
 {
     match dropped {
         None => Ok(()),
-        Some(born) => write!(out, " dropped {born}"),
+        Some(born) => write_named(b" dropped ", born, out),
     }
+}
+
+/// Writes ` > ADDRESS `.
+fn write_target<W: Write>(address: &Address, out: &mut W) -> io::Result<()>
+    ensures { OnOk result (Appends (W.contents out.old) (W.contents out.new)
+        (codes " > " ++ address_text address.now ++ codes " ")) }
+{
+    let mut text = ShortText::new();
+    text.put_mark(b' ');
+    text.put_address(address);
+    text.put_mark(b' ');
+    text.put_mark(b'>');
+    text.put_mark(b' ');
+    out.write_all(text.as_slice())
 }
 
 fn write_output<W: Write>(output: &Option<Datagram>, out: &mut W) -> io::Result<()>
@@ -151,12 +177,21 @@ fn write_output<W: Write>(output: &Option<Datagram>, out: &mut W) -> io::Result<
     match output {
         None => Ok(()),
         Some(datagram) => {
-            out.write_all(b" > ")?;
-            write_address(&datagram.to, out)?;
-            out.write_all(b" ")?;
+            write_target(&datagram.to, out)?;
             write_hex(datagram.bytes.as_slice(), out)
         }
     }
+}
+
+/// Writes the number of an event, and a space behind it.
+fn write_place<W: Write>(number: usize, out: &mut W) -> io::Result<()>
+    ensures { OnOk result (Appends (W.contents out.old) (W.contents out.new)
+        (decimal number ++ codes " ")) }
+{
+    let mut text = ShortText::new();
+    text.put_mark(b' ');
+    text.put_number(number as u64);
+    out.write_all(text.as_slice())
 }
 
 /// Writes the line of an outcome, with this number.
@@ -168,7 +203,7 @@ pub(crate) fn write_outcome<W: Write>(
     ensures { OnOk result (Appends (W.contents out.old) (W.contents out.new)
         (outcome_line number outcome.now)) }
 {
-    write!(out, "{number} ")?;
+    write_place(number, out)?;
     write_note(&outcome.note, out)?;
     write_answer(&outcome.answer, out)?;
     write_dropped(outcome.dropped, out)?;

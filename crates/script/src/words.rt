@@ -5,6 +5,7 @@ ghost use Rattle.script.specs.Words.{words_of};
 
 use crate::long_parts::long_parted;
 use std::marker::Model;
+use value_texts::parted;
 
 /// The words of a line that are left. Contracts see the list of them.
 #[derive(Drop)]
@@ -29,8 +30,24 @@ impl<'a> Words<'a> {
         Words { rest: line }
     }
 
-    /// The next word, which is then no longer left.
+    /// The next word, which is then no longer left. It is looked for octet by octet, which serves
+    /// short words.
     pub fn next_word(&mut self) -> Option<&'a [u8]>
+        ensures { MatchOption result (self.old ≡ []) (λ word. self.old ≡ word.now ∷ self.new) }
+    {
+        while !self.rest.is_empty() {
+            let (word, rest) = parted(self.rest, b' ');
+            self.rest = rest;
+            if !word.is_empty() {
+                return Some(word);
+            }
+        }
+        None
+    }
+
+    /// The next word, as `next_word`. It is looked for many octets at a time, which serves long
+    /// words.
+    pub fn next_long_word(&mut self) -> Option<&'a [u8]>
         ensures { MatchOption result (self.old ≡ []) (λ word. self.old ≡ word.now ∷ self.new) }
     {
         while !self.rest.is_empty() {

@@ -11,7 +11,7 @@ pub returns : goal.returns
 returns g c =
     let outcome = c.args.outcome.now in
     let start = g.W.Write.contents c.args.out.now in
-    let one = g.W.Write.contents c.write.new.self in
+    let one = g.W.Write.contents c.write_place.new.out in
     let two = g.W.Write.contents c.write_note.new.out in
     let three = g.W.Write.contents c.write_answer.new.out in
     let four = g.W.Write.contents c.write_dropped.new.out in
@@ -27,7 +27,7 @@ returns g c =
     subst (λ (t : List ℕ). OnOk c.write_all.result (Appends start end t))
     (line_flat number space note answer dropped output newline)
     (appends_then_on_ok c.write_all.result start one end
-    (number ++ space) _ c.in_ok-write.ensures.bytes
+    (number ++ space) _ c.in_ok-write_place.ensures
     (appends_then_on_ok c.write_all.result one two end note _ c.in_ok-write_note.ensures
     (appends_then_on_ok c.write_all.result two three end answer _ c.in_ok-write_answer.ensures
     (appends_then_on_ok c.write_all.result three four end dropped _ c.in_ok-write_dropped.ensures

@@ -5,7 +5,7 @@ use Rattle.script.proofs.words.Words.next_word.Goals as goal
 
 pub returns-then-not-is_empty : goal.returns-then-not-is_empty
 returns-then-not-is_empty c =
-    let some : 0 < length c.long_parted.result.0.now = grind (arith, nat_tests) in
-    let step = words_more c.loop-self.self-inside.rest.now _ _ c.long_parted.ensures.front
-    c.long_parted.ensures.rest some in
+    let some : 0 < length c.parted.result.0.now = grind (arith, nat_tests) in
+    let step = words_more c.loop-self.self-inside.rest.now _ _ c.parted.ensures.front
+    c.parted.ensures.rest some in
     cc
