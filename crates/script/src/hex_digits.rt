@@ -42,11 +42,17 @@ pub(crate) fn put_digits(octets: &[u8], digits: &mut [u8])
 fn value_of(digit: u8) -> u8
     ensures { result ≡ unwrap_or (hex_digit_value digit) 16 }
 {
-    match digit {
-        b'A'..=b'F' => digit - b'A' + 10,
-        b'a'..=b'f' => digit - b'a' + 10,
-        b'0'..=b'9' => digit - b'0',
-        _ => NO_VALUE,
+    let number = digit.wrapping_sub(b'0');
+    let upper = digit.wrapping_sub(b'A');
+    let lower = digit.wrapping_sub(b'a');
+    if number < 10 {
+        number
+    } else if upper < 6 {
+        upper + 10
+    } else if lower < 6 {
+        lower + 10
+    } else {
+        NO_VALUE
     }
 }
 
@@ -59,8 +65,9 @@ fn put_octets(digits: &[u8], octets: &mut [u8]) -> bool
 {
     let mut most = 0u8;
     for i in 0..octets.len() {
-        let high = value_of(digits[2 * i]);
-        let low = value_of(digits[2 * i + 1]);
+        let (first, second) = (digits[2 * i], digits[2 * i + 1]);
+        let high = value_of(first);
+        let low = value_of(second);
         most = most.max(high).max(low);
         // What this makes of an octet that is no digit doesn't matter, but it has to fit.
         octets[i] = high.wrapping_mul(16).wrapping_add(low);

@@ -1,14 +1,14 @@
 //! Input of a limited size.
 
-ghost use Rattle.std.specs.Prelude.{◌≡◌, ◌↔◌, ◌≤◌, false, IfErr, IfOk, IsTrue, IsErr, MatchResult};
-ghost use Rattle.std.specs.Prelude.{vec_len};
+ghost use Rattle.std.specs.Prelude.{◌≡◌, ◌↔◌, ◌+◌, ◌++◌, ◌≤◌, false, IfErr, IfOk, OnOk, IsTrue};
+ghost use Rattle.std.specs.Prelude.{IsErr, MatchResult, length, vec_len};
 ghost use Rattle.std.specs.Io.{ReadsAtMost};
 ghost use Rattle.std.specs.Io.KnownBytes.{Consumes, IsAtEnd, ReadConsumes};
 ghost use Rattle.script.specs.Reads.{ConsumesAtMost, ConsumesExactly, IsInputFault};
 ghost use Rattle.script.specs.declared.fault.ScriptFault.TheVariants.{TooLong, Stream};
 
 use crate::fault::ScriptFault;
-use std::alloc::Global;
+use std::alloc::{AllocError, Global};
 use std::io;
 use std::io::Read;
 use std::marker::Model;
@@ -18,6 +18,10 @@ const MOST: usize = 1_048_576;
 
 /// The octets that are asked for at a time.
 const CHUNK: usize = 4096;
+
+/// The octets for which there is room behind the first ones, so that few of them are moved as more
+/// are read.
+const ROOM: usize = 131_072;
 
 /// A reader that remembers whether its last read failed. Contracts see that beside the octets that
 /// it has left, if these are known.
@@ -69,6 +73,17 @@ impl<R: Read + Drop> Read for Input<R> {
     }
 }
 
+/// Appends octets.
+fn append(all: &mut Vec<u8>, octets: &[u8]) -> Result<(), AllocError>
+    ensures items { OnOk result (all.new.items ≡ all.old.items ++ octets.now) }
+    ensures len { OnOk result (vec_len all.new ≡ vec_len all.old + length octets.now) }
+{
+    if all.is_empty() {
+        all.reserve(ROOM)?;
+    }
+    all.extend_from_slice(octets)
+}
+
 /// Reads an input to its end. At most one octet past the greatest size is read.
 pub fn read_whole<R: Read + Drop>(
     alloc: Global,
@@ -93,7 +108,7 @@ pub fn read_whole<R: Read + Drop>(
         }
         match input.read(&mut chunk[..room]) {
             Ok(0) => return Ok(all),
-            Ok(n) => all.extend_from_slice(&chunk[..n])?,
+            Ok(n) => append(&mut all, &chunk[..n])?,
             Err(_) => return Err(ScriptFault::Stream),
         }
     }

@@ -7,9 +7,9 @@ use Rattle.script.proofs.input.read_whole.Goals as goal
 pub loop-preserved : goal.loop-preserved
 loop-preserved g c =
     let n : c.in-Ok.n ≤ length c.read.new.buf = search rules in
-    let now : c.extend_from_slice.new.self.items
+    let now : c.append.new.all.items
     ≡ c.loop.all.items ++ take c.in-Ok.n c.read.new.buf =
-    c.in_ok-extend_from_slice-in-Ok.ensures.items
+    c.in_ok-append-in-Ok.ensures.items
     ∙ ap (λ t. c.loop.all.items ++ t) (take-append-le _ c.read.new.buf _ n) in
     record {
       len = grind (arith, common_steps);
@@ -18,9 +18,9 @@ loop-preserved g c =
       sound = λ some. search rules;
     }
 
-pub returns-in_err-extend_from_slice-in-Ok-clause-most :
-    goal.returns-in_err-extend_from_slice-in-Ok-clause-most
-returns-in_err-extend_from_slice-in-Ok-clause-most g c =
+pub returns-in_err-append-in-Ok-clause-most :
+    goal.returns-in_err-append-in-Ok-clause-most
+returns-in_err-append-in-Ok-clause-most g c =
     let within : length (c.loop.all.items ++ take c.in-Ok.n c.read.new.buf) ≤ 1048577 =
     grind (arith, common_steps) in
     record {
