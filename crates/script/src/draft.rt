@@ -1,6 +1,6 @@
 //! What the lines of a script have said so far.
 
-ghost use Rattle.std.specs.Prelude.{◌≡◌, IsTrue, ◌↔◌, OnOk, None, []};
+ghost use Rattle.std.specs.Prelude.{◌≡◌, IsTrue, ◌↔◌, IfOk, OnOk, None, []};
 ghost use Rattle.script.specs.Said.{Said, with_line, MayFollow};
 ghost use Rattle.script.specs.Scripts.{script_from, GivesUnlessMemory};
 
@@ -41,16 +41,17 @@ impl Model for Draft {
 }
 
 impl Draft {
-    /// What no line has said.
-    pub fn new(alloc: Global) -> Draft
-        ensures { result ≡ record { zone = None; settings = []; pools = []; events = [] } }
+    /// What no line has said, with room for so many events.
+    pub fn with_room(alloc: Global, events: usize) -> Result<Draft, AllocError>
+        ensures { IfOk result (λ draft. draft
+            ≡ record { zone = None; settings = []; pools = []; events = [] }) }
     {
-        Draft {
+        Ok(Draft {
             zone: None,
             settings: Vec::new(alloc),
             pools: Vec::new(alloc),
-            events: Vec::new(alloc),
-        }
+            events: Vec::with_capacity(alloc, events)?,
+        })
     }
 
     /// Whether this line may come next: behind an event no line names the zone, sets something or

@@ -15,6 +15,10 @@ use ras_core::Config;
 use std::alloc::Global;
 use std::io::Read;
 
+/// The octets that the line of an event mostly has at least. There is room for the events of such
+/// lines before the first is read.
+const OCTETS_OF_AN_EVENT: usize = 64;
+
 /// A script: the configuration of its zone, the pools that it is to have, one for each network of
 /// the configuration, and its events, some of which may replace a pool.
 #[derive(Drop)]
@@ -29,7 +33,7 @@ fn script_of(alloc: Global, text: &[u8]) -> Result<Script, ScriptFault>
     requires { length text.now ≤ 1048576 }
     ensures { GivesUnlessMemory (script_of text.now) result }
 {
-    let mut draft = Draft::new(alloc);
+    let mut draft = Draft::with_room(alloc, text.len() / OCTETS_OF_AN_EVENT)?;
     let mut rest = text;
     let mut number = 0;
     while !rest.is_empty() {

@@ -1,7 +1,9 @@
 //! Running a script.
 
-ghost use Rattle.std.specs.Prelude.{◌≡◌, ◌≢◌, ◌↔◌, ◌⊎◌, map, Err, IfErr, IfOk, true, false};
-ghost use Rattle.std.specs.Prelude.{length};
+ghost use Rattle.std.specs.Prelude.{◌≡◌, ◌≢◌, ◌↔◌, ◌⊎◌, map, Err, IfErr, IfOk, OnErr, true, false};
+ghost use Rattle.std.specs.Prelude.{OnOk, length};
+ghost use Rattle.ras_machine.specs.Machine.{most_steps};
+ghost use Rattle.ras_core.specs.Runs.{RunningStep};
 ghost use Rattle.script.specs.Deeds.{Handle, Offer, deeds_of};
 ghost use Rattle.script.specs.Events.{fresh_pools};
 ghost use Rattle.script.specs.Runs.{IsDeedAnswer, IsRunAnswer, IsRunOf, IsFlushedAfter};
@@ -13,7 +15,7 @@ use crate::output::Output;
 use crate::print::{write_outcome, write_refusal};
 use crate::read::Script;
 use pools::{Pool, PoolSet, ReplaceFault};
-use ras_core::{Config, Event, NewFault, StepFault, Zone};
+use ras_core::{Config, Event, NewFault, Note, Outcome, StepFault, Zone, prepare};
 use std::alloc::Global;
 use std::io::Write;
 
@@ -64,7 +66,7 @@ pub fn run_script<P: Pool, W: Write + Drop>(
         Ok(zone) => zone,
         Err(fault) => return Err(fault),
     };
-    run_zone(&mut zone, events.into_vec(), fresh, out)
+    run_zone(alloc, &mut zone, events.into_vec(), fresh, out)
 }
 
 // A zone that is dropped at each of many exits makes a function costly to prove, so what is done
@@ -72,6 +74,7 @@ pub fn run_script<P: Pool, W: Write + Drop>(
 
 /// Runs events on a zone, one after the other, writes a line for each, and flushes the writer.
 fn run_zone<P: Pool, W: Write + Drop>(
+    alloc: Global,
     zone: &mut Zone<P>,
     events: Vec<ScriptEvent>,
     fresh: Vec<P>,
@@ -83,7 +86,7 @@ fn run_zone<P: Pool, W: Write + Drop>(
     ensures flushed { IsFlushedAfter result out.new.flushed }
     ensures pools { result ≢ Err RunFault.WrongPools }
 {
-    let ran = run_events(zone, events, fresh, out);
+    let ran = run_events(alloc, zone, events, fresh, out);
     if let Err(RunFault::Stream) = ran {
         return ran;
     }
@@ -94,8 +97,9 @@ fn run_zone<P: Pool, W: Write + Drop>(
 }
 
 /// Runs events on a zone, one after the other. The line of each is written before the next one is
-/// run, so that no list of outcomes is held.
+/// run, so that no list of outcomes is held. The outcomes of events are made at one place.
 fn run_events<P: Pool, W: Write + Drop>(
+    alloc: Global,
     zone: &mut Zone<P>,
     events: Vec<ScriptEvent>,
     fresh: Vec<P>,
@@ -106,12 +110,15 @@ fn run_events<P: Pool, W: Write + Drop>(
         out.old.contents out.new.contents result }
     ensures pools { result ≢ Err RunFault.WrongPools }
 {
+    let mut outcome = Outcome::noted(Note::Idle, None);
     let mut number = 0;
     let mut fresh = fresh.into_iter();
     for event in events {
         number += 1;
         let ran = match event {
-            ScriptEvent::Event(event) => run_event(zone, number, event, out),
+            ScriptEvent::Event(event) => {
+                run_event(alloc, zone, number, event, &mut outcome, out)
+            }
             ScriptEvent::Replace(replacement) => match fresh.next() {
                 Some(pool) => run_replacement(zone, number, replacement, pool, out),
                 None => unreachable!(),
@@ -125,22 +132,43 @@ fn run_events<P: Pool, W: Write + Drop>(
     Ok(())
 }
 
-/// Runs the event with this number, and writes the line of its outcome.
+/// Makes the step of an event. Its outcome is made where it stands already, so that it isn't moved.
+fn step_into<P: Pool>(
+    alloc: Global,
+    zone: &mut Zone<P>,
+    event: Event,
+    outcome: &mut Outcome,
+) -> Result<(), StepFault>
+    ensures step { OnOk result (RunningStep zone.old event outcome.new zone.new) }
+    ensures closed { (result ≡ Err StepFault.Closed) ↔ (zone.old.state.steps ≡ most_steps) }
+    ensures err { OnErr result (zone.new ≡ zone.old) }
+{
+    if zone.is_closed() {
+        return Err(StepFault::Closed);
+    }
+    let prepared = prepare(alloc, event)?;
+    zone.step_into(prepared, outcome)
+}
+
+/// Runs the event with this number, and writes the line of its outcome, which is made at this
+/// place.
 fn run_event<P: Pool, W: Write + Drop>(
+    alloc: Global,
     zone: &mut Zone<P>,
     number: usize,
     event: Event,
+    outcome: &mut Outcome,
     out: &mut Output<W>,
 ) -> Result<(), RunFault>
     ensures { IsDeedAnswer number zone.old zone.new (Handle event)
         out.old.contents out.new.contents result }
 {
-    let outcome = match zone.step(event) {
-        Ok(outcome) => outcome,
+    match step_into(alloc, zone, event, outcome) {
+        Ok(()) => {}
         Err(StepFault::Memory) => return Err(RunFault::Memory(number)),
         Err(StepFault::Closed) => return Err(RunFault::Closed(number)),
-    };
-    match write_outcome(number, &outcome, out) {
+    }
+    match write_outcome(number, outcome, out) {
         Ok(()) => Ok(()),
         Err(_) => Err(RunFault::Stream),
     }

@@ -13,7 +13,7 @@ pub loop-rest-init : goal.loop-rest-init
 loop-rest-init c = record {
   few = omega (arith, c.requires);
   answer = subst (λ (said : Said). script_of c.args.text.now
-      ≡ answer_from 1 said (readings c.args.text.now)) (sym c.new-draft.ensures)
+      ≡ answer_from 1 said (readings c.args.text.now)) (sym c.in_ok-draft.ensures)
       (first_answer c.args.text.now c.requires);
 }
 
