@@ -87,13 +87,3 @@ pub address_flat : (a b c d port rest : List ℕ) (dot colon : ℕ)
     → a ++ (dot ∷ (b ++ (dot ∷ (c ++ (dot ∷ (d ++ (colon ∷ (port ++ rest))))))))
     ≡ a ++ (dot ∷ []) ++ b ++ (dot ∷ []) ++ c ++ (dot ∷ []) ++ d ++ (colon ∷ []) ++ port ++ rest
 address_flat a b c d port rest dot colon = sym (simp append_assoc)
-
-pub line_flat : (number space note answer dropped output end : List ℕ)
-    → (number ++ space) ++ (note ++ (answer ++ (dropped ++ (output ++ end))))
-    ≡ number ++ space ++ note ++ answer ++ dropped ++ output ++ end
-line_flat number space note answer dropped output end =
-    let left : (number ++ space) ++ (note ++ (answer ++ (dropped ++ (output ++ end)))) ≡ number
-    ++ (space ++ (note ++ (answer ++ (dropped ++ (output ++ end))))) = simp append_assoc in
-    let right : number ++ space ++ note ++ answer ++ dropped ++ output ++ end ≡ number
-    ++ (space ++ (note ++ (answer ++ (dropped ++ (output ++ end))))) = simp append_assoc in
-    left ∙ sym right

@@ -1,6 +1,6 @@
 //! Printing outcomes.
 
-ghost use Rattle.std.specs.Prelude.{◌≡◌, ◌+◌, ◌++◌, ◌≤◌, OnOk, codes, length};
+ghost use Rattle.std.specs.Prelude.{◌≡◌, ◌+◌, ◌++◌, ◌≤◌, IsTrue, OnOk, codes, false, length};
 ghost use Rattle.std.specs.Fmt.{decimal};
 ghost use Rattle.std.specs.Io.KnownBytes.{Appends};
 ghost use Rattle.hex.specs.Hex.{encode_upper};
@@ -134,26 +134,94 @@ fn write_hex<W: Write>(octets: &[u8], out: &mut W) -> io::Result<()>
     Ok(())
 }
 
-fn write_answer<W: Write>(answer: &Option<Lend>, out: &mut W) -> io::Result<()>
-    ensures { OnOk result (Appends (W.contents out.old) (W.contents out.new)
-        (answer_text answer.now)) }
+/// Puts the answer of a pool before a text.
+fn put_answer(answer: &Option<Lend>, text: &mut ShortText)
+    requires { length text.old + 26 ≤ 352 }
+    ensures text { text.new ≡ answer_text answer.now ++ text.old }
+    ensures len { length text.new ≤ length text.old + 26 }
 {
     match answer {
-        None => Ok(()),
-        Some(Lend::Lent(units)) => write_named(b" lent ", *units, out),
-        Some(Lend::Refused) => out.write_all(b" refused"),
-        Some(Lend::Wait) => out.write_all(b" wait"),
+        None => {}
+        Some(Lend::Lent(units)) => {
+            text.put_number(*units);
+            text.put(b" lent ");
+        }
+        Some(Lend::Refused) => text.put(b" refused"),
+        Some(Lend::Wait) => text.put(b" wait"),
     }
 }
 
-fn write_dropped<W: Write>(dropped: Option<u64>, out: &mut W) -> io::Result<()>
-    ensures { OnOk result (Appends (W.contents out.old) (W.contents out.new)
-        (dropped_text dropped)) }
+/// Puts the birth of the entry that was dropped before a text.
+fn put_dropped(dropped: Option<u64>, text: &mut ShortText)
+    requires { length text.old + 29 ≤ 352 }
+    ensures text { text.new ≡ dropped_text dropped ++ text.old }
+    ensures len { length text.new ≤ length text.old + 29 }
 {
     match dropped {
-        None => Ok(()),
-        Some(born) => write_named(b" dropped ", born, out),
+        None => {}
+        Some(born) => {
+            text.put_number(born);
+            text.put(b" dropped ");
+        }
     }
+}
+
+/// Puts what happened before a text, if no identifier is told, and says whether it did.
+fn put_note(note: &Note, text: &mut ShortText) -> bool
+    requires { length text.old + 35 ≤ 352 }
+    ensures put { IsTrue result → text.new ≡ note_text note.now ++ text.old }
+    ensures not { result ≡ false → text.new ≡ text.old }
+    ensures len { length text.new ≤ length text.old + 35 }
+{
+    match note {
+        Note::Served => text.put(b"served"),
+        Note::Kept => text.put(b"kept"),
+        Note::Idle => text.put(b"idle"),
+        Note::Done(DueItem::Retry(born)) => {
+            text.put_number(*born);
+            text.put(b"done retry ");
+        }
+        Note::Done(DueItem::KeptOver(born)) => {
+            text.put_number(*born);
+            text.put(b"done kept-over ");
+        }
+        Note::Replaced(pool) => {
+            text.put_number(*pool as u64);
+            text.put(b"replaced ");
+        }
+        _ => return false,
+    }
+    true
+}
+
+/// Puts what is sent before a text, if that is short, and says whether it did.
+fn put_output(output: &Option<Datagram>, text: &mut ShortText) -> bool
+    requires { length text.old + 236 ≤ 352 }
+    ensures put { IsTrue result → text.new ≡ output_text output.now ++ text.old }
+    ensures not { result ≡ false → text.new ≡ text.old }
+    ensures len { length text.new ≤ length text.old + 236 }
+{
+    let Some(datagram) = output else {
+        return true;
+    };
+    let octets = datagram.bytes.as_slice();
+    if octets.len() > OCTETS_AT_ONCE {
+        return false;
+    }
+    text.put_digits(octets);
+    put_target(&datagram.to, text);
+    true
+}
+
+/// Puts ` > ADDRESS ` before a text.
+fn put_target(address: &Address, text: &mut ShortText)
+    requires { length text.old + 108 ≤ 352 }
+    ensures text { text.new ≡ codes " > " ++ address_text address.now ++ codes " " ++ text.old }
+    ensures len { length text.new ≤ length text.old + 108 }
+{
+    text.put_mark(b' ');
+    text.put_address(address);
+    text.put(b" > ");
 }
 
 /// Writes ` > ADDRESS `.
@@ -162,11 +230,7 @@ fn write_target<W: Write>(address: &Address, out: &mut W) -> io::Result<()>
         (codes " > " ++ address_text address.now ++ codes " ")) }
 {
     let mut text = ShortText::new();
-    text.put_mark(b' ');
-    text.put_address(address);
-    text.put_mark(b' ');
-    text.put_mark(b'>');
-    text.put_mark(b' ');
+    put_target(address, &mut text);
     out.write_all(text.as_slice())
 }
 
@@ -194,7 +258,31 @@ fn write_place<W: Write>(number: usize, out: &mut W) -> io::Result<()>
     out.write_all(text.as_slice())
 }
 
-/// Writes the line of an outcome, with this number.
+/// Writes what stands before the output in the line of an outcome, and a text behind it.
+fn write_front<W: Write>(
+    number: usize,
+    outcome: &Outcome,
+    text: &mut ShortText,
+    out: &mut W,
+) -> io::Result<()>
+    requires { length text.old + 111 ≤ 352 }
+    ensures { OnOk result (Appends (W.contents out.old) (W.contents out.new)
+        (decimal number ++ codes " " ++ note_text outcome.now.note
+        ++ answer_text outcome.now.answer ++ dropped_text outcome.now.dropped ++ text.old)) }
+{
+    put_dropped(outcome.dropped, text);
+    put_answer(&outcome.answer, text);
+    if put_note(&outcome.note, text) {
+        text.put_mark(b' ');
+        text.put_number(number as u64);
+        return out.write_all(text.as_slice());
+    }
+    write_place(number, out)?;
+    write_note(&outcome.note, out)?;
+    out.write_all(text.as_slice())
+}
+
+/// Writes the line of an outcome, with this number. Most lines are written in one piece.
 pub(crate) fn write_outcome<W: Write>(
     number: usize,
     outcome: &Outcome,
@@ -203,10 +291,13 @@ pub(crate) fn write_outcome<W: Write>(
     ensures { OnOk result (Appends (W.contents out.old) (W.contents out.new)
         (outcome_line number outcome.now)) }
 {
-    write_place(number, out)?;
-    write_note(&outcome.note, out)?;
-    write_answer(&outcome.answer, out)?;
-    write_dropped(outcome.dropped, out)?;
+    let mut text = ShortText::new();
+    text.put_mark(b'\n');
+    if put_output(&outcome.output, &mut text) {
+        return write_front(number, outcome, &mut text, out);
+    }
+    let mut nothing = ShortText::new();
+    write_front(number, outcome, &mut nothing, out)?;
     write_output(&outcome.output, out)?;
     out.write_all(b"\n")
 }
