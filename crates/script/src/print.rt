@@ -1,6 +1,6 @@
 //! Printing outcomes.
 
-ghost use Rattle.std.specs.Prelude.{◌≡◌, ◌+◌, ◌++◌, ◌≤◌, IsTrue, OnOk, codes, false, length};
+ghost use Rattle.std.specs.Prelude.{◌≡◌, ◌+◌, ◌++◌, ◌≤◌, IsTrue, OnOk, codes, length, []};
 ghost use Rattle.std.specs.Fmt.{decimal};
 ghost use Rattle.std.specs.Io.KnownBytes.{Appends};
 ghost use Rattle.hex.specs.Hex.{encode_upper};
@@ -166,11 +166,10 @@ fn put_dropped(dropped: Option<u64>, text: &mut ShortText)
     }
 }
 
-/// Puts what happened before a text, if no identifier is told, and says whether it did.
+/// Puts what happened before a text, if that is short, and says whether it is.
 fn put_note(note: &Note, text: &mut ShortText) -> bool
     requires { length text.old + 35 ≤ 352 }
     ensures put { IsTrue result → text.new ≡ note_text note.now ++ text.old }
-    ensures not { result ≡ false → text.new ≡ text.old }
     ensures len { length text.new ≤ length text.old + 35 }
 {
     match note {
@@ -194,11 +193,10 @@ fn put_note(note: &Note, text: &mut ShortText) -> bool
     true
 }
 
-/// Puts what is sent before a text, if that is short, and says whether it did.
+/// Puts what is sent before a text, if that is short, and says whether it is.
 fn put_output(output: &Option<Datagram>, text: &mut ShortText) -> bool
     requires { length text.old + 236 ≤ 352 }
     ensures put { IsTrue result → text.new ≡ output_text output.now ++ text.old }
-    ensures not { result ≡ false → text.new ≡ text.old }
     ensures len { length text.new ≤ length text.old + 236 }
 {
     let Some(datagram) = output else {
@@ -258,31 +256,52 @@ fn write_place<W: Write>(number: usize, out: &mut W) -> io::Result<()>
     out.write_all(text.as_slice())
 }
 
-/// Writes what stands before the output in the line of an outcome, and a text behind it.
-fn write_front<W: Write>(
-    number: usize,
-    outcome: &Outcome,
-    text: &mut ShortText,
-    out: &mut W,
-) -> io::Result<()>
-    requires { length text.old + 111 ≤ 352 }
-    ensures { OnOk result (Appends (W.contents out.old) (W.contents out.new)
-        (decimal number ++ codes " " ++ note_text outcome.now.note
-        ++ answer_text outcome.now.answer ++ dropped_text outcome.now.dropped ++ text.old)) }
+/// Puts the line of an outcome, with this number, if it is short, and says whether it is.
+fn put_line(number: usize, outcome: &Outcome, text: &mut ShortText) -> bool
+    requires { text.old ≡ [] }
+    ensures { IsTrue result → text.new ≡ outcome_line number outcome.now }
 {
+    text.put_mark(b'\n');
+    if !put_output(&outcome.output, text) {
+        return false;
+    }
     put_dropped(outcome.dropped, text);
     put_answer(&outcome.answer, text);
-    if put_note(&outcome.note, text) {
-        text.put_mark(b' ');
-        text.put_number(number as u64);
-        return out.write_all(text.as_slice());
+    if !put_note(&outcome.note, text) {
+        return false;
     }
+    text.put_mark(b' ');
+    text.put_number(number as u64);
+    true
+}
+
+/// Writes what stands before the output in the line of an outcome.
+fn write_front<W: Write>(number: usize, outcome: &Outcome, out: &mut W) -> io::Result<()>
+    ensures { OnOk result (Appends (W.contents out.old) (W.contents out.new)
+        (decimal number ++ codes " " ++ note_text outcome.now.note
+        ++ answer_text outcome.now.answer ++ dropped_text outcome.now.dropped)) }
+{
+    let mut text = ShortText::new();
+    put_dropped(outcome.dropped, &mut text);
+    put_answer(&outcome.answer, &mut text);
     write_place(number, out)?;
     write_note(&outcome.note, out)?;
     out.write_all(text.as_slice())
 }
 
-/// Writes the line of an outcome, with this number. Most lines are written in one piece.
+/// Writes the line of an outcome part by part.
+#[inline(never)]
+fn write_long_line<W: Write>(number: usize, outcome: &Outcome, out: &mut W) -> io::Result<()>
+    ensures { OnOk result (Appends (W.contents out.old) (W.contents out.new)
+        (outcome_line number outcome.now)) }
+{
+    write_front(number, outcome, out)?;
+    write_output(&outcome.output, out)?;
+    out.write_all(b"\n")
+}
+
+/// Writes the line of an outcome, with this number. Most lines are short, and are written in one
+/// piece.
 pub(crate) fn write_outcome<W: Write>(
     number: usize,
     outcome: &Outcome,
@@ -292,14 +311,10 @@ pub(crate) fn write_outcome<W: Write>(
         (outcome_line number outcome.now)) }
 {
     let mut text = ShortText::new();
-    text.put_mark(b'\n');
-    if put_output(&outcome.output, &mut text) {
-        return write_front(number, outcome, &mut text, out);
+    if !put_line(number, outcome, &mut text) {
+        return write_long_line(number, outcome, out);
     }
-    let mut nothing = ShortText::new();
-    write_front(number, outcome, &mut nothing, out)?;
-    write_output(&outcome.output, out)?;
-    out.write_all(b"\n")
+    out.write_all(text.as_slice())
 }
 
 /// Writes the line of a fresh pool that is refused, with this number.
