@@ -1,4 +1,4 @@
-use Rattle.std.proofs.Common.{◌∙◌, slice_index}
+use Rattle.std.proofs.Common.{slice_index}
 use Rattle.std.specs.Fmt.{decimal}
 use Rattle.script.proofs.Printing.{address_flat}
 use Rattle.script.proofs.short_text.ShortText.put_address.Goals as goal
