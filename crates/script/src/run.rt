@@ -176,8 +176,6 @@ fn run_event<P: Pool, W: Write + Drop>(
 
 /// Offers the zone a fresh pool, in the event with this number, and writes the line of what comes
 /// of it. The pool that comes back is let go.
-// Not inlined, since its large places would be cleared at each event.
-#[inline(never)]
 fn run_replacement<P: Pool, W: Write + Drop>(
     zone: &mut Zone<P>,
     number: usize,

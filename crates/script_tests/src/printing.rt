@@ -138,3 +138,42 @@ fn answer_and_dropped_entry_and_output_follow_the_note(rt: HostRuntime) -> Resul
     assert_eq!(rt; out.as_slice(), lines.as_slice());
     Ok(())
 }
+
+/// The line of a call that was served, whose reply has so many octets, each 171.
+fn line_of_octets(alloc: Global, count: usize) -> Result<Vec<u8>, Fail> {
+    let bytes = vec![in alloc; 0xABu8; count]?;
+    line_of(
+        alloc,
+        Outcome {
+            answer: Some(Lend::Lent(640)),
+            output: Some(Datagram {
+                to: Address {
+                    ip: [192, 168, 100, 200],
+                    port: 65_535,
+                },
+                bytes: Octets::from_vec(bytes),
+            }),
+            note: Note::Served,
+            dropped: Some(12),
+            given: None,
+        },
+    )
+}
+
+#[test]
+fn short_and_long_replies_are_printed_alike(rt: HostRuntime) -> Result<(), Fail> {
+    for count in [0, 1, 63, 64, 65, 128, 129, 1000] {
+        let mut line = Vec::new(rt.alloc());
+        line.extend_from_slice(b"1 served lent 640 dropped 12 > 192.168.100.200:65535 ")?;
+        for _ in 0..count {
+            line.extend_from_slice(b"AB")?;
+        }
+        line.extend_from_slice(b"\n")?;
+        assert_eq!(rt;
+            line_of_octets(rt.alloc(), count)?.as_slice(),
+            line.as_slice(),
+            "{count}"
+        );
+    }
+    Ok(())
+}
