@@ -8,24 +8,42 @@ use Rattle.zone_events.specs.declared.change.Change.TheVariants.{Event, PoolChan
 use Rattle.zone_events.specs.declared.event.Event.TheVariants.{Datagram, Turn}
 use Rattle.ras_machine.specs.State.{State}
 use Rattle.books.specs.declared.book.Entry.{Entry}
+use Rattle.books.specs.declared.kind.StepKind.{StepKind}
+use Rattle.books.specs.declared.kind.StepKind.TheVariants as kind
 use Rattle.books.specs.declared.totals.Totals.{Totals}
 
+-- of what a step was made
+abbrev pub kind_of : Change → StepKind
+kind_of (Event (Datagram source bytes moment)) = kind.Datagram
+kind_of (Event (Turn moment)) = kind.Turn
+kind_of (PoolChange replacement) = kind.PoolChange
+
 -- 1 for a datagram, and 0 for all else
+abbrev pub datagrams_of_kind : StepKind → ℕ
+datagrams_of_kind kind.Datagram = 1
+datagrams_of_kind kind.Turn = 0
+datagrams_of_kind kind.PoolChange = 0
+
 abbrev pub datagrams_in : Change → ℕ
-datagrams_in (Event (Datagram source bytes moment)) = 1
-datagrams_in (Event (Turn moment)) = 0
-datagrams_in (PoolChange replacement) = 0
+datagrams_in event = datagrams_of_kind (kind_of event)
 
 -- 1 for a turn, and 0 for all else
+abbrev pub turns_of_kind : StepKind → ℕ
+turns_of_kind kind.Datagram = 0
+turns_of_kind kind.Turn = 1
+turns_of_kind kind.PoolChange = 0
+
 abbrev pub turns_in : Change → ℕ
-turns_in (Event (Datagram source bytes moment)) = 0
-turns_in (Event (Turn moment)) = 1
-turns_in (PoolChange replacement) = 0
+turns_in event = turns_of_kind (kind_of event)
 
 -- 1 for a pool that took the place of another one, and 0 for all else
+abbrev pub changes_of_kind : StepKind → ℕ
+changes_of_kind kind.Datagram = 0
+changes_of_kind kind.Turn = 0
+changes_of_kind kind.PoolChange = 1
+
 abbrev pub changes_in : Change → ℕ
-changes_in (Event event) = 0
-changes_in (PoolChange replacement) = 1
+changes_in event = changes_of_kind (kind_of event)
 
 -- the units that a pool lent by its answer
 abbrev pub units_lent : Option Lend → ℕ

@@ -5,6 +5,7 @@
 mod book;
 mod chapter;
 mod finished;
+mod kind;
 mod laws;
 mod shared;
 mod totals;
@@ -12,9 +13,10 @@ mod totals;
 pub use book::{Book, Entry, Receipt};
 pub use chapter::Chapter;
 pub use finished::Finished;
+pub use kind::StepKind;
 pub use laws::{
     a_book_begins_without_entries, a_book_goes_on_by_a_step, a_book_uses_no_more_than_is_lent,
     a_step_uses_no_more_than_is_lent,
 };
 pub use shared::SharedSnapshot;
-pub use totals::{Totals, changes_in, datagrams_in, totals_of, turns_in, units_lent};
+pub use totals::{Totals, totals_of, units_lent};

@@ -1,12 +1,12 @@
 //! What the steps of a history add up to.
 
 ghost use Rattle.std.specs.Prelude.{◌≡◌, ◌≤◌, ◌<◌, ◌+◌, ◌*◌, ◌^◌, length};
-ghost use Rattle.books.specs.Totals.{changes_in, datagrams_in, no_totals, totals_with, turns_in};
-ghost use Rattle.books.specs.Totals.{units_lent};
+ghost use Rattle.books.specs.Totals.{changes_of_kind, datagrams_of_kind, no_totals, totals_with};
+ghost use Rattle.books.specs.Totals.{turns_of_kind, units_lent};
 
 use crate::book::Entry;
+use crate::kind::StepKind;
 use pools::Lend;
-use zone_events::{Change, Event, Outcome};
 
 /// How many datagrams and how many turns there were, how many units were lent, how many came back,
 /// and how many pools took the place of another one.
@@ -33,23 +33,24 @@ impl Totals {
         }
     }
 
-    /// The totals with one step more, in which nothing came back.
-    pub fn with_step(self, event: &Change, outcome: &Outcome) -> Self
+    /// The totals with one step more, of this kind and with this answer of a pool, in which nothing
+    /// came back.
+    pub fn with_step(self, kind: StepKind, answer: Option<Lend>) -> Self
         requires steps { self.datagrams + self.turns + self.changes + 1 < 2 ^ 64 }
         requires units { self.lent + 2 ^ 64 < 2 ^ 128 }
-        ensures datagrams { result.datagrams ≡ self.datagrams + datagrams_in event.now }
-        ensures turns { result.turns ≡ self.turns + turns_in event.now }
-        ensures lent { result.lent ≡ self.lent + units_lent outcome.now.answer }
-        ensures few { units_lent outcome.now.answer < 2 ^ 64 }
+        ensures datagrams { result.datagrams ≡ self.datagrams + datagrams_of_kind kind }
+        ensures turns { result.turns ≡ self.turns + turns_of_kind kind }
+        ensures lent { result.lent ≡ self.lent + units_lent answer }
+        ensures few { units_lent answer < 2 ^ 64 }
         ensures returned { result.returned ≡ self.returned }
-        ensures changes { result.changes ≡ self.changes + changes_in event.now }
+        ensures changes { result.changes ≡ self.changes + changes_of_kind kind }
     {
         Totals {
-            datagrams: self.datagrams + datagrams_in(event),
-            turns: self.turns + turns_in(event),
-            lent: self.lent + units_lent(outcome) as u128,
+            datagrams: self.datagrams + kind.datagrams(),
+            turns: self.turns + kind.turns(),
+            lent: self.lent + units_lent(answer) as u128,
             returned: self.returned,
-            changes: self.changes + changes_in(event),
+            changes: self.changes + kind.changes(),
         }
     }
 }
@@ -61,48 +62,16 @@ pub fn totals_of(entries: &[Entry]) -> Totals
 {
     let mut totals = Totals::none();
     for entry in entries {
-        totals = totals.with_step(&entry.event, &entry.outcome);
+        totals = totals.with_step(StepKind::of(&entry.event), entry.outcome.answer);
     }
     totals
 }
 
-/// 1 for a datagram, and 0 for all else.
-pub fn datagrams_in(event: &Change) -> u64
-    ensures { result ≡ datagrams_in event.now }
+/// The units that a pool lent by its answer.
+pub fn units_lent(answer: Option<Lend>) -> u64
+    ensures { result ≡ units_lent answer }
 {
-    match event {
-        Change::Event(Event::Datagram(_, _, _)) => 1,
-        Change::Event(Event::Turn(_)) => 0,
-        Change::PoolChange(_) => 0,
-    }
-}
-
-/// 1 for a turn, and 0 for all else.
-pub fn turns_in(event: &Change) -> u64
-    ensures { result ≡ turns_in event.now }
-{
-    match event {
-        Change::Event(Event::Datagram(_, _, _)) => 0,
-        Change::Event(Event::Turn(_)) => 1,
-        Change::PoolChange(_) => 0,
-    }
-}
-
-/// 1 for a pool that took the place of another one, and 0 for all else.
-pub fn changes_in(event: &Change) -> u64
-    ensures { result ≡ changes_in event.now }
-{
-    match event {
-        Change::Event(_) => 0,
-        Change::PoolChange(_) => 1,
-    }
-}
-
-/// The units that were lent in a step.
-pub fn units_lent(outcome: &Outcome) -> u64
-    ensures { result ≡ units_lent outcome.now.answer }
-{
-    match outcome.answer {
+    match answer {
         Some(Lend::Lent(units)) => units,
         Some(Lend::Refused) => 0,
         Some(Lend::Wait) => 0,

@@ -2,7 +2,7 @@
 
 use books::Receipt;
 use pools::{FixedPool, PoolSet};
-use ras_core::{Config, ConfigParts, Event, Moment, Networks, Prepared, Zone, prepare};
+use ras_core::{Config, ConfigParts, Event, Moment, Networks, Outcome, Prepared, Zone, prepare};
 use ras_module::{Address, Name, Octets, Source};
 use std::alloc::Global;
 use std::sync::Wait;
@@ -65,13 +65,17 @@ pub fn apply<D: Hall, T: Ledger, U: Ledger, V: Ledger>(
     lock.apply(rt, seat, datagram(alloc, bytes)?).ok()
 }
 
-/// Whether the receipt is that of its seat's call at this place, with this reply.
-pub fn is_told(receipt: &Receipt, call: usize, place: usize, reply: &[u8]) -> bool {
-    let is_sent = match &receipt.outcome.output {
+/// Whether this reply is sent to the endpoint.
+pub fn is_sent(outcome: &Outcome, reply: &[u8]) -> bool {
+    match &outcome.output {
         Some(output) => output.to == ENDPOINT && output.bytes.as_slice() == reply,
         None => false,
-    };
-    is_sent && receipt.call == call && receipt.place == place
+    }
+}
+
+/// Whether the receipt is that of its seat's call at this place, with this reply.
+pub fn is_told(receipt: &Receipt, call: usize, place: usize, reply: &[u8]) -> bool {
+    is_sent(&receipt.outcome, reply) && receipt.call == call && receipt.place == place
 }
 
 /// An equal receipt.

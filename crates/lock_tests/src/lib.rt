@@ -21,3 +21,5 @@ mod replacing;
 mod seats;
 #[cfg(test)]
 mod threads;
+#[cfg(test)]
+mod unrecorded;

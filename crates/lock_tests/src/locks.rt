@@ -10,6 +10,7 @@ use crate::listing::is_left_by_lists;
 use crate::replacing::{has_refused_pools, has_replaced_pool};
 use crate::seats::{are_listed, are_seated, is_short_of_a_seat};
 use crate::threads::are_all_entered;
+use crate::unrecorded::{are_all_counted, is_unrecorded};
 use pools::FixedPool;
 use ras_core::Zone;
 use std::alloc::Global;
@@ -33,6 +34,8 @@ pub enum Deed {
     ReturnedLoan,
     ReplacedPool,
     RefusedPools,
+    Unrecorded,
+    UnrecordedThreads,
 }
 
 /// Whether a lock of this many seats over a zone of its own passes what is done with it: false if
@@ -44,7 +47,7 @@ pub fn passes<R: Threads + Wait + Sync>(
     deed: Deed,
 ) -> Option<bool> {
     let zone = match deed {
-        Deed::ReturnedLoan => zone_of(alloc, 2_000, 1_000)?,
+        Deed::ReturnedLoan | Deed::Unrecorded => zone_of(alloc, 2_000, 1_000)?,
         _ => zone(alloc)?,
     };
     let blanks = Blanks::new(seats);
@@ -89,6 +92,8 @@ fn open_and_do<
             Deed::ReturnedLoan => has_returned_loan(rt, alloc, lock, seats),
             Deed::ReplacedPool => has_replaced_pool(rt, alloc, lock, seats),
             Deed::RefusedPools => has_refused_pools(rt, alloc, lock, seats),
+            Deed::Unrecorded => is_unrecorded(rt, alloc, lock, seats),
+            Deed::UnrecordedThreads => are_all_counted(rt, alloc, lock, seats),
         },
         Err((_, OpenFault::BadSeats)) => Some(false),
         Err((_, OpenFault::Memory)) => None,

@@ -1,6 +1,6 @@
 //! Events whose datagrams were read before anything of the zone is needed.
 
-ghost use Rattle.std.specs.Prelude.{◌≡◌, IfOk};
+ghost use Rattle.std.specs.Prelude.{◌≡◌, ◌↔◌, IfOk, IsTrue};
 ghost use Rattle.zone_events.specs.Events.{moment_in};
 ghost use Rattle.ras_machine.specs.Prepared.{IsRead, event_at, message_in};
 
@@ -95,6 +95,16 @@ impl Prepared {
         ensures { result ≡ moment_in self.now }
     {
         self.moment
+    }
+
+    /// Whether it is a turn.
+    pub fn is_turn(&self) -> bool
+        ensures { IsTrue result ↔ (self.now ≡ Event.Turn (moment_in self.now)) }
+    {
+        match self.arrival {
+            Arrival::Datagram(_, _) => false,
+            Arrival::Turn => true,
+        }
     }
 
     /// An equal event.

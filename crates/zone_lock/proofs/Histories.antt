@@ -49,7 +49,7 @@ longer h entry after = record {
   zone = after;
 }
 
-kept_more : (opened : State) (h : Held) (entry : Entry) (after : Running) → IsKept opened h
+pub kept_more : (opened : State) (h : Held) (entry : Entry) (after : Running) → IsKept opened h
     → RunningChange h.zone entry.event entry.outcome after → IsKept opened (longer h entry after)
 kept_more opened h entry after kept change =
     let step = step_of h.zone entry.event entry.outcome after change in
@@ -70,6 +70,22 @@ kept_more opened h entry after kept change =
       sound = sound_after h.zone entry.event entry.outcome after change;
       few = omega (arith, kept.few, fair.steps, length-append h.entries (entry ∷ []));
     }
+
+pub past_kept : (opened : State) (h : Held) (entry : Entry) (after : Running)
+    (kept : IsKept opened h) (step : RunningChange h.zone entry.event entry.outcome after)
+    → (kept_more opened h entry after kept step).past ≡ kept.past
+unfolding kept_more
+past_kept opened h entry after kept step = refl
+
+-- what is held, by its parts
+abbrev pub cut_so : ℕ → Totals → Option State → List Entry → Running → Held
+cut_so first carried base entries zone = record {
+  first = first;
+  carried = carried;
+  base = base;
+  entries = entries;
+  zone = zone;
+}
 
 pub inside_more : (opened : State) (h : Held) (sums next : Totals) (units d t u v d1 t1 u1 v1 : ℕ)
     (entry : Entry) (after : Running) → IsInside opened h sums units d t u v
@@ -110,15 +126,36 @@ inside_more opened h sums next units d t u v d1 t1 u1 v1 entry after is step few
       few_lent = omega (arith, us, is.few_lent, few, length-append h.entries (entry ∷ []));
     }
 
--- what is held, by its parts
-abbrev pub cut_so : ℕ → Totals → Option State → List Entry → Running → Held
-cut_so first carried base entries zone = record {
-  first = first;
-  carried = carried;
-  base = base;
-  entries = entries;
-  zone = zone;
-}
+-- the same, with the list in which the entry stands behind the others
+pub inside_entered : (opened : State) (h : Held) (sums next : Totals)
+    (units d t u v d1 t1 u1 v1 : ℕ) (entry : Entry) (after : Running) (es : List Entry)
+    → es ≡ h.entries ++ entry ∷ [] → IsInside opened h sums units d t u v
+    → RunningChange h.zone entry.event entry.outcome after
+    → units_lent entry.outcome.answer < 2 ^ 64
+    → next.datagrams ≡ sums.datagrams + datagrams_in entry.event
+    → next.turns ≡ sums.turns + turns_in entry.event
+    → next.lent ≡ sums.lent + units_lent entry.outcome.answer → next.returned ≡ sums.returned
+    → next.changes ≡ sums.changes + changes_in entry.event
+    → d1 ≡ d + datagrams_in entry.event → t1 ≡ t + turns_in entry.event
+    → u1 ≡ u + units_lent entry.outcome.answer → v1 ≡ v + changes_in entry.event
+    → IsInside opened (cut_so h.first h.carried h.base es after) next units d1 t1 u1 v1
+inside_entered opened h sums next units d t u v d1 t1 u1 v1 entry after es items is step few ds ts
+    us rs cs dt tt ut vt =
+    subst (λ (x : List Entry). IsInside opened (cut_so h.first h.carried h.base x after) next units
+    d1 t1 u1 v1) (sym items)
+    (inside_more opened h sums next units d t u v d1 t1 u1 v1 entry after is step few ds ts us rs
+    cs dt tt ut vt)
+
+-- There is room for one step more in the totals and in the calls of a seat, which made no more
+-- steps than all seats together.
+pub room_for_more : (opened : State) (h : Held) (sums : Totals) (units d t u v calls : ℕ)
+    → IsInside opened h sums units d t u v → calls ≤ d + t + v
+    → (sums.datagrams + sums.turns + sums.changes + 1 < 2 ^ 64) × (calls + 1 < 2 ^ 64)
+room_for_more opened h sums units d t u v calls is bound =
+    let many = so_many opened h sums units d t u v is in (
+      omega (arith, many.0, many.1),
+      omega (arith, bound, is.datagrams, is.turns, is.changes, many.0, many.1),
+    )
 
 no_entries : (es : List Entry) → length es ≡ 0 → es ≡ []
 no_entries [] is = refl
@@ -255,6 +292,10 @@ module _ (opened : State) (h : Held) (sums carried : Totals) (units d t u v : �
     changes = is.changes ∙ sym cs;
     few_lent = omega (arith, us, is.few_lent);
   }
+
+  pub past_cut : inside_cut.kept.past ≡ is.kept.past ++ h.entries
+  unfolding inside_cut kept_cut
+  past_cut = refl
 
 -- A zone that is locked, before its first step.
 pub inside_opened : (opened : State) (zone : Running) (base : State) (es : List Entry)

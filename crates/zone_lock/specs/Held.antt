@@ -105,6 +105,30 @@ receipt_at place entry = record {
   outcome = entry.outcome;
 }
 
+-- The entry of a step stands behind the others of the book.
+pub record IsRecorded (old : Held) (entry : Entry) (new : Held) : Type 0 where
+  pub entries : new.entries ≡ old.entries ++ entry ∷ []
+  pub first : new.first ≡ old.first
+  pub carried : new.carried ≡ old.carried
+
+-- The book has no entries, and begins behind the step. Its entry and those before it are in no
+-- memory, but their totals are carried.
+pub record IsUnrecorded (old : Held) (entry : Entry) (new : Held) : Type 0 where
+  pub entries : new.entries ≡ []
+  pub first : new.first ≡ old.first + length old.entries + 1
+  pub carried : AreCarriedOn old.carried (old.entries ++ entry ∷ []) new.carried
+
+-- A step was made whose entry this is. The whole history, kept or not, is what it was before, with
+-- this entry behind it. The step is recorded if a copy is kept of the state in which the book
+-- begins, and unrecorded if none is.
+pub record IsEntered (opened : State) (old : Held) (entry : Entry) (new : Held) : Type 0 where
+  pub before : IsKept opened old
+  pub after : IsKept opened new
+  pub history : after.past ++ new.entries ≡ before.past ++ old.entries ++ entry ∷ []
+  pub base : new.base ≡ old.base
+  pub recorded : old.base ≢ None → IsRecorded old entry new
+  pub unrecorded : old.base ≡ None → IsUnrecorded old entry new
+
 -- The records that follow say what was done by whoever waited for a lock, whose zone had the state
 -- `opened` when it was put behind it. What stands behind the lock at that moment isn't known
 -- before.
@@ -119,6 +143,13 @@ pub record IsStepUnderLock (opened : State) (place : ℕ) (entry : Entry) : Type
   pub entries : new.entries ≡ old.entries ++ entry ∷ []
   pub first : new.first ≡ old.first
   pub is_at : place ≡ old.first + length old.entries
+
+-- one step, of which a record may be left out
+pub record IsMadeUnderLock (opened : State) (entry : Entry) : Type 0 where
+  pub old : Held
+  pub new : Held
+  pub step : RunningChange old.zone entry.event entry.outcome new.zone
+  pub entered : IsEntered opened old entry new
 
 -- a pool was replaced by one step: its entry stands behind the others then, and the old pool, seen
 -- as this account, came back with nothing lent

@@ -1,8 +1,11 @@
 -- Seats, and what a step does to its seat.
-use Rattle.std.specs.Prelude.{◌≡◌, ◌≤◌, ◌+◌, ℕ}
+use Rattle.std.specs.Prelude.{◌≡◌, ◌≤◌, ◌+◌, ℕ, Option}
+use Rattle.pools.specs.declared.interface.Lend.{Lend}
 use Rattle.zone_events.specs.declared.change.Change.{Change}
 use Rattle.zone_events.specs.declared.outcome.Outcome.{Outcome}
-use Rattle.books.specs.Totals.{changes_in, datagrams_in, turns_in, units_lent}
+use Rattle.books.specs.declared.kind.StepKind.{StepKind}
+use Rattle.books.specs.Totals.{changes_of_kind, datagrams_of_kind, kind_of, turns_of_kind}
+use Rattle.books.specs.Totals.{units_lent}
 
 -- Its number, how many steps it made, and its shares: how many of these were of a datagram, how
 -- many of a turn, how many units were lent in them, and how many were of a pool that took the place
@@ -25,16 +28,20 @@ seated number calls datagrams turns lent changes = record {
   changes = changes;
 }
 
--- the seat made one step more, of this event and with this outcome
-abbrev pub seated_after : Seated → Change → Outcome → Seated
-seated_after seat event outcome = record {
+-- the seat made one step more, of this kind and with this answer of a pool
+abbrev pub seated_by : Seated → StepKind → Option Lend → Seated
+seated_by seat kind answer = record {
   number = seat.number;
   calls = seat.calls + 1;
-  datagrams = seat.datagrams + datagrams_in event;
-  turns = seat.turns + turns_in event;
-  lent = seat.lent + units_lent outcome.answer;
-  changes = seat.changes + changes_in event;
+  datagrams = seat.datagrams + datagrams_of_kind kind;
+  turns = seat.turns + turns_of_kind kind;
+  lent = seat.lent + units_lent answer;
+  changes = seat.changes + changes_of_kind kind;
 }
+
+-- the seat made one step more, of this event and with this outcome
+abbrev pub seated_after : Seated → Change → Outcome → Seated
+seated_after seat event outcome = seated_by seat (kind_of event) outcome.answer
 
 -- a lock has this many seats
 pub record IsSeatCount (seats : ℕ) : Type 0 where

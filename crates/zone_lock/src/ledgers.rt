@@ -2,12 +2,13 @@
 //! others.
 
 ghost use Rattle.std.specs.Prelude.{◌≡◌, ◌≤◌, ◌<◌, ◌+◌, ◌^◌};
-ghost use Rattle.books.specs.Totals.{changes_in, datagrams_in, turns_in, units_lent};
-ghost use Rattle.zone_lock.specs.Seats.{seated_after};
+ghost use Rattle.books.specs.Totals.{changes_of_kind, datagrams_of_kind, turns_of_kind};
+ghost use Rattle.books.specs.Totals.{units_lent};
+ghost use Rattle.zone_lock.specs.Seats.{seated_by};
 
 use crate::seat::{Hall, Seat};
-use books::{changes_in, datagrams_in, turns_in, units_lent};
-use ras_core::{Change, Outcome};
+use books::{StepKind, units_lent};
+use pools::Lend;
 use std::sync::ledger::{Book, Ledger};
 
 /// The books of the ledgers. Each has the total of what the seats have.
@@ -36,15 +37,20 @@ impl<D: Hall, T: Ledger, U: Ledger, V: Ledger> Ledgers<D, T, U, V> {
     }
 
     /// Counts a step of a seat, in its shares and in the totals.
-    pub(crate) fn count(&mut self, seat: &mut Seat<D, T, U, V>, event: &Change, outcome: &Outcome)
+    pub(crate) fn count(
+        &mut self,
+        seat: &mut Seat<D, T, U, V>,
+        kind: StepKind,
+        answer: Option<Lend>,
+    )
         requires { seat.old.calls + 1 < 2 ^ 64 }
-        ensures seat { seat.new ≡ seated_after seat.old event.now outcome.now }
+        ensures seat { seat.new ≡ seated_by seat.old kind answer }
         ensures datagrams { self.new.datagrams.total
-            ≡ self.old.datagrams.total + datagrams_in event.now }
-        ensures turns { self.new.turns.total ≡ self.old.turns.total + turns_in event.now }
-        ensures lent { self.new.lent.total ≡ self.old.lent.total + units_lent outcome.now.answer }
+            ≡ self.old.datagrams.total + datagrams_of_kind kind }
+        ensures turns { self.new.turns.total ≡ self.old.turns.total + turns_of_kind kind }
+        ensures lent { self.new.lent.total ≡ self.old.lent.total + units_lent answer }
         ensures changes { self.new.changes.total
-            ≡ self.old.changes.total + changes_in event.now }
+            ≡ self.old.changes.total + changes_of_kind kind }
     {
         let Ledgers {
             datagrams,
@@ -61,10 +67,10 @@ impl<D: Hall, T: Ledger, U: Ledger, V: Ledger> Ledgers<D, T, U, V> {
             changes: my_changes,
             buffer: _,
         } = seat;
-        datagrams.add(my_datagrams, datagrams_in(event));
-        turns.add(my_turns, turns_in(event));
-        lent.add(my_lent, units_lent(outcome));
-        changes.add(my_changes, changes_in(event));
+        datagrams.add(my_datagrams, kind.datagrams());
+        turns.add(my_turns, kind.turns());
+        lent.add(my_lent, units_lent(answer));
+        changes.add(my_changes, kind.changes());
         *calls += 1;
     }
 }

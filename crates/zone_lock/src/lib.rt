@@ -13,6 +13,7 @@ mod locked;
 mod order;
 mod replacing;
 mod seat;
+mod stepping;
 
 pub use cutting::{CutFault, Discarded, cut_locked, discard_locked};
 pub use ending::finish_locked;
@@ -21,3 +22,4 @@ pub use lock::{Blanks, OpenFault, ZoneLock};
 pub use locked::{Locked, apply_locked, list_locked};
 pub use replacing::replace_locked;
 pub use seat::{Hall, Seat};
+pub use stepping::step_locked;

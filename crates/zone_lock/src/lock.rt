@@ -8,9 +8,9 @@ ghost use Rattle.ras_core.specs.Replacing.{change_by};
 ghost use Rattle.books.specs.Books.{BookRun};
 ghost use Rattle.books.specs.Totals.{changes_of, datagrams_of, lent_of, returned_by, turns_of};
 ghost use Rattle.zone_lock.specs.Held.{IsBookUnderLock, IsChapterUnderLock, IsClosed};
-ghost use Rattle.zone_lock.specs.Held.{IsLedInUse, IsOpen, IsStepUnderLock, IsWholeHistory};
-ghost use Rattle.zone_lock.specs.Held.{IsRefusedUnderLock, IsReplacedUnderLock, IsWithoutBase};
-ghost use Rattle.zone_lock.specs.Held.{entry_by, receipt_at};
+ghost use Rattle.zone_lock.specs.Held.{IsLedInUse, IsMadeUnderLock, IsOpen, IsStepUnderLock};
+ghost use Rattle.zone_lock.specs.Held.{IsRefusedUnderLock, IsReplacedUnderLock, IsWholeHistory};
+ghost use Rattle.zone_lock.specs.Held.{IsWithoutBase, entry_by, receipt_at};
 ghost use Rattle.zone_lock.specs.Faults.{open_fault_number};
 ghost use Rattle.zone_lock.specs.Listings.{IsListingUnderLock};
 ghost use Rattle.zone_lock.specs.Seats.{IsSeatCount, seated, seated_after};
@@ -23,9 +23,10 @@ use crate::locked::{Locked, fault_without_order, list_locked, make_step};
 use crate::order::Order;
 use crate::replacing::replace_locked;
 use crate::seat::{Hall, Seat};
+use crate::stepping::step_locked;
 use books::{Chapter, Entry, Finished, Receipt, SharedSnapshot, Totals};
 use pools::{Pool, ReplaceFault};
-use ras_core::{Change, Moment, Prepared, StepFault, Zone};
+use ras_core::{Change, Moment, Outcome, Prepared, StepFault, Zone};
 use std::alloc::{AllocError, Global};
 use std::sync::ledger::{Blank, Ledger, Share};
 use std::sync::{Mutex, Wait};
@@ -177,6 +178,27 @@ impl<P: Pool, D: Hall, T: Ledger, U: Ledger, V: Ledger> ZoneLock<P, D, T, U, V> 
             Ok(order) => make_step(&mut *self.inner.lock(rt), seat, order),
             Err(_) => Err(fault_without_order(&*self.inner.lock(rt))),
         }
+    }
+
+    /// Waits for the lock and makes one step. Its outcome is made where the caller wants it. Nothing
+    /// else tells of the step, unless a chapter can be cut of the history: then it is recorded, as
+    /// `step_locked` does. After a refusal what stands in place of the outcome means nothing.
+    pub fn step<R: Wait>(
+        &self,
+        rt: &R,
+        seat: &mut Seat<D, T, U, V>,
+        prepared: Prepared,
+        outcome: &mut Outcome,
+    ) -> Result<(), StepFault>
+        ensures step { OnOk result (IsMadeUnderLock D.opened
+            (entry_by seat.old.number seat.old.calls (Change.Event prepared) outcome.new)) }
+        ensures seat { OnOk result
+            (seat.new ≡ seated_after seat.old (Change.Event prepared) outcome.new) }
+        ensures closed { result ≡ Err StepFault.Closed → IsClosed D.opened }
+        ensures memory { result ≡ Err StepFault.Memory → IsOpen D.opened }
+        ensures err { OnErr result (seat.new ≡ seat.old) }
+    {
+        step_locked(&mut *self.inner.lock(rt), seat, prepared, outcome)
     }
 
     /// Waits for the lock and puts a fresh pool in the place of the zone's pool with this number,

@@ -13,7 +13,7 @@ use crate::ledgers::Ledgers;
 use crate::listing::{Listing, listing_of};
 use crate::order::Order;
 use crate::seat::{Hall, Seat};
-use books::{Entry, Receipt, SharedSnapshot, Totals};
+use books::{Entry, Receipt, SharedSnapshot, StepKind, Totals};
 use pools::Pool;
 use ras_core::{Change, Outcome, Prepared, StepFault, Zone};
 use std::alloc::AllocError;
@@ -147,8 +147,9 @@ pub(crate) fn make_step<P: Pool, D: Hall, T: Ledger, U: Ledger, V: Ledger>(
         event: told,
         outcome: copy_of(&outcome, buffer),
     };
-    locked.so_far = locked.so_far.with_step(&kept, &outcome);
-    locked.ledgers.count(seat, &kept, &outcome);
+    let kind = StepKind::of(&kept);
+    locked.so_far = locked.so_far.with_step(kind, outcome.answer);
+    locked.ledgers.count(seat, kind, outcome.answer);
     locked.entries.push_reserved(Entry {
         seat: receipt.seat,
         call: receipt.call,

@@ -12,7 +12,7 @@ ghost use Rattle.zone_lock.specs.Seats.{seated_after};
 
 use crate::locked::Locked;
 use crate::seat::{Hall, Seat};
-use books::{Entry, Receipt};
+use books::{Entry, Receipt, StepKind};
 use pools::{Pool, ReplaceFault};
 use ras_core::{Change, Moment, PoolChange, figures_of};
 use std::sync::ledger::Ledger;
@@ -82,8 +82,9 @@ pub fn replace_locked<P: Pool, D: Hall, T: Ledger, U: Ledger, V: Ledger>(
         event: Change::PoolChange(*change),
         outcome: outcome.copy_into(room),
     };
-    locked.so_far = locked.so_far.with_step(&receipt.event, &outcome);
-    locked.ledgers.count(seat, &receipt.event, &outcome);
+    let kind = StepKind::PoolChange;
+    locked.so_far = locked.so_far.with_step(kind, outcome.answer);
+    locked.ledgers.count(seat, kind, outcome.answer);
     locked.entries.push_reserved(Entry {
         seat: receipt.seat,
         call: receipt.call,

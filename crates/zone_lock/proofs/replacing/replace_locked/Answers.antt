@@ -4,29 +4,19 @@ use Rattle.zone_events.specs.declared.change.Change.{Change}
 use Rattle.zone_events.specs.declared.change.Change.TheVariants as change
 use Rattle.ras_core.specs.Runs.{RunningChange, RunningReplacement}
 use Rattle.books.specs.declared.book.Entry.{Entry}
-use Rattle.zone_lock.specs.Held.{IsInside}
 use Rattle.zone_lock.specs.Seats.{Seated}
-use Rattle.zone_lock.proofs.Histories.{cut_so, inside_more, so_many}
+use Rattle.zone_lock.proofs.Histories.{cut_so, inside_entered, room_for_more}
 use Rattle.zone_lock.proofs.replacing.replace_locked.Goals as goal
 
 pub with_step-locked-inside-requires-clause-steps :
     goal.with_step-locked-inside-requires-clause-steps
 with_step-locked-inside-requires-clause-steps g c =
-    let many = so_many _ _ _ _ _ _ _ _ c.locked.invariant.0 in omega (arith, many.0, many.1)
+    (room_for_more _ _ _ _ _ _ _ _ 0 c.locked.invariant.0 (omega arith)).0
 
 pub count-requires : goal.count-requires
 count-requires g c =
-    let many = so_many _ _ _ _ _ _ _ _ c.locked.invariant.0 in
-    omega (
-      arith,
-      ap (λ (s : Seated). s.calls) c.audit.ensures.seat,
-      c.audit.ensures.bound,
-      c.locked.invariant.0.datagrams,
-      c.locked.invariant.0.turns,
-      c.locked.invariant.0.changes,
-      many.0,
-      many.1,
-    )
+    let room = room_for_more _ _ _ _ _ _ _ _ _ c.locked.invariant.0 c.audit.ensures.bound in
+    omega (arith, ap (λ (s : Seated). s.calls) c.audit.ensures.seat, room.1)
 
 pub invariant_of-locked-2 : goal.invariant_of-locked-2
 invariant_of-locked-2 g c =
@@ -50,24 +40,17 @@ invariant_of-locked-2 g c =
       moment = c.args.moment;
     }) c.in_ok-outcome.outcome c.replace.new.self) (sym c.figures_of.ensures)
     c.in_ok-outcome.ensures.step in
-    let next = c.with_step-locked-inside in (
-      subst (λ (es : List Entry). IsInside g.D.Hall.opened
-          (cut_so c.locked.inside.first c.locked.inside.carried c.locked.inside.base es
-          c.replace.new.self) next.result c.locked.inside.opened_units
-          c.count.new.self.datagrams.total c.count.new.self.turns.total c.count.new.self.lent.total
-          c.count.new.self.changes.total)
-          (sym items)
-          (inside_more g.D.Hall.opened
+    let next = c.with_step-locked-inside.ensures in (
+      inside_entered g.D.Hall.opened
           (cut_so c.locked.inside.first c.locked.inside.carried c.locked.inside.base
-          c.locked.inside.entries.items c.locked.inside.zone) c.locked.inside.so_far next.result
-          c.locked.inside.opened_units _ _ _ _ _ _ _ _ entry c.replace.new.self
-          c.locked.invariant.0 step
-          next.ensures.few next.ensures.datagrams next.ensures.turns next.ensures.lent
-          next.ensures.returned next.ensures.changes
+          c.locked.inside.entries.items c.locked.inside.zone) c.locked.inside.so_far
+          c.with_step-locked-inside.result c.locked.inside.opened_units _ _ _ _ _ _ _ _ entry
+          c.replace.new.self _ items c.locked.invariant.0 step next.few next.datagrams next.turns
+          next.lent next.returned next.changes
           (omega (arith, c.count.ensures.datagrams, c.audit.ensures.datagrams))
           (omega (arith, c.count.ensures.turns, c.audit.ensures.turns))
           (omega (arith, c.count.ensures.lent, c.audit.ensures.lent))
-          (omega (arith, c.count.ensures.changes, c.audit.ensures.changes))),
+          (omega (arith, c.count.ensures.changes, c.audit.ensures.changes)),
       c.locked.invariant.1,
     )
 

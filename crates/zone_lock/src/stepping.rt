@@ -1,0 +1,97 @@
+//! A step of which nothing is recorded unless somebody keeps chapters.
+
+ghost use Rattle.std.specs.Prelude.{◌≡◌, ◌↔◌, Err, None, OnErr, OnOk};
+ghost use Rattle.ras_machine.specs.Machine.{most_steps};
+ghost use Rattle.ras_core.specs.Runs.{RunningStep};
+ghost use Rattle.zone_lock.specs.Held.{IsEntered, IsKept, entry_by};
+ghost use Rattle.zone_lock.specs.Seats.{seated_after};
+
+use crate::locked::{Locked, apply_locked};
+use crate::seat::{Hall, Seat};
+use books::{Receipt, StepKind};
+use pools::Pool;
+use ras_core::{Change, Outcome, Prepared, StepFault};
+use std::sync::ledger::Ledger;
+
+/// Makes one step of the locked zone, or changes nothing. Its outcome is made where the caller
+/// wants it. Nothing else tells of the step: neither its event nor its outcome is copied, and the
+/// entries so far are let go; their totals and its own are carried. But if a copy is kept of the
+/// state in which the book begins, so that a chapter can be cut, the step is recorded as
+/// `apply_locked` does it. It is refused as Closed if and only if 2^62 steps were made. After a
+/// refusal what stands in place of the outcome means nothing.
+pub fn step_locked<P: Pool, D: Hall, T: Ledger, U: Ledger, V: Ledger>(
+    locked: &mut Locked<P, D, T, U, V>,
+    seat: &mut Seat<D, T, U, V>,
+    prepared: Prepared,
+    outcome: &mut Outcome,
+) -> Result<(), StepFault>
+    ensures step { OnOk result
+        (RunningStep locked.old.zone prepared outcome.new locked.new.zone) }
+    ensures entered { OnOk result (IsEntered D.opened locked.old
+        (entry_by seat.old.number seat.old.calls (Change.Event prepared) outcome.new)
+        locked.new) }
+    ensures seat { OnOk result
+        (seat.new ≡ seated_after seat.old (Change.Event prepared) outcome.new) }
+    ensures closed { (result ≡ Err StepFault.Closed)
+        ↔ (locked.old.zone.state.steps ≡ most_steps) }
+    ensures err { OnErr result (locked.new ≡ locked.old) }
+    ensures err_seat { OnErr result (seat.new ≡ seat.old) }
+    ensures before { IsKept D.opened locked.old }
+    ensures kept { IsKept D.opened locked.new }
+{
+    if locked.base.is_none() {
+        return step_unrecorded(locked, seat, prepared, outcome);
+    }
+    let receipt = apply_locked(locked, seat, prepared)?;
+    *outcome = outcome_of(receipt);
+    Ok(())
+}
+
+/// The step of a zone if no chapter of its history can be cut.
+fn step_unrecorded<P: Pool, D: Hall, T: Ledger, U: Ledger, V: Ledger>(
+    locked: &mut Locked<P, D, T, U, V>,
+    seat: &mut Seat<D, T, U, V>,
+    prepared: Prepared,
+    outcome: &mut Outcome,
+) -> Result<(), StepFault>
+    requires { locked.old.base ≡ None }
+    ensures step { OnOk result
+        (RunningStep locked.old.zone prepared outcome.new locked.new.zone) }
+    ensures entered { OnOk result (IsEntered D.opened locked.old
+        (entry_by seat.old.number seat.old.calls (Change.Event prepared) outcome.new)
+        locked.new) }
+    ensures seat { OnOk result
+        (seat.new ≡ seated_after seat.old (Change.Event prepared) outcome.new) }
+    ensures closed { (result ≡ Err StepFault.Closed)
+        ↔ (locked.old.zone.state.steps ≡ most_steps) }
+    ensures err { OnErr result (locked.new ≡ locked.old) }
+    ensures err_seat { OnErr result (seat.new ≡ seat.old) }
+    ensures before { IsKept D.opened locked.old }
+    ensures kept { IsKept D.opened locked.new }
+{
+    locked.ledgers.audit(seat);
+    let kind = StepKind::of_prepared(&prepared);
+    locked.zone.step_into(prepared, outcome)?;
+    locked.so_far = locked.so_far.with_step(kind, outcome.answer);
+    locked.so_far.returned = locked.opened_units as u128 + locked.so_far.lent
+        - locked.zone.in_use() as u128;
+    locked.carried = locked.so_far;
+    locked.ledgers.count(seat, kind, outcome.answer);
+    locked.first = locked.first + locked.entries.len() + 1;
+    locked.entries.clear();
+    Ok(())
+}
+
+/// The outcome that a receipt tells.
+fn outcome_of(receipt: Receipt) -> Outcome
+    ensures { result ≡ receipt.outcome }
+{
+    let Receipt {
+        seat: _,
+        call: _,
+        place: _,
+        event: _,
+        outcome,
+    } = receipt;
+    outcome
+}
