@@ -161,6 +161,37 @@ fn the_latest_chapters_are_kept(rt: HostRuntime) {
     assert!(rt; kept == Some(true));
 }
 
+/// Whether a server that records nothing serves and counts as any does, and no step is left.
+fn is_unrecorded<R: Threads + Wait + Clock + Sync>(rt: &R, alloc: Global) -> Option<bool> {
+    let (sent, reads, impatient) = (AtomicU64::new(0), AtomicU64::new(0), AtomicU64::new(0));
+    let room = Room {
+        rt,
+        sent: &sent,
+        reads: &reads,
+        impatient: &impatient,
+    };
+    let plan = Plan {
+        chapter: 4_096,
+        latest: 0,
+        receipts: false,
+        ..PLAN
+    };
+    let report = report(rt, alloc, &room, plan)?;
+    Some(
+        are_let_go(&report)
+            && are_all_sent(&report, sent.load(Ordering::SeqCst))
+            && report.datagrams == 4 * DATAGRAMS
+            && report.receipts.is_empty()
+            && impatient.load(Ordering::SeqCst) == 0,
+    )
+}
+
+#[test]
+fn a_server_without_records_serves_as_any(rt: HostRuntime) {
+    let passed = is_unrecorded(&rt, rt.alloc());
+    assert!(rt; passed == Some(true));
+}
+
 #[test]
 fn a_server_without_chapters_lets_its_steps_go(rt: HostRuntime) {
     let kept = keeps_latest(&rt, rt.alloc(), 0);

@@ -69,7 +69,11 @@ fn goes_on<P: Pool, D: Hall, T: Ledger, U: Ledger, V: Ledger, R: Wait, G: Gate, 
         let moment = worker.clock.now();
         match worker.step(shared, Event::Turn(moment)) {
             StepResult::Made { place, is_idle } => {
-                if chapters.end_if_due(shared, place).is_err() {
+                let ended = match place {
+                    Some(place) => chapters.end_if_due(shared, place),
+                    None => Ok(()),
+                };
+                if ended.is_err() {
                     worker.counts.refuse();
                 }
                 if is_idle {

@@ -17,6 +17,7 @@ mod report;
 mod sender;
 mod server;
 mod threads;
+mod unrecorded;
 mod worker;
 
 pub use datagrams::{Datagrams, DeviceFault, MOST_RECEIVED, Received};

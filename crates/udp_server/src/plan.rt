@@ -12,8 +12,17 @@ pub struct Plan {
     /// With how many entries or more, after a turn, a chapter of the history ends; 0: none ends.
     pub chapter: usize,
     /// How many of the latest chapters the report has; those before are let go. If it has none, a
-    /// chapter isn't made: its entries are let go, and the state of the zone isn't copied.
+    /// chapter isn't made: its entries are let go, and the state of the zone isn't copied. If it
+    /// has no receipts either, there are no entries: steps are made without a record.
     pub latest: usize,
     /// Whether the report has a receipt of each step.
     pub receipts: bool,
+}
+
+impl Plan {
+    /// Whether steps are recorded: for receipts, for chapters that are kept, or for a history that
+    /// isn't parted. Otherwise nothing is kept of a step but what it adds to the totals.
+    pub(crate) fn is_recorded(&self) -> bool {
+        self.receipts || self.chapter == 0 || self.latest > 0
+    }
 }

@@ -18,7 +18,7 @@ use crate::threads::{Crew, CrewRecord, run};
 use crate::worker::{Counts, Shared, Worker, WorkerRecord};
 use books::{Chapter, Finished, Receipt, totals_of};
 use pools::Pool;
-use ras_core::Zone;
+use ras_core::{Note, Outcome, Zone};
 use reply_queues::{Outlet, rings};
 use std::alloc::{AllocError, Global};
 use std::marker::Brand;
@@ -72,6 +72,11 @@ pub fn serve<
     let Ok(crew) = crew_of(alloc, seats, receivers, clocks, outlets, orders) else {
         return Err(ServeFault::Memory);
     };
+    if !plan.is_recorded() {
+        // Without the state in which the history begins no chapter can be cut, and so steps are
+        // made without a record.
+        drop(lock.discard(rt, Vec::new(alloc)));
+    }
     let board = Board::new();
     let shared = Shared {
         rt,
@@ -104,6 +109,7 @@ fn crew_of<P: Pool, D: Hall, T: Ledger, U: Ledger, V: Ledger, N: Datagrams, C: M
             seat,
             clock,
             outlet,
+            outcome: Outcome::noted(Note::Idle, None),
             receipts: Vec::new(alloc),
             counts: Counts::NONE,
         };

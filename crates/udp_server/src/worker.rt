@@ -76,12 +76,13 @@ impl Counts {
     }
 }
 
-/// One who makes steps.
+/// One who makes steps, with the outcome of its last one, if that wasn't recorded.
 pub(crate) struct Worker<D: Hall, T: Ledger, U: Ledger, V: Ledger, C: Moments> {
     pub(crate) number: usize,
     pub(crate) seat: Seat<D, T, U, V>,
     pub(crate) clock: C,
     pub(crate) outlet: Outlet,
+    pub(crate) outcome: Outcome,
     pub(crate) receipts: Vec<Receipt>,
     pub(crate) counts: Counts,
 }
@@ -94,6 +95,7 @@ impl<D: Hall, T: Ledger, U: Ledger, V: Ledger, C: Moments> Drop for Worker<D, T,
             seat: _,
             clock: _,
             outlet: _,
+            outcome: _,
             receipts: _,
             counts: _,
         } = self;
@@ -112,8 +114,8 @@ pub(crate) struct WorkerRecord<D: Hall, T: Ledger, U: Ledger, V: Ledger> {
 /// What came of a worker's step.
 #[derive(Clone, Copy)]
 pub(crate) enum StepResult {
-    /// It is the entry at this place of the history; whether nothing was due.
-    Made { place: usize, is_idle: bool },
+    /// If it was recorded, it is the entry at this place of the history; whether nothing was due.
+    Made { place: Option<usize>, is_idle: bool },
     /// There was no memory for it.
     Refused,
     /// As many steps were made as there may be.
@@ -121,9 +123,22 @@ pub(crate) enum StepResult {
 }
 
 impl<D: Hall, T: Ledger, U: Ledger, V: Ledger, C: Moments> Worker<D, T, U, V, C> {
-    /// Makes the step of an event, and hands its reply to the sender. What is needed of memory is
-    /// there before the step.
+    /// Makes the step of an event, as the plan wants it, and hands its reply to the sender.
     pub(crate) fn step<P: Pool, R: Wait, G: Gate>(
+        &mut self,
+        shared: &Shared<'_, P, D, T, U, V, R, G>,
+        event: Event,
+    ) -> StepResult {
+        if shared.plan.is_recorded() {
+            self.step_recorded(shared, event)
+        } else {
+            self.step_unrecorded(shared, event)
+        }
+    }
+
+    /// Makes the step of an event, which is an entry of the history, and hands its reply to the
+    /// sender. What is needed of memory is there before the step.
+    fn step_recorded<P: Pool, R: Wait, G: Gate>(
         &mut self,
         shared: &Shared<'_, P, D, T, U, V, R, G>,
         event: Event,
@@ -183,7 +198,10 @@ impl<D: Hall, T: Ledger, U: Ledger, V: Ledger, C: Moments> Worker<D, T, U, V, C>
             self.post(shared, reply);
         }
         shared.gate.pass(self.number, Stage::AfterPost);
-        StepResult::Made { place, is_idle }
+        StepResult::Made {
+            place: Some(place),
+            is_idle,
+        }
     }
 
     /// Puts a fresh pool in the place of the zone's pool with this number. The old pool comes back.
@@ -259,7 +277,7 @@ impl<D: Hall, T: Ledger, U: Ledger, V: Ledger, C: Moments> Worker<D, T, U, V, C>
     }
 
     /// Hands a reply to the sender. One that finds no place in the ring is dropped.
-    fn post<P: Pool, R: Wait, G: Gate>(
+    pub(crate) fn post<P: Pool, R: Wait, G: Gate>(
         &mut self,
         shared: &Shared<'_, P, D, T, U, V, R, G>,
         reply: Datagram,
@@ -281,6 +299,7 @@ impl<D: Hall, T: Ledger, U: Ledger, V: Ledger, C: Moments> Worker<D, T, U, V, C>
             seat,
             clock: _,
             outlet,
+            outcome: _,
             receipts,
             counts,
         } = self;
