@@ -16,7 +16,7 @@ use Rattle.registrations.specs.declared.registration.Registration.{Registration}
 use Rattle.expiry.specs.Due.{IsEndpointItem, IsInCall, IsLiveAnd, IsNoEndpointDue}
 use Rattle.expiry.specs.Due.{is_to_be_asked, is_silent}
 use Rattle.expiry.specs.inside.Searched.{item_of}
-use Rattle.expiry.specs.declared.times.Times.{Times}
+use Rattle.registrations.specs.declared.times.Times.{Times}
 use Rattle.zone_events.specs.declared.due_item.DueItem.{DueItem}
 use Rattle.zone_events.specs.declared.due_item.DueItem.TheVariants.{RegistrationOver, Interrogate}
 use Rattle.zone_events.specs.declared.due_item.DueItem.TheVariants.{Silent, Retry}

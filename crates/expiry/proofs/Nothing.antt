@@ -8,7 +8,7 @@ use Rattle.kept_replies.proofs.Births.{none_passes}
 use Rattle.registrations.specs.Registry.{Live}
 use Rattle.registrations.specs.declared.registration.Registration.{Registration}
 use Rattle.expiry.specs.Due.{IsDue, IsNoEndpointDue, IsNothingDue, is_deadline_past}
-use Rattle.expiry.specs.declared.times.Times.{Times}
+use Rattle.registrations.specs.declared.times.Times.{Times}
 use Rattle.zone_events.specs.declared.due_item.DueItem.{DueItem}
 use Rattle.zone_events.specs.declared.due_item.DueItem.TheVariants.{RegistrationOver, Interrogate}
 use Rattle.zone_events.specs.declared.due_item.DueItem.TheVariants.{Silent, Retry}

@@ -11,7 +11,7 @@ use Rattle.admission.specs.Calls.{OpenCalls, legs_of}
 use Rattle.kept_replies.specs.Kept.{KeptReplies, Passes, is_over, is_retry}
 use Rattle.registrations.specs.Registry.{Live}
 use Rattle.registrations.specs.declared.registration.Registration.{Registration}
-use Rattle.expiry.specs.declared.times.Times.{Times}
+use Rattle.registrations.specs.declared.times.Times.{Times}
 use Rattle.zone_events.specs.declared.due_item.DueItem.{DueItem}
 use Rattle.zone_events.specs.declared.due_item.DueItem.TheVariants.{RegistrationOver, Interrogate}
 use Rattle.zone_events.specs.declared.due_item.DueItem.TheVariants.{Silent, Retry}

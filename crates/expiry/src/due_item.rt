@@ -6,11 +6,10 @@ ghost use Rattle.expiry.specs.Due.{IsDue, IsInCall, IsLiveAnd, is_deadline_past}
 ghost use Rattle.expiry.specs.Due.{is_silent, is_to_be_asked};
 
 use crate::due_search::{is_in_call, is_silent, is_to_be_asked};
-use crate::times::Times;
 use admission::Calls;
 use kept_replies::Kept;
 use ras_module::EndpointId;
-use registrations::Registrations;
+use registrations::{Registrations, Times};
 use zone_events::DueItem;
 
 /// Whether this item is due now. The pools' next turn is at the moment `next_turn`. Moments are in

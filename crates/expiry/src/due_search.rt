@@ -3,15 +3,14 @@
 ghost use Rattle.std.specs.Prelude.{◌≡◌, ◌+◌, ◌↔◌, nat_le, IsTrue, MatchOption};
 ghost use Rattle.expiry.specs.Due.{IsDue, IsEndpointItem, IsInCall, IsNoEndpointDue, IsNothingDue};
 ghost use Rattle.expiry.specs.Due.{is_to_be_asked, is_silent, item_in_call};
-ghost use Rattle.expiry.specs.declared.times.Times.{Times};
+ghost use Rattle.registrations.specs.declared.times.Times.{Times};
 ghost use Rattle.admission.specs.Calls.{OpenCalls};
 ghost use Rattle.expiry.specs.inside.Searched.{item_of};
 
-use crate::times::Times;
 use admission::Calls;
 use kept_replies::Kept;
 use ras_module::EndpointId;
-use registrations::{Registration, Registrations};
+use registrations::{Registration, Registrations, Times};
 use zone_events::DueItem;
 
 /// Something that is due now: any one item that is due. None if and only if nothing is due. The

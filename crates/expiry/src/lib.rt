@@ -4,9 +4,8 @@
 
 mod due_item;
 mod due_search;
-mod times;
 
 pub use due_item::is_due;
 pub use due_search::{due, due_beside, item_in_call};
-pub use times::Times;
+pub use registrations::Times;
 pub use zone_events::DueItem;

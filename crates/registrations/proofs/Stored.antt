@@ -2,7 +2,7 @@
 use Rattle.std.proofs.Common.{Bor, ◌≡◌, ℕ, zero, suc, ◌≤◌, ◌<◌, List, [], ◌∷◌, ◌++◌, length, ◌+◌}
 use Rattle.std.proofs.Common.{nat_eq, refl, sym, ◌∙◌, ap, subst, cond, Some, None, arith}
 use Rattle.std.specs.Prelude.{Option, IsSome, IfSome, slice_get, slice_index_or, is_some, count_by}
-use Rattle.std.specs.Prelude.{◌-◌, min}
+use Rattle.std.specs.Prelude.{◌-◌, min, Vec, vec_capacity}
 use Rattle.std.specs.Option.{option_copied, option_map, IsSomeAnd}
 use Rattle.std.proofs.Math.ListN.{set}
 use Rattle.std.proofs.lemmas.List.{length-append}
@@ -33,11 +33,15 @@ use Rattle.ras_module.specs.declared.address.Address.{Address}
 use Rattle.ras_module.specs.Addresses.{same_address}
 use Rattle.ras_module.specs.Same.{texts_decide, address_decides}
 use Rattle.registrations.specs.declared.registration.Registration.{Registration}
-use Rattle.registrations.specs.Registry.{Live, Registry, IsSound, IsConsistent, Becomes}
+use Rattle.registrations.specs.declared.times.Times.{Times}
+use Rattle.registrations.specs.Registry.{Live, Registry, IsSound, IsConsistent, Becomes, Counts}
+use Rattle.registrations.specs.Registry.{LegCounts}
 use Rattle.registrations.specs.Registry.{Updates as UpdatesOne, IsNumbered}
 use Rattle.registrations.specs.Registry.{live_of, at_address, identifier_of, call_signal_of}
 use Rattle.registrations.specs.inside.Stored.{Entry, key_of, place_of, order_of, room_of}
 use Rattle.registrations.specs.inside.Stored.{registry_of, IsStored, AreDue, deadline_of}
+use Rattle.registrations.specs.inside.Stored.{leg_counts_of}
+use Rattle.registrations.proofs.Counting.{count_at, counted_key}
 use Rattle.registrations.proofs.Indexes as indexes
 use Rattle.registrations.proofs.Order.{EachLeads, order_at, order_put, from_order, length_order}
 use Rattle.registrations.proofs.Order.{order_changed}
@@ -63,7 +67,7 @@ module _ {S : Type 0} (rows : Slab Registration) (by_identifier : HashMap (List 
         (fin.from_entries {R = slice_cmp nat_cmp} by_identifier.entries)
     entries_map = IsMapOf-pairs nat_list_cmp_total exact_bytes by_identifier.entries s.apart
 
-    entry_named : (j : ℕ) (e : Entry) → slice_get by_identifier.entries j ≡ Some e
+    pub entry_named : (j : ℕ) (e : Entry) → slice_get by_identifier.entries j ≡ Some e
         → named (key_of e) ≡ Some (place_of e)
     entry_named j e there =
         sym (entries.get_entries texts_decide nat_list_cmp_total exact_bytes by_identifier.entries
@@ -183,9 +187,10 @@ module _ {S : Type 0} (rows : Slab Registration) (by_identifier : HashMap (List 
     pub len_stored : fin.len live ≡ length by_identifier.entries
     len_stored = len_live order are_rows ∙ length_order rows by_identifier.entries leads
 
-    pub IsSound-stored : (deadlines : DeadlineTable)
-        → IsSound (registry_of rows by_identifier by_address deadlines most)
-    IsSound-stored deadlines = record {
+    pub IsSound-stored : {Z : Type 0} (deadlines : DeadlineTable) (legs : Vec ℕ Z)
+        (ends : DeadlineTable) (times : Times)
+        → IsSound (registry_of rows by_identifier by_address deadlines legs ends times most)
+    IsSound-stored deadlines legs ends times = record {
       consistent = IsConsistent-rows order are_rows;
       few = omega (arith, len_stored, s.few);
     }
@@ -225,12 +230,12 @@ module _ {S : Type 0} (rows : Slab Registration) (by_identifier : HashMap (List 
     -- a registration is entered at an empty place
     module _ (r : Registration) (u : Updates rows next i (Some r)) (vacant : get rows i ≡ None)
         (new_id : fin.get (live rows by_identifier by_address) r.identifier ≡ None) where
-      unnamed : hash.get (pointwise nat_eq) by_identifier r.identifier ≡ None
+      pub unnamed : hash.get (pointwise nat_eq) by_identifier r.identifier ≡ None
       unnamed = indexes.unindexed identifier_of (get rows) _ s.identifiers
           (live rows by_identifier by_address)
           (stored_map rows by_identifier by_address most s) r.identifier new_id
 
-      entries_put : next_named.entries
+      pub entries_put : next_named.entries
           ≡ insert_entry (pointwise nat_eq) by_identifier.entries r.identifier i
           → next_named.entries ≡ by_identifier.entries ++ (r.identifier, i) ∷ []
       entries_put is = is ∙ insert_entry-new (pointwise nat_eq) by_identifier r.identifier i unnamed
@@ -390,17 +395,22 @@ module _ {S : Type 0} (rows : Slab Registration) (by_identifier : HashMap (List 
         new at (subst (λ (k : ℕ). Changed (get rows) (get (with_value rows i new)) k (Some new))
         (sym is) change)
 
-    same_room : (deadlines next : DeadlineTable) → next.room ≡ deadlines.room
-        → room_of (with_value rows i new) by_identifier by_address next
-        ≡ room_of rows by_identifier by_address deadlines
-    same_room deadlines next same k = min (min (rows.capacity - same_count k)
-        (same k - length by_identifier.entries)) (min (spare by_identifier) (spare by_address))
+    same_room : {Z : Type 0} (deadlines next : DeadlineTable) (legs : Vec ℕ Z)
+        (ends later : DeadlineTable) → next.room ≡ deadlines.room → later.room ≡ ends.room
+        → room_of (with_value rows i new) by_identifier by_address next legs later
+        ≡ room_of rows by_identifier by_address deadlines legs ends
+    same_room deadlines next legs ends later same still k =
+        min (min (rows.capacity - same_count k) (same k - length by_identifier.entries))
+        (min (min (spare by_identifier) (spare by_address))
+        (min (vec_capacity legs - length by_identifier.entries)
+        (still k - length by_identifier.entries)))
 
 -- a table by what is stored, and by its value
 module _ {S : Type 0} (rows : Slab Registration) (by_identifier : HashMap (List ℕ) ℕ S)
-    (by_address : HashMap Address ℕ S) (deadlines : DeadlineTable) (most : ℕ)
+    (by_address : HashMap Address ℕ S) {Z : Type 0} (deadlines : DeadlineTable) (legs : Vec ℕ Z)
+    (ends : DeadlineTable) (times : Times) (most : ℕ)
     (s : IsStored rows by_identifier by_address most) (t : Registry)
-    (view : registry_of rows by_identifier by_address deadlines most ≡ t) where
+    (view : registry_of rows by_identifier by_address deadlines legs ends times most ≡ t) where
   abbrev order_here : List Registration
   order_here = order_of rows by_identifier.entries
 
@@ -410,7 +420,7 @@ module _ {S : Type 0} (rows : Slab Registration) (by_identifier : HashMap (List 
 
   pub consistent : IsConsistent t.live
   consistent = subst (λ (u : Registry). IsConsistent u.live) view
-      (IsSound-stored rows by_identifier by_address most s deadlines).consistent
+      (IsSound-stored rows by_identifier by_address most s deadlines legs ends times).consistent
 
   pub numbered : IsNumbered t
   numbered = subst IsNumbered view (record {
@@ -464,10 +474,10 @@ module _ {S : Type 0} (rows : Slab Registration) (by_identifier : HashMap (List 
       → hash.get (pointwise nat_eq) by_identifier id ≡ Some i
       → (old : Registration) → get rows i ≡ Some old → (f : Registration → Registration)
       → (f old).identifier ≡ old.identifier → (f old).call_signal ≡ old.call_signal
-      → (next : DeadlineTable) → next.room ≡ deadlines.room
-      → UpdatesOne t (registry_of (with_value rows i (f old)) by_identifier by_address next most)
-      (update t.live id f)
-  Updates-change id i is old there f keeps stays next same =
+      → (next later : DeadlineTable) → next.room ≡ deadlines.room → later.room ≡ ends.room
+      → UpdatesOne t (registry_of (with_value rows i (f old)) by_identifier by_address next legs
+      later times most) (update t.live id f)
+  Updates-change id i is old there f keeps stays next later same still =
       let has = registered id i is old there in
       let stored = IsStored-change rows by_identifier by_address most s i old (f old) there keeps
       stays in
@@ -477,9 +487,11 @@ module _ {S : Type 0} (rows : Slab Registration) (by_identifier : HashMap (List 
             ∙ sym (maps.update_there nat_list_cmp_total exact_bytes t.live id old f has.1));
         most = ap (λ u. u.most) view;
         room = same_room rows by_identifier by_address most s i old (f old) there keeps stays
-            deadlines next same ∙ ap (λ u. u.room) view;
+            deadlines next legs ends later same still ∙ ap (λ u. u.room) view;
         sound = IsSound-stored (with_value rows i (f old)) by_identifier by_address most stored
-            next;
+            next legs later times;
+        legs = ap (λ u. u.legs) view;
+        times = ap (λ u. u.times) view;
       }
 
   -- if nobody has the identifier, nobody goes
@@ -489,23 +501,65 @@ module _ {S : Type 0} (rows : Slab Registration) (by_identifier : HashMap (List 
     rows = maps.remove_absent nat_list_cmp_total exact_bytes t.live id (sym (not_found id is));
     most = refl;
     room = omega arith;
-    sound = subst IsSound view (IsSound-stored rows by_identifier by_address most s deadlines);
+    sound = subst IsSound view
+        (IsSound-stored rows by_identifier by_address most s deadlines legs ends times);
+    times = refl;
   }
 
   -- a registration goes
   pub Becomes-remove : (next : Slab Registration) (next_named : HashMap (List ℕ) ℕ S)
-      (next_placed : HashMap Address ℕ S) (later : DeadlineTable) (i : ℕ) (r : Registration)
-      (id : List ℕ) → r.identifier ≡ id → Updates rows next i None → get rows i ≡ Some r
+      (next_placed : HashMap Address ℕ S) (later : DeadlineTable) (after : Vec ℕ Z)
+      (left : DeadlineTable) (i : ℕ) (r : Registration) (id : List ℕ) → r.identifier ≡ id
+      → Updates rows next i None → get rows i ≡ Some r
       → IsStored next next_named next_placed most
-      → room_of rows by_identifier by_address deadlines ≤ room_of next next_named next_placed later
-      → Becomes t (registry_of next next_named next_placed later most) (fin.remove t.live id)
-  Becomes-remove next next_named next_placed later i r id own u there stored more = record {
-    rows = live_remove rows by_identifier by_address most s next next_named next_placed i r u there
-        stored ∙ (λ k. fin.remove (view k).live (own k));
+      → room_of rows by_identifier by_address deadlines legs ends
+      ≤ room_of next next_named next_placed later after left
+      → Becomes t (registry_of next next_named next_placed later after left times most)
+      (fin.remove t.live id)
+  Becomes-remove next next_named next_placed later after left i r id own u there stored more =
+      record {
+        rows = live_remove rows by_identifier by_address most s next next_named next_placed i r u there
+            stored ∙ (λ k. fin.remove (view k).live (own k));
+        most = ap (λ u. u.most) view;
+        room = omega (arith, more, ap (λ u. u.room) view);
+        sound = IsSound-stored next next_named next_placed most stored later after left times;
+        times = ap (λ u. u.times) view;
+      }
+
+  -- only the numbers of legs are changed
+  pub Counts-change : (after : Vec ℕ Z) (later : DeadlineTable) (m : LegCounts)
+      → vec_capacity after ≡ vec_capacity legs → later.room ≡ ends.room
+      → leg_counts_of by_identifier.entries after.items ≡ m
+      → Counts t (registry_of rows by_identifier by_address deadlines after later times most) m
+  Counts-change after later m same still is = record {
+    rows = ap (λ u. u.live) view;
     most = ap (λ u. u.most) view;
-    room = omega (arith, more, ap (λ u. u.room) view);
-    sound = IsSound-stored next next_named next_placed most stored later;
+    room = omega (arith, same, still, ap (λ u. u.room) view);
+    legs = is;
+    times = ap (λ u. u.times) view;
+    sound = IsSound-stored rows by_identifier by_address most s deadlines after later times;
   }
+
+  -- the number of legs of an endpoint stands where its entry does
+  pub legs_at : length legs.items ≡ length by_identifier.entries → (id : List ℕ) (place j : ℕ)
+      → hash.get (pointwise nat_eq) by_identifier id ≡ Some place
+      → IsSomeAnd (slice_get by_identifier.entries j) (λ e. e.1 ≡ place)
+      → fin.get t.legs id ≡ slice_get legs.items j
+  legs_at fits id place j is at =
+      ap (λ u. fin.get u.legs id) (sym view)
+      ∙ count_at by_identifier.entries legs.items s.apart fits j (id, place)
+      (entry_at rows by_identifier by_address most s id place j is at)
+
+  pub not_counted : (id : List ℕ) → hash.get (pointwise nat_eq) by_identifier id ≡ None
+      → fin.get t.legs id ≡ None
+  not_counted id none = cases (fin.get t.legs id) refl where
+    cases : (w : Option ℕ) → fin.get t.legs id ≡ w → fin.get t.legs id ≡ None
+    cases None is = is
+    cases (Some n) is =
+        let e = counted_key by_identifier.entries legs.items s.apart id n
+        (ap (λ u. fin.get u.legs id) view ∙ is) in
+        some_none (sym (ap (hash.get (pointwise nat_eq) by_identifier) (sym e.3)
+        ∙ entry_named rows by_identifier by_address most s e.0 e.1 e.2) ∙ none)
 
   -- a registration is due where it stands in the order
   pub due_of : AreDue order_here deadlines.moments → (id : List ℕ) (r : Registration)

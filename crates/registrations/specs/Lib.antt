@@ -1,4 +1,5 @@
 pub mod Registry
 pub mod Agreement
 pub mod Faults
+pub mod Silence
 pub mod inside

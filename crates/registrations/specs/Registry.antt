@@ -10,18 +10,26 @@ use Rattle.ras_module.specs.declared.alias.Alias.{Alias}
 use Rattle.ras_module.specs.Addresses.{same_address}
 use Rattle.ras_module.specs.Texts.{IsText}
 use Rattle.registrations.specs.declared.registration.Registration.{Registration}
+use Rattle.registrations.specs.declared.times.Times.{Times}
 
 -- what is registered under each identifier
 abbrev pub Live : Type 0
 Live = FinMap (slice_cmp nat_cmp) Registration
 
+-- in how many calls each endpoint that is registered has a leg
+abbrev pub LegCounts : Type 0
+LegCounts = FinMap (slice_cmp nat_cmp) ℕ
+
 -- the registrations, the most that there may be, how many more can be added so that no memory is
--- taken for them, and the order in which the registrations are numbered
+-- taken for them, the order in which the registrations are numbered, the number of legs of each
+-- endpoint, and how long an endpoint with a leg may be silent
 pub record Registry : Type 0 where
   pub live : Live
   pub most : ℕ
   pub room : ℕ
   pub order : List Registration
+  pub legs : LegCounts
+  pub times : Times
 
 abbrev pub identifier_of : Registration → List ℕ
 identifier_of r = r.identifier
@@ -55,12 +63,14 @@ pub record IsUnused (live : Live) (taken : List (List ℕ)) (id : List ℕ) : Ty
   pub not_taken : Contains taken id → ⊥
   pub text : IsText 128 id
 
--- the table has the same registrations, in the same order, and no less room
+-- the table has the same registrations, in the same order, with the same legs, and no less room
 pub record Stays (old new : Registry) : Type 0 where
   pub rows : new.live ≡ old.live
   pub most : new.most ≡ old.most
   pub order : new.order ≡ old.order
   pub room : old.room ≤ new.room
+  pub legs : new.legs ≡ old.legs
+  pub times : new.times ≡ old.times
 
 -- a registration that is given another identifier
 abbrev pub with_identifier : List ℕ → Registration → Registration
@@ -104,6 +114,8 @@ pub record Updates (old new : Registry) (live : Live) : Type 0 where
   pub most : new.most ≡ old.most
   pub room : new.room ≡ old.room
   pub sound : IsSound new
+  pub legs : new.legs ≡ old.legs
+  pub times : new.times ≡ old.times
 
 -- after a change that takes no memory and no room, the table has these
 pub record Becomes (old new : Registry) (live : Live) : Type 0 where
@@ -111,10 +123,21 @@ pub record Becomes (old new : Registry) (live : Live) : Type 0 where
   pub most : new.most ≡ old.most
   pub room : old.room ≤ new.room
   pub sound : IsSound new
+  pub times : new.times ≡ old.times
 
 -- after one more registration was added, the table has these
 pub record Adds (old new : Registry) (live : Live) : Type 0 where
   pub rows : new.live ≡ live
   pub most : new.most ≡ old.most
   pub room : old.room ≤ new.room + 1
+  pub sound : IsSound new
+  pub times : new.times ≡ old.times
+
+-- after an endpoint took part in more calls or in fewer, these are the numbers of legs
+pub record Counts (old new : Registry) (counts : LegCounts) : Type 0 where
+  pub rows : new.live ≡ old.live
+  pub most : new.most ≡ old.most
+  pub room : new.room ≡ old.room
+  pub legs : new.legs ≡ counts
+  pub times : new.times ≡ old.times
   pub sound : IsSound new

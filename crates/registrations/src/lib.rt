@@ -6,9 +6,12 @@ mod fresh;
 mod list;
 mod number;
 mod registration;
+mod silence;
 mod table;
+mod times;
 
 pub use fault::AddFault;
 pub use list::RegistrationList;
 pub use registration::Registration;
 pub use table::Registrations;
+pub use times::Times;

@@ -2,7 +2,7 @@
 
 ghost use Rattle.std.specs.Prelude.{◌≡◌, ◌≢◌, ◌≤◌, ◌<◌, ◌+◌, ◌++◌, ◌∷◌, [], ◌↔◌, ℕ, List, Option};
 ghost use Rattle.std.specs.Prelude.{None, Some, Err, IsOk, IsSome, IfSome, IsTrue, IfOk, OnOk};
-ghost use Rattle.std.specs.Prelude.{OnErr, nat_eq, slice_get};
+ghost use Rattle.std.specs.Prelude.{OnErr, nat_eq, slice_get, ◌-◌};
 ghost use Rattle.std.specs.Option.{option_copied, option_map, IsSomeAnd};
 ghost use Rattle.std.specs.Cmp.Lexicographic.{pointwise};
 ghost use Rattle.std.specs.FinMap as map;
@@ -13,13 +13,16 @@ ghost use Rattle.registrations.specs.inside.Stored.{IsIn, AreAllIn};
 ghost use Rattle.registrations.specs.Registry.{at_address, IsUnused, IsListOf, IsConsistent};
 ghost use Rattle.registrations.specs.Registry.{IsNumbered, IsSound, Stays, Updates, Becomes, Adds};
 ghost use Rattle.registrations.specs.Registry.{with_identifier, with_deadline, after_rewrite};
-ghost use Rattle.registrations.specs.Registry.{after_hear, after_ask, after_calm};
+ghost use Rattle.registrations.specs.Registry.{after_hear, after_ask, after_calm, Counts};
+ghost use Rattle.registrations.specs.Silence.{HasEnded};
 
 use crate::fault::AddFault;
 use crate::fresh::{is_taken, unused_from};
 use crate::list::{RegistrationList, rising};
 use crate::number::raised;
 use crate::registration::Registration;
+use crate::silence::{end_of, write_end};
+use crate::times::Times;
 use deadlines::Deadlines;
 use indexmap::IndexMap;
 use ras_module::{Address, EndpointId, ReplyAliases};
@@ -34,8 +37,12 @@ pub struct Registrations {
     // where the row with each identifier stands, and the row with each call signal address
     by_identifier: IndexMap<EndpointId, usize>,
     by_address: IndexMap<Address, usize>,
-    // the deadline of each row, by where its identifier stands in the index
+    // of each row, by where its identifier stands in the index: its deadline, the number of legs of
+    // its endpoint, and the moment at which the silence of that endpoint ends, if it has a leg
     deadlines: Deadlines,
+    legs: Vec<usize>,
+    ends: Deadlines,
+    times: Times,
     most: usize,
     // where the search for an unused identifier begins, so that it needn't pass those in use: after
     // each number that was in use, and at 1 again after the last number of all
@@ -51,6 +58,9 @@ impl Drop for Registrations {
             by_identifier: _,
             by_address: _,
             deadlines: _,
+            legs: _,
+            ends: _,
+            times: _,
             most: _,
             next_number: _,
         } = self;
@@ -67,59 +77,93 @@ impl Model for Registrations {
 
     ghost coded = { Prim.hlevel (codes, map.code) };
 
-    ghost view = { λ t. registry_of t.rows t.by_identifier t.by_address t.deadlines t.most };
+    ghost view = { λ t. registry_of t.rows t.by_identifier t.by_address t.deadlines t.legs t.ends
+        t.times t.most };
 
-    ghost invariant = { λ t. IsTable t.rows t.by_identifier t.by_address t.deadlines t.most };
+    ghost invariant = { λ t. IsTable t.rows t.by_identifier t.by_address t.deadlines t.legs t.ends
+        t.times t.most };
 }
 
 impl Registrations {
-    /// A table with no registration, for at most this many. This takes no memory.
+    /// A table with no registration, for at most this many. No endpoint is silent for too long. This
+    /// takes no memory.
     pub fn new(alloc: Global, most: usize) -> Self
         requires { most ≤ 20000 }
         ensures live { result.live ≡ map.empty }
         ensures most { result.most ≡ most }
         ensures sound { IsSound result }
+        ensures legs { result.legs ≡ map.empty }
+    {
+        let never = Times {
+            silence: u64::MAX,
+            asks: 1,
+            ask_wait: u64::MAX,
+        };
+        Registrations::with_times(alloc, most, never)
+    }
+
+    /// The same, in which an endpoint in a call may be silent for these times.
+    pub fn with_times(alloc: Global, most: usize, times: Times) -> Self
+        requires { most ≤ 20000 }
+        ensures live { result.live ≡ map.empty }
+        ensures most { result.most ≡ most }
+        ensures sound { IsSound result }
+        ensures legs { result.legs ≡ map.empty }
+        ensures times { result.times ≡ times }
     {
         Registrations {
             rows: Slab::new(alloc),
             by_identifier: IndexMap::new(alloc),
             by_address: IndexMap::new(alloc),
             deadlines: Deadlines::new(alloc),
+            legs: Vec::new(alloc),
+            ends: Deadlines::new(alloc),
+            times,
             most,
             next_number: 1,
         }
     }
 
-    /// A table of copies of these registrations, in the same order.
+    /// A table of copies of these registrations, in the same order and with the same legs.
     pub fn copy(&self) -> Result<Self, AllocError>
         ensures live { IfOk result (λ copy. copy.live ≡ self.now.live) }
         ensures most { IfOk result (λ copy. copy.most ≡ self.now.most) }
         ensures order { IfOk result (λ copy. copy.order ≡ self.now.order) }
+        ensures legs { IfOk result (λ copy. copy.legs ≡ self.now.legs) }
+        ensures times { IfOk result (λ copy. copy.times ≡ self.now.times) }
     {
         let alloc = *self.by_identifier.allocator();
-        let mut copy = Registrations::with_room(alloc, self.most, self.len())?;
+        let mut copy = Registrations::with_room(alloc, self.most, self.times, self.len())?;
         for i in 0..self.len() {
-            copy.put(self.nth(i).unwrap().copy()?);
+            copy.put(self.nth(i).unwrap().copy()?, self.legs[i]);
         }
         copy.next_number = self.next_number;
         Ok(copy)
     }
 
     /// A table with no registration, and with room for some.
-    fn with_room(alloc: Global, most: usize, room: usize) -> Result<Self, AllocError>
+    fn with_room(alloc: Global, most: usize, times: Times, room: usize) -> Result<Self, AllocError>
         requires { most ≤ 20000 }
         ensures most { IfOk result (λ t. t.most ≡ most) }
         ensures order { IfOk result (λ t. t.order ≡ []) }
         ensures live { IfOk result (λ t. t.live ≡ map.empty) }
         ensures room { IfOk result (λ t. room ≤ t.room) }
+        ensures legs { IfOk result (λ t. t.legs ≡ map.empty) }
+        ensures times { IfOk result (λ t. t.times ≡ times) }
     {
         let mut deadlines = Deadlines::new(alloc);
         deadlines.reserve(room)?;
+        let mut ends = Deadlines::new(alloc);
+        ends.reserve(room)?;
+        let legs = Vec::with_capacity(alloc, room)?;
         Ok(Registrations {
             rows: Slab::with_capacity(alloc, room)?,
             by_identifier: IndexMap::with_capacity(alloc, room)?,
             by_address: IndexMap::with_capacity(alloc, room)?,
             deadlines,
+            legs,
+            ends,
+            times,
             most,
             next_number: 1,
         })
@@ -197,6 +241,31 @@ impl Registrations {
         self.nth(i)
     }
 
+    /// In how many calls this endpoint has a leg. None if it isn't registered.
+    pub fn legs(&self, id: &EndpointId) -> Option<usize>
+        ensures legs { result ≡ map.get self.now.legs id.now }
+        ensures live { IsSome result → IsSome (map.get self.now.live id.now) }
+    {
+        let (i, _place) = entry_of(&self.by_identifier, id)?;
+        Some(self.legs[i])
+    }
+
+    /// A registration whose endpoint has a leg and has been silent for too long: any of them. None
+    /// if there is none.
+    pub fn silent(&self, now: u64) -> Option<&Registration>
+        ensures ended { IfSome result (λ r.
+            HasEnded now self.now.times self.now.live self.now.legs r.now.identifier) }
+        ensures live { IfSome result (λ r. map.get self.now.live r.now.identifier ≡ Some r.now) }
+        ensures none { result ≡ None → (id : List ℕ)
+            → HasEnded now self.now.times self.now.live self.now.legs id → ⊥ }
+    {
+        let (end, i) = self.ends.earliest()?;
+        if end > now {
+            return None;
+        }
+        self.nth(i)
+    }
+
     /// The registration with this number. The numbers below `len` have one each, and each
     /// registration has one number, as long as the table isn't changed.
     pub fn nth(&self, i: usize) -> Option<&Registration>
@@ -255,7 +324,9 @@ impl Registrations {
         // that there is a capacity shows that the sum fits
         let _capacity = self.by_identifier.capacity();
         let places = self.by_identifier.len() + more;
-        self.deadlines.reserve(places)
+        self.deadlines.reserve(places)?;
+        self.legs.reserve(more)?;
+        self.ends.reserve(places)
     }
 
     /// Registers an endpoint under an unused identifier, which is written into the registration.
@@ -270,6 +341,7 @@ impl Registrations {
         ensures unused { IfOk result (IsUnused self.old.live taken.now) }
         ensures ok { IfOk result (λ id. Adds self.old self.new
             (map.insert self.old.live id (with_identifier id registration))) }
+        ensures legs { IfOk result (λ id. self.new.legs ≡ map.insert self.old.legs id 0) }
         ensures full { (result ≡ Err AddFault.Full) ↔ (map.len self.old.live ≡ self.old.most) }
         ensures reserved { 0 < self.old.room → result ≢ Err AddFault.Memory }
         ensures err { OnErr result (Stays self.old self.new) }
@@ -283,12 +355,14 @@ impl Registrations {
         Ok(identifier)
     }
 
-    /// Registers an endpoint under the identifier that it has.
+    /// Registers an endpoint under the identifier that it has. It has no leg yet.
     pub fn insert(&mut self, registration: Registration) -> Result<(), AddFault>
         requires identifier { map.get self.old.live registration.identifier ≡ None }
         requires address { at_address self.old.live registration.call_signal ≡ None }
         ensures ok { OnOk result (Adds self.old self.new
             (map.insert self.old.live registration.identifier registration)) }
+        ensures legs { OnOk result
+            (self.new.legs ≡ map.insert self.old.legs registration.identifier 0) }
         ensures full { (result ≡ Err AddFault.Full) ↔ (map.len self.old.live ≡ self.old.most) }
         ensures reserved { 0 < self.old.room → result ≢ Err AddFault.Memory }
         ensures err { OnErr result (Stays self.old self.new) }
@@ -300,12 +374,13 @@ impl Registrations {
             Ok(()) => {}
             Err(_) => return Err(AddFault::Memory),
         }
-        self.put(registration);
+        self.put(registration, 0);
         Ok(())
     }
 
-    /// Enters a registration after all others. There has to be room. This takes no memory.
-    fn put(&mut self, registration: Registration)
+    /// Enters a registration after all others, of an endpoint with this many legs. There has to be
+    /// room. This takes no memory.
+    fn put(&mut self, registration: Registration, legs: usize)
         requires few { map.len self.old.live < self.old.most }
         requires room { 0 < self.old.room }
         requires identifier { map.get self.old.live registration.identifier ≡ None }
@@ -313,10 +388,13 @@ impl Registrations {
         ensures adds { Adds self.old self.new
             (map.insert self.old.live registration.identifier registration) }
         ensures order { self.new.order ≡ self.old.order ++ registration ∷ [] }
+        ensures legs { self.new.legs ≡ map.insert self.old.legs registration.identifier legs }
     {
         self.next_number = raised(self.next_number, &registration.identifier);
         let i = self.by_identifier.len();
         self.deadlines.set(i, registration.deadline);
+        write_end(&mut self.ends, i, end_of(&registration, legs, &self.times));
+        self.legs.push_reserved(legs);
         let identifier = registration.identifier;
         let address = registration.call_signal;
         let place = self.rows.insert_reserved(registration);
@@ -324,10 +402,11 @@ impl Registrations {
         self.by_address.insert(address, place).unwrap();
     }
 
-    /// Takes a registration out.
+    /// Takes a registration out, with the count of its endpoint's legs.
     pub fn remove(&mut self, id: &EndpointId) -> Option<Registration>
         ensures found { result ≡ map.get self.old.live id.now }
         ensures removed { Becomes self.old self.new (map.remove self.old.live id.now) }
+        ensures legs { self.new.legs ≡ map.remove self.old.legs id.now }
     {
         let (i, place) = entry_of(&self.by_identifier, id)?;
         let registration = self.rows.remove(place);
@@ -337,6 +416,9 @@ impl Registrations {
         let last = self.by_identifier.len();
         self.deadlines.clear(i);
         self.deadlines.rename(last, i);
+        self.legs.swap_remove(i);
+        self.ends.clear(i);
+        self.ends.rename(last, i);
         Some(registration)
     }
 
@@ -369,10 +451,12 @@ impl Registrations {
         requires { IsSome (map.get self.old.live id.now) }
         ensures { Updates self.old self.new (update self.old.live id.now (after_hear now)) }
     {
-        let place = live_place(&self.by_identifier, id);
+        let (i, place) = live_entry(&self.by_identifier, id);
         let row = &mut self.rows[place];
         row.heard = now;
         row.tries = 0;
+        let end = end_of(row, self.legs[i], &self.times);
+        write_end(&mut self.ends, i, end);
     }
 
     /// Notes that an endpoint was asked for a sign of life. It may be asked 16 times in a row.
@@ -380,10 +464,12 @@ impl Registrations {
         requires { IsSomeAnd (map.get self.old.live id.now) (λ r. r.tries < 16) }
         ensures { Updates self.old self.new (update self.old.live id.now (after_ask now)) }
     {
-        let place = live_place(&self.by_identifier, id);
+        let (i, place) = live_entry(&self.by_identifier, id);
         let row = &mut self.rows[place];
         row.asked = now;
         row.tries += 1;
+        let end = end_of(row, self.legs[i], &self.times);
+        write_end(&mut self.ends, i, end);
     }
 
     /// Counts the tries of an endpoint from 0 again.
@@ -391,8 +477,52 @@ impl Registrations {
         requires { IsSome (map.get self.old.live id.now) }
         ensures { Updates self.old self.new (update self.old.live id.now after_calm) }
     {
-        let place = live_place(&self.by_identifier, id);
-        self.rows[place].tries = 0;
+        let (i, place) = live_entry(&self.by_identifier, id);
+        let registration = &mut self.rows[place];
+        registration.tries = 0;
+        let end = end_of(registration, self.legs[i], &self.times);
+        write_end(&mut self.ends, i, end);
+    }
+
+    /// Notes that an endpoint takes part in one call more.
+    pub fn leg_comes(&mut self, id: &EndpointId)
+        requires live { IsSome (map.get self.old.live id.now) }
+        requires few { IfSome (map.get self.old.legs id.now) (λ legs. legs ≤ 20000) }
+        ensures { Counts self.old self.new (update self.old.legs id.now (λ legs. legs + 1)) }
+    {
+        let (i, _place) = live_entry(&self.by_identifier, id);
+        let legs = self.legs[i] + 1;
+        self.count_legs(id, legs);
+    }
+
+    /// Notes that an endpoint takes part in one call fewer.
+    pub fn leg_goes(&mut self, id: &EndpointId)
+        requires live { IsSome (map.get self.old.live id.now) }
+        requires some { IfSome (map.get self.old.legs id.now) (λ legs. 1 ≤ legs) }
+        ensures { Counts self.old self.new (update self.old.legs id.now (λ legs. legs - 1)) }
+    {
+        let (i, _place) = live_entry(&self.by_identifier, id);
+        let legs = self.legs[i] - 1;
+        self.count_legs(id, legs);
+    }
+
+    /// Notes that an endpoint takes part in no call.
+    pub fn no_legs(&mut self, id: &EndpointId)
+        requires { IsSome (map.get self.old.live id.now) }
+        ensures { Counts self.old self.new (map.insert self.old.legs id.now 0) }
+    {
+        self.count_legs(id, 0);
+    }
+
+    /// Notes in how many calls an endpoint takes part.
+    fn count_legs(&mut self, id: &EndpointId, legs: usize)
+        requires { IsSome (map.get self.old.live id.now) }
+        ensures { Counts self.old self.new (map.insert self.old.legs id.now legs) }
+    {
+        let (i, place) = live_entry(&self.by_identifier, id);
+        let end = end_of(&self.rows[place], legs, &self.times);
+        self.legs[i] = legs;
+        write_end(&mut self.ends, i, end);
     }
 }
 
@@ -415,12 +545,4 @@ fn live_entry(by_identifier: &IndexMap<EndpointId, usize>, id: &EndpointId) -> (
         (λ e. e.1 ≡ result.1) }
 {
     entry_of(by_identifier, id).unwrap()
-}
-
-/// Where the registration under this identifier stands. There has to be one.
-fn live_place(by_identifier: &IndexMap<EndpointId, usize>, id: &EndpointId) -> usize
-    requires { IsSome (index.get (pointwise nat_eq) by_identifier.now id.now) }
-    ensures { index.get (pointwise nat_eq) by_identifier.now id.now ≡ Some result }
-{
-    *by_identifier.get(id).unwrap()
 }

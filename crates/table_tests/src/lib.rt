@@ -19,4 +19,4 @@ mod held_aliases;
 #[cfg(test)]
 mod kept;
 #[cfg(test)]
-mod silence_ends;
+mod rows;

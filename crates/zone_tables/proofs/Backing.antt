@@ -32,7 +32,7 @@ use Rattle.zone_tables.specs.declared.unit_request.Purpose.{Purpose}
 use Rattle.zone_tables.specs.declared.unit_request.Purpose.TheVariants.{Opening, Raising}
 use Rattle.zone_tables.specs.Pools.{AreWithinLimits, IsIdle, MayBeAsked, figures_at}
 use Rattle.zone_tables.specs.Pools.{figures_after_return}
-use Rattle.zone_tables.specs.Pools.{grant_of, pools_after_answer}
+use Rattle.zone_tables.specs.Pools.{pools_after_answer}
 use Rattle.zone_tables.specs.Pools.{pools_after_return, pools_after_end}
 use Rattle.zone_tables.specs.Parts.{Lending, Usage, IsBacked, IsSoundUsage, with_usage}
 use Rattle.zone_tables.specs.UnitRequests.{IsEnterable, IsGrantable, IsPurpose}

@@ -26,11 +26,10 @@ use Rattle.zone_tables.specs.declared.unit_request.UnitRequest.{UnitRequest}
 use Rattle.zone_tables.specs.declared.unit_request.Purpose.{Purpose}
 use Rattle.zone_tables.specs.declared.unit_request.Purpose.TheVariants as purpose
 use Rattle.pools.specs.declared.interface.Lend.{Lend}
-use Rattle.pools.specs.declared.interface.Lend.TheVariants.{Lent, Refused, Wait}
 use Rattle.zone_tables.specs.Tables.{heard_now}
 use Rattle.zone_tables.specs.Pools.{figures_after_return, figures_at}
 use Rattle.zone_config.specs.declared.config.ConfigParts.{ConfigParts}
-use Rattle.zone_tables.specs.Parts.{AreParts, Roll, Usage, with_usage}
+use Rattle.zone_tables.specs.Parts.{AreParts, Roll, Roster, Usage, with_usage}
 use Rattle.zone_tables.specs.Leaving.{IsOther}
 use Rattle.zone_tables.specs.Soundness.{HaveEndpoints}
 use Rattle.zone_tables.specs.Changes.{IsCallChange, IsFree, IsRegistered}
@@ -116,15 +115,16 @@ legs-endpoint live calls now (Addition r) have free =
 legs-endpoint live calls now (Removal id) have free = legs_without live calls id have free
 
 -- what a change of the endpoints leaves, whether it was made or not
-pub legs-endpoint_result : {F : Type 0} (result : Result (Unit {0}) F) (old new : Roll)
-    (calls : OpenCalls) (now : ℕ) (change : EndpointChange) → HaveEndpoints old.live calls
-    → IsFree calls change → OnOk result (new.live ≡ after_endpoint_change now change old.live)
-    → OnErr result (new ≡ old) → HaveEndpoints new.live calls
+pub legs-endpoint_result : {F : Type 0} (result : Result (Unit {0}) F) (old new : Roster)
+    (calls : OpenCalls) (now : ℕ) (change : EndpointChange) → HaveEndpoints old.roll.live calls
+    → IsFree calls change
+    → OnOk result (new.roll.live ≡ after_endpoint_change now change old.roll.live)
+    → OnErr result (new ≡ old) → HaveEndpoints new.roll.live calls
 legs-endpoint_result (Ok done) old new calls now change have free ok err =
     subst (λ live. HaveEndpoints live calls) (sym ok)
-    (legs-endpoint old.live calls now change have free)
+    (legs-endpoint old.roll.live calls now change have free)
 legs-endpoint_result (Err fault) old new calls now change have free ok err =
-    subst (λ (roll : Roll). HaveEndpoints roll.live calls) (sym err) have
+    subst (λ (e : Roster). HaveEndpoints e.roll.live calls) (sym err) have
 
 pub legs-calls : (live : Live) (u : Usage) (change : CallChange) → HaveEndpoints live u.calls
     → IsCallChange u change → IfSome (leg_added change) (IsRegistered live)
@@ -194,6 +194,9 @@ module _ (config : ConfigParts) (roll : Roll) (old : Usage) (parts : AreParts co
     limit = parts.limit i;
     call_limit = parts.call_limit i;
   }
+
+  pub roll_is : record { live = roll.live; most = config.endpoints } ≡ roll
+  roll_is = λ i. record { live = roll.live; most = sym parts.endpoints i }
 
   pub AreParts-calls : (calls : OpenCalls) (pools : List Figures) → length pools ≡ length old.pools
       → HaveEndpoints roll.live calls → AreParts config roll (with_usage old calls pools)

@@ -12,5 +12,5 @@ pub mod ButLent
 pub mod Departing
 pub mod SoundParts
 pub mod Deciding
-pub mod Watching
+pub mod Counting
 pub mod Ending

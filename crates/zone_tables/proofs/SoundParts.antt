@@ -3,15 +3,19 @@ use Rattle.std.proofs.Common.{◌≡◌, ◌≤◌, ◌<◌, ◌^◌, ℕ, subst
 use Rattle.std.specs.Prelude.{Err, Ok, OnErr, OnOk, Result}
 use Rattle.std.specs.FinMap as map
 use Rattle.admission.specs.Calls.{EachCall, in_use}
-use Rattle.silences.specs.Silences.{Ends}
 use Rattle.zone_config.specs.declared.config.ConfigParts.{ConfigParts}
-use Rattle.zone_tables.specs.Parts.{AreSoundParts, Roll, Usage}
+use Rattle.zone_tables.specs.Parts.{AreSoundParts, Roster, Usage}
 use Rattle.zone_tables.specs.Soundness.{SoundTables}
 
-pub SoundTables-parts : (config : ConfigParts) (roll : Roll) (u : Usage)
-    (ends : Ends) → AreSoundParts config roll u ends
-    → SoundTables (record { config = config; live = roll.live; calls = u.calls; pools = u.pools })
-SoundTables-parts config roll u ends sound =
+pub SoundTables-parts : (config : ConfigParts) (roster : Roster) (u : Usage)
+    → AreSoundParts config roster u → SoundTables (record {
+      config = config;
+      live = roster.roll.live;
+      calls = u.calls;
+      pools = u.pools;
+    })
+SoundTables-parts config roster u sound =
+    let roll = roster.roll in
     let parts = sound.parts in
     let backed = sound.calls.backed in
     record {
@@ -33,9 +37,9 @@ SoundTables-parts config roll u ends sound =
     }
 
 -- the bandwidth of a call fits into a BandWidth
-pub small_call_limit : (config : ConfigParts) (roll : Roll) (u : Usage) (ends : Ends)
-    → AreSoundParts config roll u ends → config.call_limit < 2 ^ 32
-small_call_limit config roll u ends sound =
+pub small_call_limit : (config : ConfigParts) (roster : Roster) (u : Usage)
+    → AreSoundParts config roster u → config.call_limit < 2 ^ 32
+small_call_limit config roster u sound =
     subst (λ (most : ℕ). most < 2 ^ 32) sound.parts.call_limit sound.calls.backed.small
 
 -- what holds before a change and after it holds whether the change was made or not

@@ -1,22 +1,28 @@
 -- The parts of a zone: its endpoints, and its calls with the pools that lend them their units.
 use Rattle.std.specs.Prelude.{ℕ, ◌≡◌, ◌≤◌, ◌<◌, ◌^◌, List, length}
 use Rattle.std.specs.FinMap.{len}
-use Rattle.registrations.specs.Registry.{Live, IsConsistent}
+use Rattle.registrations.specs.Registry.{LegCounts, Live, IsConsistent}
+use Rattle.registrations.specs.declared.times.Times.{Times}
 use Rattle.admission.specs.Calls.{OpenCalls, EachCall, IsCall, in_use}
 use Rattle.pools.specs.declared.interface.Figures.{Figures}
 use Rattle.zone_tables.specs.Tables.{Tables}
 use Rattle.zone_tables.specs.Pools.{AreWithinLimits}
 use Rattle.zone_config.specs.declared.config.ConfigParts.{ConfigParts}
 use Rattle.zone_config.specs.Ranges.{IsConfig}
-use Rattle.silences.specs.Silences.{Ends}
 use Rattle.zone_tables.specs.Silence.{times_of}
-use Rattle.zone_tables.specs.inside.Watched.{AreWatched}
+use Rattle.zone_tables.specs.inside.Counted.{AreCounted}
 use Rattle.zone_tables.specs.Soundness.{HaveAliasesApart, HaveEndpoints, IsLentTo}
 
 -- the endpoints, and how many there may be
 pub record Roll : Type 0 where
   pub live : Live
   pub most : ℕ
+
+-- the endpoints with the numbers of their legs, and how long one with a leg may be silent
+pub record Roster : Type 0 where
+  pub roll : Roll
+  pub legs : LegCounts
+  pub times : Times
 
 -- The calls and the pools; how many calls there may be; and how many units all calls and one call
 -- may use.
@@ -83,11 +89,11 @@ pub record AreParts (config : ConfigParts) (roll : Roll) (u : Usage) : Type 0 wh
   pub pools : length u.pools ≡ length config.networks
   pub legs : HaveEndpoints roll.live u.calls
 
--- the settings, the endpoints and the calls of a zone, and when the silence of each endpoint ends
-pub record AreSoundParts (config : ConfigParts) (roll : Roll) (u : Usage) (ends : Ends)
-    : Type 0 where
+-- the settings, the endpoints and the calls of a zone
+pub record AreSoundParts (config : ConfigParts) (roster : Roster) (u : Usage) : Type 0 where
   pub settings : IsConfig config
-  pub endpoints : IsSoundRoll roll
+  pub endpoints : IsSoundRoll roster.roll
   pub calls : IsSoundUsage u
-  pub parts : AreParts config roll u
-  pub watched : AreWatched (times_of config) roll.live u.calls ends
+  pub parts : AreParts config roster.roll u
+  pub counted : AreCounted roster.roll.live u.calls roster.legs
+  pub times : roster.times ≡ times_of config

@@ -1,5 +1,5 @@
 -- How long an endpoint in a call may be silent (H.225.0, InfoRequest).
-use Rattle.expiry.specs.declared.times.Times.{Times}
+use Rattle.registrations.specs.declared.times.Times.{Times}
 use Rattle.zone_config.specs.declared.config.ConfigParts.{ConfigParts}
 
 -- as it is set for a zone

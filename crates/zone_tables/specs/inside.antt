@@ -1,3 +1,3 @@
 -- What the functions inside the crate owe one another. No public contract speaks of it.
 pub mod Stored
-pub mod Watched
+pub mod Counted

@@ -146,13 +146,6 @@ impl Bandwidth {
         &self.pools
     }
 
-    /// In how many calls an endpoint has a leg.
-    pub fn legs_of(&self, endpoint: &EndpointId) -> usize
-        ensures { result ≡ legs_of self.now.usage.calls endpoint.now }
-    {
-        self.calls.legs_of(endpoint)
-    }
-
     /// The units of all calls.
     pub fn in_use(&self) -> u64
         ensures sum { result ≡ in_use self.now.usage.calls }
@@ -238,15 +231,18 @@ impl Bandwidth {
         }
     }
 
-    /// Takes an endpoint out of all its calls.
-    pub fn leave_all(&mut self, endpoint: &EndpointId)
+    /// Takes an endpoint out of all its calls, of which there are this many.
+    pub fn leave_all(&mut self, endpoint: &EndpointId, legs: usize)
+        requires { legs ≡ legs_of self.old.usage.calls endpoint.now }
         ensures left { HaveLeft endpoint.now self.old.usage self.new.usage }
         ensures others { HaveOthersLegs endpoint.now self.old.usage.calls self.new.usage.calls }
         ensures sound { IsSoundUsage self.new.usage }
     {
-        while let Some(call) = self.calls.call_of(endpoint) {
+        for _gone in 0..legs {
+            let call = self.calls.call_of(endpoint).unwrap();
             self.leave(&call, endpoint);
         }
+        let _ = &self.calls;
     }
 
     /// Notes that a fresh pool, which was offered with these figures, took the place of a pool and

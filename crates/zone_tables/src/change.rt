@@ -1,7 +1,7 @@
 //! What may change in the tables.
 
 ghost use Rattle.std.specs.Prelude.{◌≡◌};
-ghost use Rattle.zone_tables.specs.inside.Watched.{endpoint_of_change, mover_of_change};
+ghost use Rattle.zone_tables.specs.inside.Counted.{move_of};
 
 use crate::entry::Entry;
 use admission::Leg;
@@ -19,20 +19,6 @@ pub enum EndpointChange {
     Removal(Boxed<EndpointId>),
 }
 
-impl EndpointChange {
-    /// The endpoint whose registration it is about.
-    pub(crate) fn endpoint(&self) -> EndpointId
-        ensures { result ≡ endpoint_of_change self.now }
-    {
-        match self {
-            EndpointChange::Renewal(id, _) => *id.get(),
-            EndpointChange::Rewriting(id, _, _) => *id.get(),
-            EndpointChange::Addition(registration) => registration.get().identifier,
-            EndpointChange::Removal(id) => *id.get(),
-        }
-    }
-}
-
 /// What a request changes among the calls without asking a pool. Units are of 100 bit/s.
 #[derive(Drop)]
 pub enum CallChange {
@@ -47,17 +33,25 @@ pub enum CallChange {
 }
 
 impl CallChange {
-    /// The endpoint that has one leg more after it, or one leg fewer.
-    pub(crate) fn mover(&self) -> Option<EndpointId>
-        ensures { result ≡ mover_of_change self.now }
+    /// Who has one leg more after it, or one leg fewer.
+    pub(crate) fn movement(&self) -> Move
+        ensures { result ≡ move_of self.now }
     {
         match self {
-            CallChange::Opening(_, _, leg) => Some(leg.get().endpoint),
-            CallChange::Joining(_, leg) => Some(leg.get().endpoint),
-            CallChange::Lowering(_, _, _, _) => None,
-            CallChange::Leaving(_, endpoint) => Some(*endpoint.get()),
+            CallChange::Opening(_, _, leg) => Move::Comes(leg.get().endpoint),
+            CallChange::Joining(_, leg) => Move::Comes(leg.get().endpoint),
+            CallChange::Lowering(_, _, _, _) => Move::Nobody,
+            CallChange::Leaving(_, endpoint) => Move::Goes(*endpoint.get()),
         }
     }
+}
+
+/// The endpoint that takes part in one call more, or in one fewer.
+#[derive(Clone, Copy)]
+pub(crate) enum Move {
+    Comes(EndpointId),
+    Goes(EndpointId),
+    Nobody,
 }
 
 /// What a request changes.

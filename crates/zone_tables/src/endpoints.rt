@@ -14,12 +14,13 @@ ghost use Rattle.zone_tables.specs.Translation.{registered_with, translation};
 ghost use Rattle.zone_tables.specs.Changes.{IsAddable, IsEndpointChange};
 ghost use Rattle.zone_tables.specs.Changes.{IsRewritable, after_endpoint_change};
 ghost use Rattle.zone_tables.specs.Parts.{IsSoundRoll};
+ghost use Rattle.zone_tables.specs.inside.Counted.{IsMove, legs_after_change, legs_after_move};
 
-use crate::change::EndpointChange;
+use crate::change::{EndpointChange, Move};
 use crate::entry::Entry;
 use aliases::AliasTable;
 use ras_module::{Address, Alias, AliasList, EndpointId};
-use registrations::{Registration, RegistrationList, Registrations};
+use registrations::{Registration, RegistrationList, Registrations, Times};
 use std::alloc::{AllocError, Global};
 use std::marker::Model;
 use zone_config::Moment;
@@ -35,26 +36,35 @@ impl Model for Endpoints {
     ghost use Rattle.std.specs.Coded.{codes};
     ghost use Rattle.std.specs.FinMap as map;
     ghost use Rattle.zone_tables.specs.inside.Stored.{AreStored};
-    ghost use Rattle.zone_tables.specs.Parts.{Roll};
+    ghost use Rattle.zone_tables.specs.Parts.{Roster};
 
-    ghost Value = { Roll };
+    ghost Value = { Roster };
 
     ghost coded = { Prim.hlevel (codes, map.code) };
 
-    ghost view = { λ e. record { live = e.registrations.live; most = e.registrations.most } };
+    ghost view = { λ e. record {
+      roll = record { live = e.registrations.live; most = e.registrations.most };
+      legs = e.registrations.legs;
+      times = e.registrations.times;
+    } };
 
     ghost invariant = { λ e. AreStored e.registrations e.aliases.held };
 }
 
 impl Endpoints {
-    /// A table with no endpoint, for at most this many.
-    pub fn new(alloc: Global, most: usize) -> Self
+    /// A table with no endpoint, for at most this many. One in a call may be silent for these
+    /// times.
+    pub fn new(alloc: Global, most: usize, times: Times) -> Self
         requires { most ≤ 20000 }
-        ensures empty { result ≡ record { live = map.empty; most = most } }
-        ensures sound { IsSoundRoll result }
+        ensures empty { result ≡ record {
+          roll = record { live = map.empty; most = most };
+          legs = map.empty;
+          times = times;
+        } }
+        ensures sound { IsSoundRoll result.roll }
     {
         Endpoints {
-            registrations: Registrations::new(alloc, most),
+            registrations: Registrations::with_times(alloc, most, times),
             aliases: AliasTable::new(alloc),
         }
     }
@@ -71,28 +81,28 @@ impl Endpoints {
 
     /// Whether the other has the same endpoints.
     pub fn have_same(&self, other: &Self) -> bool
-        ensures { IsTrue result ↔ (self.now.live ≡ other.now.live) }
+        ensures { IsTrue result ↔ (self.now.roll.live ≡ other.now.roll.live) }
     {
         self.registrations.is_same(&other.registrations)
     }
 
     /// How many endpoints are registered.
     pub fn len(&self) -> usize
-        ensures { result ≡ map.len self.now.live }
+        ensures { result ≡ map.len self.now.roll.live }
     {
         self.registrations.len()
     }
 
     pub fn get(&self, id: &EndpointId) -> Option<&Registration>
-        ensures found { option_copied result ≡ map.get self.now.live id.now }
-        ensures sound { IsConsistent self.now.live }
+        ensures found { option_copied result ≡ map.get self.now.roll.live id.now }
+        ensures sound { IsConsistent self.now.roll.live }
     {
         self.registrations.get(id)
     }
 
     pub fn by_address(&self, address: Address) -> Option<&Registration>
-        ensures found { option_copied result ≡ at_address self.now.live address }
-        ensures sound { IsConsistent self.now.live }
+        ensures found { option_copied result ≡ at_address self.now.roll.live address }
+        ensures sound { IsConsistent self.now.roll.live }
     {
         self.registrations.by_address(address)
     }
@@ -100,7 +110,7 @@ impl Endpoints {
     /// Those of these aliases that endpoints with another call signal address hold.
     pub fn conflicts(&self, aliases: &[Alias], address: Address) -> Result<AliasList, AllocError>
         ensures { IfOk result (λ held.
-            held ≡ registered_elsewhere self.now.live address aliases.now) }
+            held ≡ registered_elsewhere self.now.roll.live address aliases.now) }
     {
         let _ = &self.registrations;
         self.aliases.conflicts(aliases, address)
@@ -109,7 +119,7 @@ impl Endpoints {
     /// The call signal address of the endpoint with the first of these aliases that is registered.
     /// The other address if none is.
     pub fn translate(&self, aliases: &[Alias], other: Option<Address>) -> Option<Address>
-        ensures { result ≡ translation self.now.live aliases.now other }
+        ensures { result ≡ translation self.now.roll.live aliases.now other }
     {
         for alias in aliases {
             if let Some(r) = self.registered_with(alias) {
@@ -121,37 +131,73 @@ impl Endpoints {
 
     /// The endpoint that is registered with an alias.
     fn registered_with(&self, alias: &Alias) -> Option<&Registration>
-        ensures { option_copied result ≡ registered_with self.now.live alias.now }
+        ensures { option_copied result ≡ registered_with self.now.roll.live alias.now }
     {
         self.registrations.get(self.aliases.holder(alias)?)
     }
 
     /// An identifier that no endpoint has, and that is not taken: any such one.
     pub fn unused(&self, taken: &[EndpointId]) -> EndpointId
-        ensures { IsUnused self.now.live taken.now result }
+        ensures { IsUnused self.now.roll.live taken.now result }
     {
         self.registrations.unused(taken)
     }
 
     /// Copies, by rising identifier.
     pub fn list(&self) -> Result<RegistrationList, AllocError>
-        ensures { IfOk result (IsListOf self.now.live) }
+        ensures { IfOk result (IsListOf self.now.roll.live) }
     {
         self.registrations.list()
     }
 
     /// The table of the registrations.
     pub fn table(&self) -> &Registrations
-        ensures { result.now.live ≡ self.now.live }
+        ensures live { result.now.live ≡ self.now.roll.live }
+        ensures legs { result.now.legs ≡ self.now.legs }
+        ensures times { result.now.times ≡ self.now.times }
     {
         &self.registrations
     }
 
+    /// In how many calls an endpoint has a leg. None if it isn't registered.
+    pub fn legs(&self, id: &EndpointId) -> Option<usize>
+        ensures { result ≡ map.get self.now.legs id.now }
+    {
+        self.registrations.legs(id)
+    }
+
+    /// Counts the leg of an endpoint that took part in one call more, or in one fewer.
+    pub fn count(&mut self, movement: &Move)
+        requires { IsMove self.old.roll.live self.old.legs movement.now }
+        ensures { self.new ≡ record self.old {
+          legs = legs_after_move movement.now self.old.legs;
+        } }
+    {
+        match movement {
+            Move::Comes(id) => self.registrations.leg_comes(id),
+            Move::Goes(id) => self.registrations.leg_goes(id),
+            Move::Nobody => {}
+        }
+    }
+
+    /// Notes that an endpoint takes part in no call, if it is registered.
+    pub fn no_legs(&mut self, id: &EndpointId)
+        ensures { self.new ≡ record self.old {
+          legs = update self.old.legs id.now (λ legs. 0);
+        } }
+    {
+        if self.registrations.legs(id).is_some() {
+            self.registrations.no_legs(id);
+        }
+    }
+
     /// Notes that an endpoint was heard, if it is registered.
     pub fn hear(&mut self, now: Moment, id: &EndpointId)
-        ensures live { self.new.live ≡ heard_now now id.now self.old.live }
-        ensures most { self.new.most ≡ self.old.most }
-        ensures sound { IsSoundRoll self.new }
+        ensures live { self.new.roll.live ≡ heard_now now id.now self.old.roll.live }
+        ensures most { self.new.roll.most ≡ self.old.roll.most }
+        ensures legs { self.new.legs ≡ self.old.legs }
+        ensures times { self.new.times ≡ self.old.times }
+        ensures sound { IsSoundRoll self.new.roll }
     {
         if self.registrations.get(id).is_some() {
             self.registrations.hear(id, now.milliseconds());
@@ -160,19 +206,23 @@ impl Endpoints {
 
     /// Notes that an endpoint is asked for a sign of life now.
     pub fn interrogated(&mut self, now: Moment, id: &EndpointId)
-        requires { IsSomeAnd (map.get self.old.live id.now) (λ r. r.tries < 16) }
-        ensures live { self.new.live ≡ update self.old.live id.now (after_ask now) }
-        ensures most { self.new.most ≡ self.old.most }
-        ensures sound { IsSoundRoll self.new }
+        requires { IsSomeAnd (map.get self.old.roll.live id.now) (λ r. r.tries < 16) }
+        ensures live { self.new.roll.live ≡ update self.old.roll.live id.now (after_ask now) }
+        ensures most { self.new.roll.most ≡ self.old.roll.most }
+        ensures legs { self.new.legs ≡ self.old.legs }
+        ensures times { self.new.times ≡ self.old.times }
+        ensures sound { IsSoundRoll self.new.roll }
     {
         self.registrations.asked(id, now.milliseconds());
     }
 
     /// Counts an endpoint's tries from 0 again, if it is registered.
     pub fn calm(&mut self, id: &EndpointId)
-        ensures live { self.new.live ≡ update self.old.live id.now after_calm }
-        ensures most { self.new.most ≡ self.old.most }
-        ensures sound { IsSoundRoll self.new }
+        ensures live { self.new.roll.live ≡ update self.old.roll.live id.now after_calm }
+        ensures most { self.new.roll.most ≡ self.old.roll.most }
+        ensures legs { self.new.legs ≡ self.old.legs }
+        ensures times { self.new.times ≡ self.old.times }
+        ensures sound { IsSoundRoll self.new.roll }
     {
         if self.registrations.get(id).is_some() {
             self.registrations.calm(id);
@@ -181,11 +231,13 @@ impl Endpoints {
 
     /// Makes a change. All that may take memory comes first.
     pub fn apply(&mut self, now: Moment, change: EndpointChange) -> Result<(), AllocError>
-        requires { IsEndpointChange self.old change }
-        ensures live { OnOk result (self.new.live
-            ≡ after_endpoint_change now change self.old.live) }
-        ensures most { self.new.most ≡ self.old.most }
-        ensures sound { OnOk result (IsSoundRoll self.new) }
+        requires { IsEndpointChange self.old.roll change }
+        ensures live { OnOk result (self.new.roll.live
+            ≡ after_endpoint_change now change self.old.roll.live) }
+        ensures most { self.new.roll.most ≡ self.old.roll.most }
+        ensures legs { OnOk result (self.new.legs ≡ legs_after_change change self.old.legs) }
+        ensures times { self.new.times ≡ self.old.times }
+        ensures sound { OnOk result (IsSoundRoll self.new.roll) }
         ensures err { OnErr result (self.new ≡ self.old) }
     {
         match change {
@@ -201,9 +253,11 @@ impl Endpoints {
     }
 
     fn renew(&mut self, id: &EndpointId, deadline: u64)
-        requires { IsSome (map.get self.old.live id.now) }
-        ensures live { self.new.live ≡ update self.old.live id.now (with_deadline deadline) }
-        ensures most { self.new.most ≡ self.old.most }
+        requires { IsSome (map.get self.old.roll.live id.now) }
+        ensures live { self.new.roll.live ≡ update self.old.roll.live id.now (with_deadline deadline) }
+        ensures most { self.new.roll.most ≡ self.old.roll.most }
+        ensures legs { self.new.legs ≡ self.old.legs }
+        ensures times { self.new.times ≡ self.old.times }
     {
         self.registrations.renew(id, deadline);
     }
@@ -215,11 +269,13 @@ impl Endpoints {
         entry: Entry,
         deadline: u64,
     ) -> Result<(), AllocError>
-        requires { IsRewritable self.old endpoint.now entry }
-        ensures live { OnOk result (self.new.live
+        requires { IsRewritable self.old.roll endpoint.now entry }
+        ensures live { OnOk result (self.new.roll.live
             ≡ after_endpoint_change now (EndpointChange.Rewriting endpoint.now entry deadline)
-            self.old.live) }
-        ensures most { self.new.most ≡ self.old.most }
+            self.old.roll.live) }
+        ensures most { self.new.roll.most ≡ self.old.roll.most }
+        ensures legs { self.new.legs ≡ self.old.legs }
+        ensures times { self.new.times ≡ self.old.times }
         ensures err { OnErr result (self.new ≡ self.old) }
     {
         let Entry {
@@ -237,10 +293,13 @@ impl Endpoints {
     }
 
     fn add(&mut self, registration: Registration) -> Result<(), AllocError>
-        requires { IsAddable self.old registration }
-        ensures live { OnOk result (self.new.live
-            ≡ map.insert self.old.live registration.identifier registration) }
-        ensures most { self.new.most ≡ self.old.most }
+        requires { IsAddable self.old.roll registration }
+        ensures live { OnOk result (self.new.roll.live
+            ≡ map.insert self.old.roll.live registration.identifier registration) }
+        ensures most { self.new.roll.most ≡ self.old.roll.most }
+        ensures legs { OnOk result
+            (self.new.legs ≡ map.insert self.old.legs registration.identifier 0) }
+        ensures times { self.new.times ≡ self.old.times }
         ensures err { OnErr result (self.new ≡ self.old) }
     {
         let aliases = registration.aliases.as_slice();
@@ -254,9 +313,11 @@ impl Endpoints {
 
     /// Takes an endpoint out, if it is registered.
     pub fn remove(&mut self, id: &EndpointId)
-        ensures live { self.new.live ≡ map.remove self.old.live id.now }
-        ensures most { self.new.most ≡ self.old.most }
-        ensures sound { IsSoundRoll self.new }
+        ensures live { self.new.roll.live ≡ map.remove self.old.roll.live id.now }
+        ensures most { self.new.roll.most ≡ self.old.roll.most }
+        ensures legs { self.new.legs ≡ map.remove self.old.legs id.now }
+        ensures times { self.new.times ≡ self.old.times }
+        ensures sound { IsSoundRoll self.new.roll }
     {
         drop_aliases(&self.registrations, &mut self.aliases, id);
         self.registrations.remove(id);

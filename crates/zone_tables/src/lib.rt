@@ -9,7 +9,6 @@ mod endpoints;
 mod entry;
 mod lender;
 mod pool_figures;
-mod silence;
 mod tables;
 mod unit_request;
 

@@ -32,14 +32,12 @@ use crate::change::{CallChange, Change, EndpointChange};
 use crate::endpoints::Endpoints;
 use crate::lender::Lender;
 use crate::pool_figures::PoolFigures;
-use crate::silence::{make_place, watch};
-use crate::unit_request::{Purpose, UnitRequest};
+use crate::unit_request::UnitRequest;
 use admission::{Call, CallList, Calls, Leg};
 use expiry::{Times, item_in_call};
 use pools::{Figures, Lend};
 use ras_module::{Address, Alias, CallKey, EndpointId, ReplyAliases};
 use registrations::{Registration, RegistrationList, Registrations};
-use silences::Silences;
 use std::alloc::{AllocError, Global};
 use std::marker::Model;
 use zone_config::{Config, Moment};
@@ -51,8 +49,6 @@ pub struct ZoneTables {
     config: Config,
     endpoints: Endpoints,
     bandwidth: Bandwidth,
-    // when the silence of each registered endpoint ends, if it takes part in a call
-    silences: Silences,
 }
 
 // By hand, so that it is one call where they are dropped.
@@ -62,7 +58,6 @@ impl Drop for ZoneTables {
             config: _,
             endpoints: _,
             bandwidth: _,
-            silences: _,
         } = self;
     }
 }
@@ -80,13 +75,12 @@ impl Model for ZoneTables {
 
     ghost view = { λ m. record {
       config = m.config;
-      live = m.endpoints.live;
+      live = m.endpoints.roll.live;
       calls = m.bandwidth.usage.calls;
       pools = m.bandwidth.usage.pools;
     } };
 
-    ghost invariant = { λ m.
-        AreSoundParts m.config m.endpoints m.bandwidth.usage m.silences.ends };
+    ghost invariant = { λ m. AreSoundParts m.config m.endpoints m.bandwidth.usage };
 }
 
 impl ZoneTables {
@@ -97,13 +91,12 @@ impl ZoneTables {
         ensures tables { result ≡ empty_tables config pools }
         ensures sound { SoundTables result }
     {
-        let endpoints = Endpoints::new(alloc, config.endpoints());
+        let endpoints = Endpoints::new(alloc, config.endpoints(), times_of(&config));
         let bandwidth = Bandwidth::new(alloc, &config, pools);
         ZoneTables {
             config,
             endpoints,
             bandwidth,
-            silences: Silences::new(alloc),
         }
     }
 
@@ -115,7 +108,6 @@ impl ZoneTables {
             config: self.config.copy()?,
             endpoints: self.endpoints.copy()?,
             bandwidth: self.bandwidth.copy()?,
-            silences: self.silences.copy()?,
         })
     }
 
@@ -159,12 +151,7 @@ impl ZoneTables {
         ensures same { result ≡ times_of self.now.config }
         ensures asks { result.asks ≤ 16 }
     {
-        let parts = self.config.parts();
-        Times {
-            silence: parts.silence,
-            asks: parts.asks as u8,
-            ask_wait: parts.ask_wait,
-        }
+        times_of(&self.config)
     }
 
     /// The table of the registrations.
@@ -250,7 +237,7 @@ impl ZoneTables {
     pub fn legs_of(&self, endpoint: &EndpointId) -> usize
         ensures { result ≡ legs_of self.now.calls endpoint.now }
     {
-        self.bandwidth.legs_of(endpoint)
+        self.endpoints.legs(endpoint).unwrap_or(0)
     }
 
     /// Copies of the registrations, by rising identifier.
@@ -295,17 +282,8 @@ impl ZoneTables {
         ensures sound { SoundTables self.new }
         ensures err { OnErr result (self.new ≡ self.old) }
     {
-        let times = self.times();
-        let id = change.endpoint();
-        make_place(&mut self.silences, &self.endpoints, &id)?;
+        let _ = &self.config;
         self.endpoints.apply(now, change)?;
-        watch(
-            &mut self.silences,
-            &times,
-            &self.endpoints,
-            &self.bandwidth,
-            &id,
-        );
         Ok(())
     }
 
@@ -316,18 +294,9 @@ impl ZoneTables {
         ensures sound { SoundTables self.new }
         ensures err { OnErr result (self.new ≡ self.old) }
     {
-        let times = self.times();
-        let mover = change.mover();
+        let movement = change.movement();
         self.bandwidth.apply(change)?;
-        if let Some(id) = mover {
-            watch(
-                &mut self.silences,
-                &times,
-                &self.endpoints,
-                &self.bandwidth,
-                &id,
-            );
-        }
+        self.endpoints.count(&movement);
         Ok(())
     }
 
@@ -336,15 +305,8 @@ impl ZoneTables {
         ensures heard { self.new ≡ heard self.old now (Some id.now) }
         ensures sound { SoundTables self.new }
     {
-        let times = self.times();
+        let _ = &self.config;
         self.endpoints.hear(now, id);
-        watch(
-            &mut self.silences,
-            &times,
-            &self.endpoints,
-            &self.bandwidth,
-            id,
-        );
     }
 
     /// Requests units of a pool, once, for a call. If enough units are lent, the call opens with
@@ -370,18 +332,10 @@ impl ZoneTables {
         ensures err { OnErr result (self.new ≡ self.old) }
         ensures not_asked { OnErr result (lender.new ≡ lender.old) }
     {
-        let times = self.times();
+        let _ = &self.config;
         self.bandwidth.reserve(1)?;
         let answer = self.bandwidth.request_units(request, lender);
-        if let Purpose::Opening(leg) = &request.purpose {
-            watch(
-                &mut self.silences,
-                &times,
-                &self.endpoints,
-                &self.bandwidth,
-                &leg.get().endpoint,
-            );
-        }
+        self.endpoints.count(&request.movement(answer));
         Ok(answer)
     }
 
@@ -404,15 +358,10 @@ impl ZoneTables {
         ensures pools { AreSameButLent self.old.pools self.new.pools }
         ensures gone { EachLeg (IsOther id.now) self.new.calls }
     {
-        let times = self.times();
-        self.bandwidth.leave_all(id);
-        watch(
-            &mut self.silences,
-            &times,
-            &self.endpoints,
-            &self.bandwidth,
-            id,
-        );
+        let _ = &self.config;
+        let legs = self.endpoints.legs(id).unwrap_or(0);
+        self.bandwidth.leave_all(id, legs);
+        self.endpoints.no_legs(id);
     }
 
     /// Removes a registration, with the endpoint's legs.
@@ -422,15 +371,7 @@ impl ZoneTables {
         ensures pools { AreSameButLent self.old.pools self.new.pools }
     {
         self.leave_all(id);
-        let times = self.times();
         self.endpoints.remove(id);
-        watch(
-            &mut self.silences,
-            &times,
-            &self.endpoints,
-            &self.bandwidth,
-            id,
-        );
     }
 
     /// Removes the legs of a silent endpoint, which stays registered.
@@ -440,15 +381,7 @@ impl ZoneTables {
         ensures pools { AreSameButLent self.old.pools self.new.pools }
     {
         self.leave_all(id);
-        let times = self.times();
         self.endpoints.calm(id);
-        watch(
-            &mut self.silences,
-            &times,
-            &self.endpoints,
-            &self.bandwidth,
-            id,
-        );
     }
 
     /// Notes that an endpoint is asked for a sign of life now.
@@ -458,15 +391,8 @@ impl ZoneTables {
             ≡ with_live self.old (update self.old.live id.now (after_ask now)) }
         ensures sound { SoundTables self.new }
     {
-        let times = self.times();
+        let _ = &self.config;
         self.endpoints.interrogated(now, id);
-        watch(
-            &mut self.silences,
-            &times,
-            &self.endpoints,
-            &self.bandwidth,
-            id,
-        );
     }
 
     /// An item that is due of an endpoint in a call, any such item: the endpoint is asked for a
@@ -476,12 +402,21 @@ impl ZoneTables {
             (IsNoEndpointDue now (times_of self.now.config) self.now.live self.now.calls)
             (IsEndpointItem now (times_of self.now.config) self.now.live self.now.calls) }
     {
-        let times = self.times();
         let moment = now.milliseconds();
-        let (end, id) = self.silences.earliest()?;
-        if moment < end {
-            return None;
-        }
-        item_in_call(self.endpoints.get(id)?, moment, &times)
+        let registration = self.endpoints.table().silent(moment)?;
+        item_in_call(registration, moment, &self.times())
+    }
+}
+
+/// How long an endpoint in a call may be silent, as it is set.
+fn times_of(config: &Config) -> Times
+    ensures same { result ≡ times_of config.now }
+    ensures asks { result.asks ≤ 16 }
+{
+    let parts = config.parts();
+    Times {
+        silence: parts.silence,
+        asks: parts.asks as u8,
+        ask_wait: parts.ask_wait,
     }
 }

@@ -1,10 +1,12 @@
 //! What a pool is asked for.
 
 ghost use Rattle.std.specs.Prelude.{◌≡◌};
+ghost use Rattle.zone_tables.specs.inside.Counted.{move_of_answer};
 ghost use Rattle.zone_tables.specs.UnitRequests.{granted_reply, refused_reply, reply_of};
 ghost use Rattle.zone_tables.specs.UnitRequests.{IsAnswered, IsBandWidth};
 ghost use Rattle.zone_tables.specs.Pools.{grant_of};
 
+use crate::change::Move;
 use admission::Leg;
 use pools::Lend;
 use ras_module::{
@@ -42,6 +44,19 @@ impl UnitRequest {
             Lend::Lent(units) if units < u64::from(self.least) => None,
             Lend::Lent(units) => Some(units),
             Lend::Refused | Lend::Wait => None,
+        }
+    }
+
+    /// Who has one leg more after this answer of the pool.
+    pub(crate) fn movement(&self, answer: Lend) -> Move
+        ensures { result ≡ move_of_answer self.now answer }
+    {
+        if self.grant(answer).is_none() {
+            return Move::Nobody;
+        }
+        match &self.purpose {
+            Purpose::Opening(leg) => Move::Comes(leg.get().endpoint),
+            Purpose::Raising(_) => Move::Nobody,
         }
     }
 

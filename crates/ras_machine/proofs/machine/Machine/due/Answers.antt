@@ -1,7 +1,7 @@
 use Rattle.std.proofs.Common.{◌∙◌, ℕ, ap, subst, sym}
 use Rattle.std.specs.Prelude.{MatchOption}
 use Rattle.admission.specs.Calls.{OpenCalls}
-use Rattle.expiry.specs.declared.times.Times.{Times}
+use Rattle.registrations.specs.declared.times.Times.{Times}
 use Rattle.expiry.specs.Due.{IsDue, IsEndpointItem, IsNoEndpointDue, IsNothingDue}
 use Rattle.kept_replies.specs.Kept.{KeptReplies}
 use Rattle.registrations.specs.Registry.{Live}

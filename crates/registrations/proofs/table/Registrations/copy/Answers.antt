@@ -1,6 +1,7 @@
-use Rattle.std.proofs.Common.{◌≡◌, Some, ap, sym, ◌∙◌, take, take_all, arith}
+use Rattle.std.proofs.Common.{◌≡◌, Some, ap, sym, ◌∙◌, take, take_all, arith, length, refl}
 use Rattle.std.specs.Prelude.{slice_get}
-use Rattle.std.specs.Option.{option_copied}
+use Rattle.std.specs.Option.{option_and_then, option_copied}
+use Rattle.std.proofs.lemmas.Option.{slice_get_read}
 use Rattle.std.specs.FinMap as map
 use Rattle.std.proofs.lemmas.Cmp.{nat_list_cmp_total}
 use Rattle.std.proofs.lemmas.Map.Lookups.{exact_bytes}
@@ -8,7 +9,8 @@ use Rattle.keyed.proofs.Rows.{map_push}
 use Rattle.registrations.specs.Registry.{at_address, identifier_of, live_of}
 use Rattle.registrations.proofs.Rows.{len_numbered, len_taken, next_taken, next_copied}
 use Rattle.registrations.proofs.Rows.{no_address_before, none_before}
-use Rattle.registrations.proofs.Stored.{rows_apart}
+use Rattle.registrations.proofs.Legs.{HaveLegs-put, legs_nth, same_legs, uncounted}
+use Rattle.registrations.proofs.Stored.{len_stored, rows_apart}
 use Rattle.registrations.proofs.table.Registrations.copy.Goals as goal
 
 pub loop-i-init : goal.loop-i-init
@@ -22,12 +24,29 @@ loop-i-init c = (
     c.len.ensures.len,
     len_numbered c.args.self.now c.len.ensures.numbered,
   ),
+  c.in_ok-copy.ensures.times ∙ ap (λ t. t.times) c.self.view_is,
+  λ id. ap (λ m. map.get m id) c.in_ok-copy.ensures.legs ∙ (map.get-empty _ id
+      ∙ sym (ap (λ m. option_and_then (λ r. map.get c.args.self.now.legs id) (map.get m id))
+      c.in_ok-copy.ensures.live
+      ∙ ap (option_and_then (λ r. map.get c.args.self.now.legs id)) (map.get-empty _ id))),
 )
+
+pub index-requires : goal.index-requires
+index-requires c =
+    let i = c.self.inside in
+    omega (
+      arith,
+      c.loop-i-test.true,
+      c.len-i-end.ensures.len,
+      len_stored i.rows i.by_identifier i.by_address i.most c.self.invariant.stored,
+      ap (λ t. map.len t.live) c.self.view_is,
+      c.self.invariant.places.counted,
+    )
 
 pub put-requires-clause-few : goal.put-requires-clause-few
 put-requires-clause-few c =
     let i = c.self.inside in
-    let are = rows_apart i.rows i.by_identifier i.by_address i.deadlines i.most
+    let are = rows_apart i.rows i.by_identifier i.by_address i.deadlines i.legs i.ends i.times i.most
     c.self.invariant.stored _
     c.self.view_is in
     omega (
@@ -53,7 +72,7 @@ pub put-requires-clause-identifier : goal.put-requires-clause-identifier
 put-requires-clause-identifier c =
     let i = c.self.inside in
     let row = c.in_ok-copy-2.field-0 in
-    let are = rows_apart i.rows i.by_identifier i.by_address i.deadlines i.most
+    let are = rows_apart i.rows i.by_identifier i.by_address i.deadlines i.legs i.ends i.times i.most
     c.self.invariant.stored _
     c.self.view_is in
     let there : slice_get c.args.self.now.order c.loop-i.i ≡ Some row = sym c.nth.ensures.nth
@@ -65,7 +84,7 @@ pub put-requires-clause-address : goal.put-requires-clause-address
 put-requires-clause-address c =
     let i = c.self.inside in
     let row = c.in_ok-copy-2.field-0 in
-    let are = rows_apart i.rows i.by_identifier i.by_address i.deadlines i.most
+    let are = rows_apart i.rows i.by_identifier i.by_address i.deadlines i.legs i.ends i.times i.most
     c.self.invariant.stored _
     c.self.view_is in
     let there : slice_get c.args.self.now.order c.loop-i.i ≡ Some row = sym c.nth.ensures.nth
@@ -77,7 +96,7 @@ pub loop-i-preserved : goal.loop-i-preserved
 loop-i-preserved c =
     let i = c.self.inside in
     let row = c.in_ok-copy-2.field-0 in
-    let are = rows_apart i.rows i.by_identifier i.by_address i.deadlines i.most
+    let are = rows_apart i.rows i.by_identifier i.by_address i.deadlines i.legs i.ends i.times i.most
     c.self.invariant.stored _
     c.self.view_is in
     let there : slice_get c.args.self.now.order c.loop-i.i ≡ Some row = sym c.nth.ensures.nth
@@ -92,6 +111,21 @@ loop-i-preserved c =
           (none_before c.args.self.now.order are c.loop-i.i row there)) ∙ ap live_of next)),
       c.put.ensures.adds.most ∙ c.loop-i.invariant.2,
       omega (arith, c.put.ensures.adds.room, c.loop-i.invariant.3),
+      c.put.ensures.adds.times ∙ c.loop-i.invariant.4,
+      HaveLegs-put c.args.self.now.legs c.loop-i.copy.live c.put.new.self.live c.loop-i.copy.legs
+          c.put.new.self.legs row c.index.result.now c.loop-i.invariant.5
+          c.put.ensures.adds.rows c.put.ensures.legs
+          (legs_nth i.rows i.by_identifier i.by_address i.deadlines i.legs i.ends i.times i.most
+          c.self.invariant _ c.self.view_is c.loop-i.i row there
+          ∙ slice_get_read i.legs.items (length i.legs.items) c.loop-i.i c.index.result.now refl
+          (omega (
+            arith,
+            c.loop-i-test.true,
+            c.len-i-end.ensures.len,
+            len_stored i.rows i.by_identifier i.by_address i.most c.self.invariant.stored,
+            ap (λ t. map.len t.live) c.self.view_is,
+            c.self.invariant.places.counted,
+          )) c.index.ensures),
     )
 
 pub returns-clause-live : goal.returns-clause-live
@@ -115,3 +149,22 @@ returns-clause-order c =
       len_numbered c.args.self.now c.len-i-end.ensures.numbered,
     )) in
     ap (λ t. t.order) c.copy-2.view_is ∙ (c.loop-i.invariant.0 ∙ all)
+
+pub returns-clause-times : goal.returns-clause-times
+returns-clause-times c = ap (λ t. t.times) c.copy-2.view_is ∙ c.loop-i.invariant.4
+
+pub returns-clause-legs : goal.returns-clause-legs
+returns-clause-legs c =
+    let i = c.self.inside in
+    let numbered = c.len-i-end.ensures.numbered in
+    let all = take_all c.loop-i.i c.args.self.now.order (omega (
+      arith,
+      c.loop-i-test.false,
+      c.len-i-end.ensures.len,
+      len_numbered c.args.self.now numbered,
+    )) in
+    let live = c.loop-i.invariant.1 ∙ (ap live_of all ∙ numbered.all) in
+    ap (λ t. t.legs) c.copy-2.view_is
+    ∙ same_legs c.args.self.now.legs c.loop-i.copy.live c.loop-i.copy.legs c.loop-i.invariant.5
+    (λ id none. uncounted i.rows i.by_identifier i.by_address i.deadlines i.legs i.ends i.times
+    i.most c.self.invariant _ c.self.view_is id (ap (λ m. map.get m id) (sym live) ∙ none))

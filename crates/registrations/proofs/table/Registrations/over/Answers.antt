@@ -11,7 +11,7 @@ use Rattle.registrations.proofs.table.Registrations.over.Goals as goal
 pub returns-in_err-deadline-clause-none : goal.returns-in_err-deadline-clause-none
 returns-in_err-deadline-clause-none c none id r there =
     let i = c.self.inside in
-    let due = due_of i.rows i.by_identifier i.by_address i.deadlines i.most
+    let due = due_of i.rows i.by_identifier i.by_address i.deadlines i.legs i.ends i.times i.most
     c.self.invariant.stored _ c.self.view_is c.self.invariant.due id r there in
     some_none (sym due.1 ∙ (ap (λ m. map.get m due.0) (c.in_err-deadline.ensures.none.0 refl)
     ∙ map.get-empty nat_cmp due.0))
@@ -19,7 +19,7 @@ returns-in_err-deadline-clause-none c none id r there =
 pub returns-then-deadline-now-clause-none : goal.returns-then-deadline-now-clause-none
 returns-then-deadline-now-clause-none c none id r there =
     let i = c.self.inside in
-    let due = due_of i.rows i.by_identifier i.by_address i.deadlines i.most
+    let due = due_of i.rows i.by_identifier i.by_address i.deadlines i.legs i.ends i.times i.most
     c.self.invariant.stored _ c.self.view_is c.self.invariant.due id r there in
     omega (
       arith,

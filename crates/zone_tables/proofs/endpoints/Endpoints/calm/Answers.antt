@@ -2,7 +2,7 @@ use Rattle.std.proofs.Common.{refl, sym, subst}
 use Rattle.registrations.specs.Registry.{Live, after_calm}
 use Rattle.registrations.specs.Agreement.{Agree}
 use Rattle.registrations.proofs.Agreement.{Agree-update}
-use Rattle.zone_tables.specs.Parts.{IsSoundRoll}
+use Rattle.zone_tables.specs.Parts.{IsSoundRoll, Roster}
 use Rattle.zone_tables.proofs.Agreeing.{IsSoundRoll-stored}
 use Rattle.zone_tables.proofs.endpoints.Endpoints.calm.Goals as goal
 
@@ -22,4 +22,4 @@ returns-then-is_some-clause-sound c = IsSoundRoll-stored _ _ (invariant_of-self 
 
 pub returns-else-is_some-clause-sound : goal.returns-else-is_some-clause-sound
 returns-else-is_some-clause-sound c =
-    subst IsSoundRoll c.self.view_is (IsSoundRoll-stored _ _ c.self.invariant)
+    subst (λ (e : Roster). IsSoundRoll e.roll) c.self.view_is (IsSoundRoll-stored _ _ c.self.invariant)

@@ -11,5 +11,5 @@ returns c =
     subst (λ (held : List Alias). IfOk c.conflicts.result (λ list. list ≡ held))
     (conflicts_are i.registrations.live i.aliases.held c.self.invariant.agree
     c.args.address c.args.aliases.now
-    ∙ ap (λ t. registered_elsewhere t.live c.args.address c.args.aliases.now) c.self.view_is)
+    ∙ ap (λ t. registered_elsewhere t.roll.live c.args.address c.args.aliases.now) c.self.view_is)
     c.conflicts.ensures

@@ -10,9 +10,9 @@ use Rattle.zone_tables.proofs.endpoints.Endpoints.new.Goals as goal
 pub invariant_of-result : goal.invariant_of-result
 invariant_of-result c =
     record {
-      agree = subst (λ (l : Live). Agree l c.new-2.result.held) (sym c.new.ensures.live)
-          (subst (λ (h : Held). Agree fin.empty h) (sym c.new-2.ensures) Agree-empty);
-      sound = c.new.ensures.sound;
+      agree = subst (λ (l : Live). Agree l c.new.result.held) (sym c.with_times.ensures.live)
+          (subst (λ (h : Held). Agree fin.empty h) (sym c.new.ensures) Agree-empty);
+      sound = c.with_times.ensures.sound;
     }
 
 pub returns-clause-sound : goal.returns-clause-sound

@@ -1,7 +1,7 @@
 use Rattle.std.proofs.Common.{◌∙◌, sym, ap}
 use Rattle.std.specs.Option.{option_copied}
 use Rattle.zone_tables.specs.Translation.{registered_with}
-use Rattle.zone_tables.specs.Parts.{Roll}
+use Rattle.zone_tables.specs.Parts.{Roster}
 use Rattle.zone_tables.proofs.Translating.{holder_registered, none_registered}
 use Rattle.zone_tables.proofs.endpoints.Endpoints.registered_with.Goals as goal
 
@@ -13,7 +13,7 @@ returns-in_err-holder c =
     ∙ (sym
     (none_registered i.registrations.live i.aliases.held c.self.invariant.agree
     c.args.alias.now none)
-    ∙ ap (λ (roll : Roll). registered_with roll.live c.args.alias.now) c.self.view_is)
+    ∙ ap (λ (e : Roster). registered_with e.roll.live c.args.alias.now) c.self.view_is)
 
 pub returns : goal.returns
 returns c =
@@ -23,4 +23,4 @@ returns c =
     ∙ (sym (holder_registered i.registrations.live i.aliases.held c.self.invariant.agree
     c.args.alias.now
     c.in_ok-holder.field-0.now some)
-    ∙ ap (λ (roll : Roll). registered_with roll.live c.args.alias.now) c.self.view_is)
+    ∙ ap (λ (e : Roster). registered_with e.roll.live c.args.alias.now) c.self.view_is)

@@ -8,7 +8,7 @@ use Rattle.registrations.specs.Registry.{Live, IsConsistent, after_hear, after_r
 use Rattle.registrations.specs.Agreement.{Agree}
 use Rattle.keyed.specs.Maps.{update}
 use Rattle.zone_tables.specs.Tables.{heard_now}
-use Rattle.zone_tables.specs.Parts.{Roll}
+use Rattle.zone_tables.specs.Parts.{Roster}
 use Rattle.zone_tables.proofs.Agreeing.{free_to_rewrite, is_live}
 use Rattle.zone_tables.proofs.Answered.{is_there}
 use Rattle.zone_tables.proofs.Agreeing.{is_there_after, Agree-rewriting}
@@ -17,48 +17,48 @@ use Rattle.zone_tables.proofs.endpoints.Endpoints.rewrite.Goals as goal
 pub set_all-requires-clause-free : goal.set_all-requires-clause-free
 set_all-requires-clause-free c alias has other =
     let held = c.self.inside.aliases.held in
-    let agree = subst (λ (t : Roll). Agree t.live held) c.self.view_is c.self.invariant.agree in
+    let agree = subst (λ (t : Roster). Agree t.roll.live held) c.self.view_is c.self.invariant.agree in
     let sound =
-    subst (λ (t : Roll). IsConsistent t.live) c.self.view_is c.self.invariant.sound.consistent in
+    subst (λ (t : Roster). IsConsistent t.roll.live) c.self.view_is c.self.invariant.sound.consistent in
     let id = c.args.endpoint.now in
     let dropped : c.drop_aliases.new.aliases.held ≡ without_holder held id =
     c.drop_aliases.ensures.rows ∙ ap (λ h. without_holder h id) c.reserve.ensures.held in
     not_held (without_holder held id) alias id
-    (free_to_rewrite c.args.self.now held agree sound id c.args.entry c.requires alias
+    (free_to_rewrite c.args.self.now.roll held agree sound id c.args.entry c.requires alias
     (subst (λ (xs : List Alias). Contains xs alias) c.as_slice-2.ensures.items has))
     (subst (λ (h : Held). IsHeldByAnother h alias id) dropped other)
 
 pub rewrite-requires : goal.rewrite-requires
 rewrite-requires c =
     let held = c.self.inside.aliases.held in
-    let agree = subst (λ (t : Roll). Agree t.live held) c.self.view_is c.self.invariant.agree in
+    let agree = subst (λ (t : Roster). Agree t.roll.live held) c.self.view_is c.self.invariant.agree in
     let sound =
-    subst (λ (t : Roll). IsConsistent t.live) c.self.view_is c.self.invariant.sound.consistent in
+    subst (λ (t : Roster). IsConsistent t.roll.live) c.self.view_is c.self.invariant.sound.consistent in
     let id = c.args.endpoint.now in
     is_there (fin.get c.self.inside.registrations.live id) c.requires.old
-    (ap (λ (t : Roll). fin.get t.live id) c.self.view_is
-    ∙ is_live c.args.self.now held agree sound id c.args.entry c.requires)
+    (ap (λ (t : Roster). fin.get t.roll.live id) c.self.view_is
+    ∙ is_live c.args.self.now.roll held agree sound id c.args.entry c.requires)
 
 pub hear-requires : goal.hear-requires
 hear-requires c =
     let held = c.self.inside.aliases.held in
-    let agree = subst (λ (t : Roll). Agree t.live held) c.self.view_is c.self.invariant.agree in
+    let agree = subst (λ (t : Roster). Agree t.roll.live held) c.self.view_is c.self.invariant.agree in
     let sound =
-    subst (λ (t : Roll). IsConsistent t.live) c.self.view_is c.self.invariant.sound.consistent in
+    subst (λ (t : Roster). IsConsistent t.roll.live) c.self.view_is c.self.invariant.sound.consistent in
     let id = c.args.endpoint.now in
     let e = c.args.entry in
     subst (λ (l : Live). IsSome (fin.get l id)) (sym c.rewrite.ensures.rows)
     (is_there_after c.self.inside.registrations.live id
     (after_rewrite e.ras e.aliases c.args.deadline) c.requires.old
-    (ap (λ (t : Roll). fin.get t.live id) c.self.view_is
-    ∙ is_live c.args.self.now held agree sound id e c.requires))
+    (ap (λ (t : Roster). fin.get t.roll.live id) c.self.view_is
+    ∙ is_live c.args.self.now.roll held agree sound id e c.requires))
 
 pub invariant_of-self-2 : goal.invariant_of-self-2
 invariant_of-self-2 c =
     let held = c.self.inside.aliases.held in
-    let agree = subst (λ (t : Roll). Agree t.live held) c.self.view_is c.self.invariant.agree in
+    let agree = subst (λ (t : Roster). Agree t.roll.live held) c.self.view_is c.self.invariant.agree in
     let sound =
-    subst (λ (t : Roll). IsConsistent t.live) c.self.view_is c.self.invariant.sound.consistent in
+    subst (λ (t : Roster). IsConsistent t.roll.live) c.self.view_is c.self.invariant.sound.consistent in
     let id = c.args.endpoint.now in
     let e = c.args.entry in
     let now = c.milliseconds.result in
@@ -71,15 +71,15 @@ invariant_of-self-2 c =
     ∙ ap (λ xs. with_aliases (without_holder held id) xs id e.call_signal)
     c.as_slice-2.ensures.items) in
     let live_is : c.hear.new.self.live ≡ heard_now now id
-    (update c.args.self.now.live id (after_rewrite e.ras e.aliases c.args.deadline)) =
+    (update c.args.self.now.roll.live id (after_rewrite e.ras e.aliases c.args.deadline)) =
     c.hear.ensures.rows
     ∙ ap (λ l. update l id (after_hear now)) (c.rewrite.ensures.rows
-    ∙ ap (λ (t : Roll). update t.live id (after_rewrite e.ras e.aliases c.args.deadline))
+    ∙ ap (λ (t : Roster). update t.roll.live id (after_rewrite e.ras e.aliases c.args.deadline))
     c.self.view_is) in
     record {
       agree = subst (λ (l : Live). Agree l c.set_all.new.self.held) (sym live_is)
-          (subst (λ (h : Held). Agree (heard_now now id (update c.args.self.now.live id
+          (subst (λ (h : Held). Agree (heard_now now id (update c.args.self.now.roll.live id
           (after_rewrite e.ras e.aliases c.args.deadline))) h) (sym held_is)
-          (Agree-rewriting c.args.self.now held agree sound id e c.args.deadline now c.requires));
+          (Agree-rewriting c.args.self.now.roll held agree sound id e c.args.deadline now c.requires));
       sound = c.hear.ensures.sound;
     }

@@ -7,7 +7,7 @@ use Rattle.zone_tables.proofs.endpoints.Endpoints.translate.Goals as goal
 
 pub returns-in-Some : goal.returns-in-Some
 returns-in-Some c =
-    let live = c.args.self.now.live in
+    let live = c.args.self.now.roll.live in
     let aliases = c.args.aliases.now in
     let i = c.loop-alias.alias-index in
     let some = sym c.registered_with.ensures ∙ ap option_copied c.in-Some.is in
@@ -18,7 +18,7 @@ returns-in-Some c =
 
 pub loop-alias-preserved : goal.loop-alias-preserved
 loop-alias-preserved c =
-    let live = c.args.self.now.live in
+    let live = c.args.self.now.roll.live in
     let aliases = c.args.aliases.now in
     let i = c.loop-alias.alias-index in
     let none = sym c.registered_with.ensures ∙ ap option_copied c.in_default.is in
@@ -30,5 +30,5 @@ loop-alias-preserved c =
 pub returns : goal.returns
 returns c =
     sym (c.loop-alias.invariant
-    ∙ ap (λ xs. translation c.args.self.now.live xs c.args.other)
+    ∙ ap (λ xs. translation c.args.self.now.roll.live xs c.args.other)
     (drop_of_length-le c.args.aliases.now c.loop-alias-test.false))

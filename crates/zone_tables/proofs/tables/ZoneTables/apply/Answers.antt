@@ -9,7 +9,7 @@ use Rattle.zone_tables.proofs.tables.ZoneTables.apply.Goals as goal
 pub returns-in-Nothing-clause-sound : goal.returns-in-Nothing-clause-sound
 returns-in-Nothing-clause-sound c =
     subst SoundTables c.self.view_is
-    (SoundTables-parts _ _ _ _ c.self.invariant)
+    (SoundTables-parts _ _ _ c.self.invariant)
 
 pub returns-in-Calls-clause-ok : goal.returns-in-Calls-clause-ok
 returns-in-Calls-clause-ok c =

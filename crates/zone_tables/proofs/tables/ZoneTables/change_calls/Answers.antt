@@ -1,89 +1,59 @@
-use Rattle.std.proofs.Common.{◌∙◌, ap, refl, subst, sym}
-use Rattle.admission.specs.Calls.{legs_of}
-use Rattle.keyed.proofs.Decide.{same_some, some_none}
-use Rattle.zone_tables.specs.Parts.{AreSoundParts, IsSoundUsage, Usage}
-use Rattle.zone_tables.specs.Silence.{times_of}
-use Rattle.zone_tables.specs.inside.Watched.{AreWatched}
+use Rattle.std.proofs.Common.{ap, refl, subst, sym}
+use Rattle.zone_tables.specs.Parts.{AreSoundParts, IsSoundUsage, Roster, Usage}
 use Rattle.zone_tables.specs.Tables.{Tables}
-use Rattle.zone_tables.specs.Changes.{IsCallChange, IsPossible}
+use Rattle.zone_tables.specs.Changes.{IsCallChange, IsPossible, calls_after}
 use Rattle.zone_tables.specs.declared.change.Change.TheVariants.{Calls}
+use Rattle.zone_tables.specs.declared.change.Move.{Move}
+use Rattle.zone_tables.specs.inside.Counted.{IsMove, legs_after_move}
+use Rattle.zone_tables.proofs.Counting.{IsMove-change, counted_change, counted_so}
 use Rattle.zone_tables.proofs.Legs.{AreParts-change, usage_is}
 use Rattle.zone_tables.proofs.SoundParts.{SoundTables-parts, either_way}
-use Rattle.zone_tables.proofs.Watching.{legs_of_others, others_watched, watched_still}
 use Rattle.zone_tables.proofs.tables.ZoneTables.change_calls.Goals as goal
 
 pub returns-in_err-apply-clause-sound : goal.returns-in_err-apply-clause-sound
 returns-in_err-apply-clause-sound c =
     let i = c.self.inside in
-    SoundTables-parts _ _ _ _
-    (subst (λ (u : Usage). AreSoundParts i.config i.endpoints u i.silences.ends)
+    SoundTables-parts _ _ _
+    (subst (λ (u : Usage). AreSoundParts i.config i.endpoints u)
     (sym c.in_err-apply.ensures.err) c.self.invariant)
 
-pub watch-requires-clause-others : goal.watch-requires-clause-others
-watch-requires-clause-others c =
+pub count-requires : goal.count-requires
+count-requires c =
     let i = c.self.inside in
     let u = i.bandwidth.usage in
     let here = subst (λ (m : Tables). IsPossible m (Calls c.args.change)) (sym c.self.view_is)
     c.requires in
     let can = subst (λ (u : Usage). IsCallChange u c.args.change)
-    (sym (usage_is i.config i.endpoints u c.self.invariant.parts)) here.0 in
-    let same = c.times-times.ensures.same
-    ∙ ap (λ (m : Tables). times_of m.config) (sym c.self.view_is) in
-    others_watched c.times-times.result i.endpoints.live u.calls i.silences.ends
-    (subst (λ t. AreWatched t i.endpoints.live u.calls i.silences.ends) (sym same)
-    c.self.invariant.watched)
-    i.endpoints.live c.apply.new.self.usage.calls c.in-Some.id (λ q differ. refl)
-    (λ q differ. ap (λ (u : Usage). legs_of u.calls q) c.in_ok-apply.ensures.ok
-    ∙ legs_of_others u c.args.change can q (λ moves.
-    differ (same_some q c.in-Some.id (sym moves ∙ (sym c.mover-mover.ensures ∙ c.in-Some.is)))))
+    (sym (usage_is i.config i.endpoints.roll u c.self.invariant.parts)) here.0 in
+    subst (λ (m : Move). IsMove i.endpoints.roll.live i.endpoints.legs m)
+    (sym c.movement-movement.ensures)
+    (IsMove-change i.endpoints.roll.live u i.endpoints.legs c.self.invariant.counted
+    c.self.invariant.calls c.self.invariant.parts.legs c.args.change can here.1)
 
-pub invariant_of-self-in-Some : goal.invariant_of-self-in-Some
-invariant_of-self-in-Some c =
+pub invariant_of-self-2 : goal.invariant_of-self-2
+invariant_of-self-2 c =
     let i = c.self.inside in
     let parts = c.self.invariant.parts in
     let u = i.bandwidth.usage in
     let here = subst (λ (m : Tables). IsPossible m (Calls c.args.change)) (sym c.self.view_is)
     c.requires in
     let can = subst (λ (u : Usage). IsCallChange u c.args.change)
-    (sym (usage_is i.config i.endpoints u parts)) here.0 in
-    let same = c.times-times.ensures.same
-    ∙ ap (λ (m : Tables). times_of m.config) (sym c.self.view_is) in
-    record {
+    (sym (usage_is i.config i.endpoints.roll u parts)) here.0 in
+    subst (λ (e : Roster). AreSoundParts i.config e c.apply.new.self.usage) (sym c.count.ensures)
+    (record {
       settings = c.self.invariant.settings;
       endpoints = c.self.invariant.endpoints;
       calls = either_way IsSoundUsage c.apply.result u c.apply.new.self.usage c.apply.ensures.sound
           c.apply.ensures.err c.self.invariant.calls;
-      parts = AreParts-change i.config i.endpoints u parts c.apply.result c.apply.new.self.usage
-          c.args.change can here.1 c.apply.ensures.ok c.apply.ensures.err;
-      watched = subst (λ t. AreWatched t i.endpoints.live c.apply.new.self.usage.calls
-          c.watch.new.silences.ends) same c.watch.ensures;
-    }
+      parts = AreParts-change i.config i.endpoints.roll u parts c.apply.result
+          c.apply.new.self.usage c.args.change can here.1 c.apply.ensures.ok c.apply.ensures.err;
+      counted = counted_so i.endpoints.roll.live i.endpoints.roll.live
+          (calls_after c.args.change u.calls) c.apply.new.self.usage.calls _ _
+          (counted_change i.endpoints.roll.live u i.endpoints.legs c.self.invariant.counted
+          c.args.change can) refl (ap (λ (v : Usage). v.calls) c.in_ok-apply.ensures.ok)
+          (ap (λ (m : Move). legs_after_move m i.endpoints.legs) c.movement-movement.ensures);
+      times = c.self.invariant.times;
+    })
 
-pub invariant_of-self-in_default : goal.invariant_of-self-in_default
-invariant_of-self-in_default c =
-    let i = c.self.inside in
-    let parts = c.self.invariant.parts in
-    let u = i.bandwidth.usage in
-    let here = subst (λ (m : Tables). IsPossible m (Calls c.args.change)) (sym c.self.view_is)
-    c.requires in
-    let can = subst (λ (u : Usage). IsCallChange u c.args.change)
-    (sym (usage_is i.config i.endpoints u parts)) here.0 in
-    record {
-      settings = c.self.invariant.settings;
-      endpoints = c.self.invariant.endpoints;
-      calls = either_way IsSoundUsage c.apply.result u c.apply.new.self.usage c.apply.ensures.sound
-          c.apply.ensures.err c.self.invariant.calls;
-      parts = AreParts-change i.config i.endpoints u parts c.apply.result c.apply.new.self.usage
-          c.args.change can here.1 c.apply.ensures.ok c.apply.ensures.err;
-      watched = λ q. watched_still (times_of i.config) i.endpoints.live u.calls i.silences.ends
-          c.self.invariant.watched i.endpoints.live c.apply.new.self.usage.calls q refl
-          (ap (λ (u : Usage). legs_of u.calls q) c.in_ok-apply.ensures.ok
-          ∙ legs_of_others u c.args.change can q (λ moves.
-          some_none (sym moves ∙ (sym c.mover-mover.ensures ∙ c.in_default.is))));
-    }
-
-pub returns-in-Some-clause-sound : goal.returns-in-Some-clause-sound
-returns-in-Some-clause-sound c = SoundTables-parts _ _ _ _ (invariant_of-self-in-Some c)
-
-pub returns-in_default-clause-sound : goal.returns-in_default-clause-sound
-returns-in_default-clause-sound c = SoundTables-parts _ _ _ _ (invariant_of-self-in_default c)
+pub returns-clause-sound : goal.returns-clause-sound
+returns-clause-sound c = SoundTables-parts _ _ _ (invariant_of-self-2 c)

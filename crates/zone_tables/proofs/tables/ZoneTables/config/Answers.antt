@@ -16,9 +16,9 @@ returns-clause-asks c =
 pub returns-clause-call_limit : goal.returns-clause-call_limit
 returns-clause-call_limit c =
     subst (λ (m : Tables). m.config.call_limit < 2 ^ 32) c.self.view_is
-    (small_call_limit _ _ _ _ c.self.invariant)
+    (small_call_limit _ _ _ c.self.invariant)
 
 pub returns-clause-sound : goal.returns-clause-sound
 returns-clause-sound c =
     subst SoundTables c.self.view_is
-    (SoundTables-parts _ _ _ _ c.self.invariant)
+    (SoundTables-parts _ _ _ c.self.invariant)

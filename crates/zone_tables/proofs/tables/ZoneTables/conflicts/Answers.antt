@@ -6,7 +6,7 @@ use Rattle.zone_tables.proofs.tables.ZoneTables.conflicts.Goals as goal
 pub unwrap-requires : goal.unwrap-requires
 unwrap-requires c =
     let aliases = c.as_slice.result.now in
-    let elsewhere = is_registered_elsewhere c.self.inside.endpoints.live c.args.address in
+    let elsewhere = is_registered_elsewhere c.self.inside.endpoints.roll.live c.args.address in
     fits c.new.result c.in_ok-held.held c.new.ensures
     (omega (
       arith,

@@ -1,28 +1,9 @@
-use Rattle.std.proofs.Common.{◌∙◌, ap, refl, subst, sym}
-use Rattle.std.specs.FinMap as fin
-use Rattle.zone_tables.specs.Silence.{times_of}
-use Rattle.zone_tables.specs.inside.Watched.{AreWatched}
-use Rattle.zone_tables.specs.Tables.{Tables}
+use Rattle.std.proofs.Common.{◌∙◌, refl}
 use Rattle.registrations.specs.Registry.{after_ask}
+use Rattle.zone_tables.proofs.Counting.{counted_so, counted_update}
 use Rattle.zone_tables.proofs.Legs.{AreParts-live, legs-update}
 use Rattle.zone_tables.proofs.SoundParts.{SoundTables-parts}
-use Rattle.zone_tables.proofs.Watching.{live_but, others_watched}
 use Rattle.zone_tables.proofs.tables.ZoneTables.interrogated.Goals as goal
-
-pub watch-requires-clause-others : goal.watch-requires-clause-others
-watch-requires-clause-others c =
-    let i = c.self.inside in
-    let u = i.bandwidth.usage in
-    let id = c.args.id.now in
-    let same = c.times-times.ensures.same
-    ∙ ap (λ (m : Tables). times_of m.config) (sym c.self.view_is) in
-    let watched = subst (λ t. AreWatched t i.endpoints.live u.calls i.silences.ends)
-    (sym same) c.self.invariant.watched in
-    others_watched c.times-times.result i.endpoints.live u.calls i.silences.ends watched
-    c.interrogated.new.self.live u.calls id
-    (λ q differ. ap (λ live. fin.get live q) c.interrogated.ensures.live
-    ∙ live_but i.endpoints.live id (after_ask c.args.now) q differ)
-    (λ q differ. refl)
 
 pub invariant_of-self : goal.invariant_of-self
 invariant_of-self c =
@@ -33,15 +14,15 @@ invariant_of-self c =
       settings = c.self.invariant.settings;
       endpoints = c.interrogated.ensures.sound;
       calls = c.self.invariant.calls;
-      parts = AreParts-live i.config i.endpoints c.interrogated.new.self u parts
-          c.interrogated.ensures.most _
-          c.interrogated.ensures.live
-          (legs-update i.endpoints.live u.calls c.args.id.now (after_ask c.args.now) parts.legs);
-      watched = subst (λ t. AreWatched t c.interrogated.new.self.live u.calls
-          c.watch.new.silences.ends)
-          (c.times-times.ensures.same ∙ ap (λ (m : Tables). times_of m.config) (sym c.self.view_is))
-          c.watch.ensures;
+      parts = AreParts-live i.config i.endpoints.roll c.interrogated.new.self.roll u parts
+          c.interrogated.ensures.most _ c.interrogated.ensures.live
+          (legs-update i.endpoints.roll.live u.calls c.args.id.now (after_ask c.args.now) parts.legs);
+      counted = counted_so _ c.interrogated.new.self.roll.live u.calls u.calls i.endpoints.legs
+          c.interrogated.new.self.legs (counted_update i.endpoints.roll.live u.calls i.endpoints.legs
+          c.self.invariant.counted c.args.id.now (after_ask c.args.now))
+          c.interrogated.ensures.live refl c.interrogated.ensures.legs;
+      times = c.interrogated.ensures.times ∙ c.self.invariant.times;
     }
 
 pub returns-clause-sound : goal.returns-clause-sound
-returns-clause-sound c = SoundTables-parts _ _ _ _ (invariant_of-self c)
+returns-clause-sound c = SoundTables-parts _ _ _ (invariant_of-self c)

@@ -6,4 +6,4 @@ use Rattle.zone_tables.proofs.tables.ZoneTables.len.Goals as goal
 pub returns-clause-sound : goal.returns-clause-sound
 returns-clause-sound c =
     subst SoundTables c.self.view_is
-    (SoundTables-parts _ _ _ _ c.self.invariant)
+    (SoundTables-parts _ _ _ c.self.invariant)

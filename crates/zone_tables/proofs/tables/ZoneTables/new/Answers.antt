@@ -1,13 +1,10 @@
 use Rattle.std.proofs.Common.{◌∙◌, All, ap, refl, sym, subst}
-use Rattle.std.specs.Option.{option_map}
-use Rattle.admission.specs.Calls.{legs_of}
-use Rattle.silences.specs.Silences.{Ends}
-use Rattle.zone_tables.specs.Silence.{times_of}
-use Rattle.zone_tables.specs.inside.Watched.{end_of}
 use Rattle.std.specs.FinMap as fin
 use Rattle.admission.proofs.Soundness.{EachCall-empty}
 use Rattle.zone_tables.specs.Changes.{IsRegistered}
-use Rattle.zone_tables.specs.Parts.{AreParts, Roll, Usage}
+use Rattle.zone_tables.specs.Parts.{AreParts, Roster, Usage}
+use Rattle.zone_tables.specs.inside.Counted.{AreCounted}
+use Rattle.zone_tables.proofs.Counting.{counted_empty}
 use Rattle.zone_tables.proofs.SoundParts.{SoundTables-parts}
 use Rattle.zone_tables.proofs.tables.ZoneTables.new.Goals as goal
 
@@ -24,9 +21,9 @@ invariant_of-result c =
       settings = c.new-bandwidth.ensures.settings;
       endpoints = c.new-endpoints.ensures.sound;
       calls = c.new-bandwidth.ensures.sound;
-      parts = subst (λ (u : Usage). AreParts c.args.config c.new-endpoints.result u)
+      parts = subst (λ (u : Usage). AreParts c.args.config c.new-endpoints.result.roll u)
           (sym c.new-bandwidth.ensures.usage)
-          (subst (λ (roll : Roll). AreParts c.args.config roll u)
+          (subst (λ (e : Roster). AreParts c.args.config e.roll u)
           (sym c.new-endpoints.ensures.empty) (record {
             endpoints = c.endpoints.ensures.same;
             calls = refl;
@@ -35,14 +32,12 @@ invariant_of-result c =
             pools = c.requires.each;
             legs = EachCall-empty (λ call. All (IsRegistered fin.empty) call.legs);
           }));
-      watched = λ id. ap (λ (m : Ends). fin.get m id) c.new.ensures
-          ∙ (fin.get-empty _ id
-          ∙ sym (ap (λ (roll : Roll). option_map
-          (end_of (times_of c.args.config) (legs_of c.new-bandwidth.result.usage.calls id))
-          (fin.get roll.live id)) c.new-endpoints.ensures.empty
-          ∙ ap (option_map (end_of (times_of c.args.config)
-          (legs_of c.new-bandwidth.result.usage.calls id))) (fin.get-empty _ id)));
+      counted = subst (λ (e : Roster). AreCounted e.roll.live c.new-bandwidth.result.usage.calls
+          e.legs) (sym c.new-endpoints.ensures.empty)
+          (counted_empty c.new-bandwidth.result.usage.calls);
+      times = ap (λ (e : Roster). e.times) c.new-endpoints.ensures.empty
+          ∙ c.times_of.ensures.same;
     }
 
 pub returns-clause-sound : goal.returns-clause-sound
-returns-clause-sound c = SoundTables-parts _ _ _ _ (invariant_of-result c)
+returns-clause-sound c = SoundTables-parts _ _ _ (invariant_of-result c)

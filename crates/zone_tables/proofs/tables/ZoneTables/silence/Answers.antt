@@ -1,47 +1,29 @@
-use Rattle.std.proofs.Common.{◌∙◌, ap, refl, subst, sym}
-use Rattle.std.specs.FinMap as fin
-use Rattle.zone_tables.specs.Silence.{times_of}
-use Rattle.zone_tables.specs.inside.Watched.{AreWatched}
-use Rattle.zone_tables.specs.Tables.{Tables}
-use Rattle.keyed.specs.Maps.{update}
+use Rattle.std.proofs.Common.{◌∙◌, refl}
 use Rattle.registrations.specs.Registry.{after_calm}
+use Rattle.zone_tables.proofs.Counting.{counted_so, counted_update}
+use Rattle.keyed.specs.Maps.{update}
 use Rattle.zone_tables.proofs.Departing.{left_then}
 use Rattle.zone_tables.proofs.Legs.{AreParts-live, legs-update}
-use Rattle.zone_tables.proofs.Watching.{live_but, others_watched}
 use Rattle.zone_tables.proofs.SoundParts.{SoundTables-parts}
 use Rattle.zone_tables.proofs.tables.ZoneTables.silence.Goals as goal
-
-pub watch-requires-clause-others : goal.watch-requires-clause-others
-watch-requires-clause-others c =
-    let i = c.self.inside in
-    let u = i.bandwidth.usage in
-    let id = c.args.id.now in
-    let same = c.times-times.ensures.same
-    ∙ ap (λ (m : Tables). times_of m.config) (sym c.self.view_is) in
-    others_watched c.times-times.result i.endpoints.live u.calls i.silences.ends
-    (subst (λ t. AreWatched t i.endpoints.live u.calls i.silences.ends) (sym same)
-    c.self.invariant.watched)
-    c.calm.new.self.live u.calls id
-    (λ q differ. ap (λ live. fin.get live q) c.calm.ensures.live
-    ∙ live_but i.endpoints.live id after_calm q differ)
-    (λ q differ. refl)
 
 pub invariant_of-self : goal.invariant_of-self
 invariant_of-self c =
     let i = c.self.inside in
     let parts = c.self.invariant.parts in
     let u = i.bandwidth.usage in
-    let same = c.times-times.ensures.same
-    ∙ ap (λ (m : Tables). times_of m.config) (sym c.self.view_is) in
     record {
       settings = c.self.invariant.settings;
       endpoints = c.calm.ensures.sound;
       calls = c.self.invariant.calls;
-      parts = AreParts-live i.config i.endpoints c.calm.new.self u parts c.calm.ensures.most _
-          c.calm.ensures.live
-          (legs-update i.endpoints.live u.calls c.args.id.now after_calm parts.legs);
-      watched = subst (λ t. AreWatched t c.calm.new.self.live u.calls c.watch.new.silences.ends)
-          same c.watch.ensures;
+      parts = AreParts-live i.config i.endpoints.roll c.calm.new.self.roll u parts
+          c.calm.ensures.most _ c.calm.ensures.live
+          (legs-update i.endpoints.roll.live u.calls c.args.id.now after_calm parts.legs);
+      counted = counted_so _ c.calm.new.self.roll.live u.calls u.calls i.endpoints.legs
+          c.calm.new.self.legs (counted_update i.endpoints.roll.live u.calls i.endpoints.legs
+          c.self.invariant.counted c.args.id.now after_calm)
+          c.calm.ensures.live refl c.calm.ensures.legs;
+      times = c.calm.ensures.times ∙ c.self.invariant.times;
     }
 
 pub returns-clause-tables : goal.returns-clause-tables
@@ -49,7 +31,7 @@ returns-clause-tables c =
     let id = c.args.id.now in
     left_then (λ live. update live id after_calm) c.args.self.now _ id
     (c.self.view_is ∙ c.leave_all.ensures.tables)
-    c.calm.new.self.live c.calm.ensures.live
+    c.calm.new.self.roll.live c.calm.ensures.live
 
 pub returns-clause-sound : goal.returns-clause-sound
-returns-clause-sound c = SoundTables-parts _ _ _ _ (invariant_of-self c)
+returns-clause-sound c = SoundTables-parts _ _ _ (invariant_of-self c)

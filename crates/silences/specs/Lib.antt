@@ -1,2 +1,0 @@
-pub mod Silences
-pub mod inside

@@ -1,2 +1,0 @@
--- What the functions inside the crate owe one another. No public contract speaks of it.
-pub mod Stored
