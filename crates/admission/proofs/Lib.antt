@@ -4,5 +4,4 @@ pub mod Leaving
 pub mod Soundness
 pub mod Deciding
 pub mod KeptSums
-pub mod KeptLegs
 pub mod CountedCalls

@@ -22,10 +22,13 @@ use Rattle.admission.specs.Calls.{in_use_of, legs_in, has_leg, leg_count, legs_o
 use Rattle.admission.specs.Calls.{new_call, with_leg, with_units, after_leave}
 use Rattle.admission.specs.Legs.{leg_of, without_leg, has_other}
 use Rattle.admission.specs.inside.Stored.{with_legs_but}
-use Rattle.admission.specs.inside.LegCounts.{one_if_same}
 use Rattle.admission.proofs.Leaving.{after_leave-other, after_leave-last}
 use Rattle.admission.proofs.LegLemmas.{none_left}
 use Rattle.admission.proofs.StoredCalls.{EachCall-insert, EachCall-remove, none_from}
+
+-- 1 if the two endpoints are the same, and else 0
+abbrev pub one_if_same : List ℕ → List ℕ → ℕ
+one_if_same a b = if pointwise nat_eq a b then 1 else 0
 
 -- what one more call, a change of one and its end do to the sum of any figure
 module _ (figure : Call → ℕ) (calls : OpenCalls) (key : CallKey) where

@@ -2,4 +2,3 @@
 pub mod Stored
 pub mod Sums
 pub mod Counted
-pub mod LegCounts

@@ -8,7 +8,6 @@ mod copies;
 mod fault;
 mod in_use;
 mod leg;
-mod leg_counts;
 mod legs;
 mod sums;
 mod table;

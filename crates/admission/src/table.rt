@@ -20,7 +20,6 @@ use crate::copies::copies_of;
 use crate::fault::CallFault;
 use crate::in_use::InUse;
 use crate::leg::Leg;
-use crate::leg_counts::LegCounts;
 use crate::legs::Legs;
 use crate::sums::{call_from, call_in, legs_with, units_of_pool};
 use indexmap::IndexMap;
@@ -39,9 +38,8 @@ pub struct Left {
 pub struct Calls {
     calls: IndexMap<CallKey, Call>,
     most: usize,
-    // what the calls use, and how many legs each endpoint has: changed with the calls
+    // what the calls use: changed with the calls
     in_use: InUse,
-    leg_counts: LegCounts,
     // where the call stood that was left last: the next search begins there, so that an endpoint
     // leaves all its calls in one pass
     left_at: usize,
@@ -55,7 +53,6 @@ impl Drop for Calls {
             calls: _,
             most: _,
             in_use: _,
-            leg_counts: _,
             left_at: _,
         } = self;
     }
@@ -79,7 +76,7 @@ impl Model for Calls {
       room = spare t.calls;
     } };
 
-    ghost invariant = { λ t. AreCounted t.calls t.most t.in_use t.leg_counts };
+    ghost invariant = { λ t. AreCounted t.calls t.most t.in_use };
 }
 
 impl Calls {
@@ -95,7 +92,6 @@ impl Calls {
             calls: IndexMap::new(alloc),
             most,
             in_use: InUse::none(),
-            leg_counts: LegCounts::new(alloc),
             left_at: 0,
         }
     }
@@ -110,7 +106,6 @@ impl Calls {
             calls,
             most: self.most,
             in_use: self.in_use,
-            leg_counts: self.leg_counts.copy()?,
             left_at: self.left_at,
         })
     }
@@ -172,23 +167,17 @@ impl Calls {
         ensures { MatchOption result (IsInNoCall self.now.calls endpoint.now)
             (λ key. IsSome (leg_at self.now.calls key endpoint.now)) }
     {
-        if self.leg_counts.of(endpoint) == Some(0) {
-            return None;
-        }
         match call_from(&self.calls, self.left_at, endpoint) {
             Some(key) => Some(key),
             None => call_in(&self.calls, endpoint),
         }
     }
 
-    /// In how many calls this endpoint has a leg.
+    /// In how many calls this endpoint has a leg. This is counted over all calls.
     pub fn legs_of(&self, endpoint: &EndpointId) -> usize
         ensures { result ≡ legs_of self.now.calls endpoint.now }
     {
-        match self.leg_counts.of(endpoint) {
-            Some(count) => count,
-            None => legs_with(&self.calls, endpoint),
-        }
+        legs_with(&self.calls, endpoint)
     }
 
     /// The units of all calls: the bandwidth in use.
@@ -226,10 +215,7 @@ impl Calls {
         ensures room { self.old.room ≤ self.new.room }
         ensures succeeds { more ≤ self.old.room → IsOk result }
     {
-        self.calls.reserve(more)?;
-        self.leg_counts
-            .reserve(self.calls.len().saturating_add(more));
-        Ok(())
+        self.calls.reserve(more)
     }
 
     /// Opens a call with its first leg. Nothing is changed if the limit of open calls is reached,
@@ -255,8 +241,6 @@ impl Calls {
         match self.calls.insert(key, call) {
             Ok(_) => {
                 self.in_use.add(pool, units);
-                self.leg_counts.reserve(self.calls.len());
-                self.leg_counts.come(&leg.endpoint);
                 Ok(())
             }
             Err(_) => Err(CallFault::Memory),
@@ -283,7 +267,6 @@ impl Calls {
             return Err(CallFault::TwoLegs);
         }
         write_leg(&mut self.calls, &key, leg);
-        self.leg_counts.come(&leg.endpoint);
         Ok(())
     }
 
@@ -332,15 +315,12 @@ impl Calls {
         if call.legs.has_other(endpoint) {
             self.left_at = self.place_of(key);
             write_without(&mut self.calls, key, endpoint);
-            self.leg_counts.go(endpoint);
             return Ok(Left { ended: None });
         }
         let (pool, units) = (call.pool, call.units);
         self.left_at = self.place_of(key);
         self.calls.swap_remove(key);
         self.in_use.take(pool, units);
-        self.leg_counts.go(endpoint);
-        self.leg_counts.calls_left(self.calls.len());
         Ok(Left {
             ended: Some((pool, units)),
         })

@@ -194,7 +194,8 @@ module _ (entries : List Entry) (legs : List ℕ) where
       stands_there = slice_get-get_or legs j 0 within
 
       pair_at : slice_get (counts_of entries legs) j ≡ Some (key_of e, count)
-      pair_at = counted_at entries legs j ∙ (ap (λ w. both (option_map key_of w) (slice_get legs j)) at
+      pair_at = counted_at entries legs j ∙ (ap (λ w. both (option_map key_of w) (slice_get legs
+          j)) at
           ∙ ap (both (Some (key_of e))) stands_there)
 
       -- the number of legs at the place of an entry

@@ -1,4 +1,5 @@
--- The deadlines of the rows, in their order, and the moments at which the silences of their endpoints
+-- The deadlines of the rows, in their order, and the moments at which the silences of their
+-- endpoints
 -- end.
 use Rattle.std.proofs.Common.{◌≡◌, ◌≢◌, ℕ, List, [], ◌∷◌, ◌++◌, length, refl, sym, ◌∙◌, ap, subst}
 use Rattle.std.proofs.Common.{Some, None}

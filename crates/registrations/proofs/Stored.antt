@@ -518,7 +518,8 @@ module _ {S : Type 0} (rows : Slab Registration) (by_identifier : HashMap (List 
       (fin.remove t.live id)
   Becomes-remove next next_named next_placed later after left i r id own u there stored more =
       record {
-        rows = live_remove rows by_identifier by_address most s next next_named next_placed i r u there
+        rows = live_remove rows by_identifier by_address most s next next_named next_placed i r u
+            there
             stored ∙ (λ k. fin.remove (view k).live (own k));
         most = ap (λ u. u.most) view;
         room = omega (arith, more, ap (λ u. u.room) view);

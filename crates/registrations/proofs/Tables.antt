@@ -143,7 +143,8 @@ module _ {S Z : Type 0} (rows : Slab Registration) (by_identifier : HashMap (Lis
           (order_of (with_value rows i new) by_identifier.entries) deadlines.moments
           next.moments t.due j new changed_row moments;
       silences = AreEnds-kept times (order_of rows by_identifier.entries)
-          (order_of (with_value rows i new) by_identifier.entries) legs.items ends.moments t.silences j
+          (order_of (with_value rows i new) by_identifier.entries) legs.items ends.moments
+          t.silences j
           old new old_row same changed_row;
     }
 

@@ -85,8 +85,8 @@ impl Model for Registrations {
 }
 
 impl Registrations {
-    /// A table with no registration, for at most this many. No endpoint is silent for too long. This
-    /// takes no memory.
+    /// A table with no registration, for at most this many. No endpoint is ever silent for too
+    /// long. This takes no memory.
     pub fn new(alloc: Global, most: usize) -> Self
         requires { most ≤ 20000 }
         ensures live { result.live ≡ map.empty }

@@ -41,7 +41,8 @@ use Rattle.zone_tables.specs.UnitRequests.{granted_calls, units_requested}
 use Rattle.zone_tables.specs.Changes.{IsOpenable, IsJoinable, IsLowerable}
 use Rattle.zone_tables.specs.Soundness.{HasCounts}
 use Rattle.zone_tables.proofs.Answered.{if_ok, is_there}
-use Rattle.zone_tables.proofs.Lending.{lent-same, lent-opened, lent-opened_empty, lent-joined, lent-refused}
+use Rattle.zone_tables.proofs.Lending.{lent-same, lent-opened, lent-opened_empty, lent-joined}
+use Rattle.zone_tables.proofs.Lending.{lent-refused}
 use Rattle.zone_tables.proofs.Lending.{lent-waiting, lent-part, lent-raised, lent-lowered}
 use Rattle.zone_tables.proofs.Lending.{lent-left}
 

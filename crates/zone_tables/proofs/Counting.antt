@@ -1,5 +1,6 @@
 -- How many legs each endpoint has, after a change of one endpoint's registration or legs.
-use Rattle.std.proofs.Common.{◌≡◌, ◌≢◌, ◌≤◌, ◌+◌, ◌-◌, ℕ, List, [], ◌∷◌, Some, None, true, refl, sym}
+use Rattle.std.proofs.Common.{◌≡◌, ◌≢◌, ◌≤◌, ◌+◌, ◌-◌, ℕ, List, [], ◌∷◌, Some, None, true, refl}
+use Rattle.std.proofs.Common.{sym}
 use Rattle.std.proofs.Common.{◌∙◌, ap, subst, arith, suc, cond}
 use Rattle.std.specs.Prelude.{All, Err, IfSome, IsSome, Ok, OnErr, OnOk, Option, Result, nat_eq}
 use Rattle.std.specs.Prelude.{if◌then◌else◌}
@@ -15,9 +16,10 @@ use Rattle.ras_module.specs.Same.{texts_decide}
 use Rattle.ras_module.specs.declared.call_key.CallKey.{CallKey}
 use Rattle.admission.specs.declared.call.Call.{Call}
 use Rattle.admission.specs.declared.leg.Leg.{Leg}
-use Rattle.admission.specs.Calls.{EachLeg, OpenCalls, after_leave, has_leg, leg_at, legs_in, legs_of}
+use Rattle.admission.specs.Calls.{EachLeg, OpenCalls, after_leave, has_leg, leg_at, legs_in}
+use Rattle.admission.specs.Calls.{legs_of}
 use Rattle.admission.specs.Legs.{leg_of}
-use Rattle.admission.specs.inside.LegCounts.{one_if_same}
+use Rattle.admission.proofs.Soundness.{one_if_same}
 use Rattle.admission.proofs.Soundness.{legs_of-open, legs_of-join, legs_of-set_units, legs_of-leave}
 use Rattle.admission.proofs.Soundness.{legs_of-few, legs_of-none}
 use Rattle.registrations.specs.Registry.{LegCounts, Live, after_hear, after_rewrite, with_deadline}

@@ -2,7 +2,6 @@
 use Rattle.std.proofs.Common.{◌≡◌, ◌<◌, ◌≤◌, ℕ, Bool, true, false, cond, List, [], ◌∷◌, length}
 use Rattle.std.proofs.Common.{get_or, refl, sym, ◌∙◌, ap, subst, Some, None, arith}
 use Rattle.std.specs.Prelude.{Option, All, is_some, option_and_then, not, nat_eq, filter, ◌||◌}
-use Rattle.std.specs.Prelude.{IsSome, if◌then◌else◌}
 use Rattle.std.specs.List.{fold, list_any}
 use Rattle.std.specs.Ordering.{eq_by_cmp}
 use Rattle.std.specs.Cmp.Lexicographic.{pointwise}
@@ -19,9 +18,8 @@ use Rattle.admission.specs.declared.call.Call.{Call}
 use Rattle.admission.specs.declared.leg.Leg.{Leg}
 use Rattle.admission.specs.Legs.{leg_of, without_leg}
 use Rattle.admission.specs.Calls.{OpenCalls, EachCall, EachLeg, IsCall, IsInNoCall, after_leave}
-use Rattle.admission.specs.Calls.{freed_by, freed_by_leave, has_leg, in_use_of, leg_at, legs_in}
-use Rattle.admission.specs.Calls.{legs_of, put_or_remove, rest_of_call, with_legs}
-use Rattle.admission.proofs.Soundness.{legs_of-leave}
+use Rattle.admission.specs.Calls.{freed_by, freed_by_leave, in_use_of, legs_in}
+use Rattle.admission.specs.Calls.{put_or_remove, rest_of_call, with_legs}
 use Rattle.ras_module.specs.Same.{texts_decide}
 use Rattle.pools.specs.declared.interface.Figures.{Figures}
 use Rattle.pools.specs.Account.{opening_account}
@@ -32,7 +30,7 @@ use Rattle.zone_tables.specs.Parts.{IsBacked, Usage, usage_of, with_usage}
 use Rattle.zone_tables.specs.Disengaging.{without_leg_of, without_legs_of}
 use Rattle.zone_tables.specs.Leaving.{AreLeft, AreSameButLent, HaveLeft, rest_of}
 use Rattle.zone_tables.proofs.ButLent.{same_after_end, same_through}
-use Rattle.zone_tables.proofs.Backing.{IsBacked-is, IsBacked-leave, call_with_leg}
+use Rattle.zone_tables.proofs.Backing.{IsBacked-is, IsBacked-leave}
 
 -- a leg that went is gone
 filter_once : {A : Type 0} (test : A → Bool) (xs : List A)
@@ -267,28 +265,6 @@ module _ (endpoint : List ℕ) where
           refusals = refusals j;
           waits = waits j;
         }
-
--- an endpoint has fewer legs after it left a call
-pub fewer_legs : (endpoint : List ℕ) (calls : OpenCalls) (key : CallKey)
-    → IsSome (leg_at calls key endpoint)
-    → legs_of (after_leave calls key endpoint) endpoint < legs_of calls endpoint
-fewer_legs endpoint calls key has =
-    let call = call_with_leg calls key endpoint has in
-    let leg : has_leg endpoint call.0 ≡ true =
-    some_leg (leg_of (call.0).legs endpoint)
-    (subst (λ (w : Option Call). IsSome (leg_of (legs_in w) endpoint)) call.1 has) in
-    omega (
-      arith,
-      legs_of-leave calls key endpoint call.0 endpoint call.1 leg,
-      counted (pointwise nat_eq endpoint endpoint) ((texts_decide endpoint endpoint).1 refl),
-    ) where
-      counted : (b : Bool) → b ≡ true → ◌≡◌ {A = ℕ} (if b then 1 else 0) 1
-      counted true h = refl
-      counted false h = absurd (cc h)
-
-      some_leg : (w : Option Leg) → IsSome w → is_some w ≡ true
-      some_leg None h = absurd (cc h)
-      some_leg (Some leg) h = refl
 
 -- what holds of each leg holds of those that are left, which are of others
 rest_legs : (endpoint : List ℕ) (was call : Call) (legs : List Leg)

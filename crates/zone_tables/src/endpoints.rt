@@ -254,7 +254,8 @@ impl Endpoints {
 
     fn renew(&mut self, id: &EndpointId, deadline: u64)
         requires { IsSome (map.get self.old.roll.live id.now) }
-        ensures live { self.new.roll.live ≡ update self.old.roll.live id.now (with_deadline deadline) }
+        ensures live { self.new.roll.live
+            ≡ update self.old.roll.live id.now (with_deadline deadline) }
         ensures most { self.new.roll.most ≡ self.old.roll.most }
         ensures legs { self.new.legs ≡ self.old.legs }
         ensures times { self.new.times ≡ self.old.times }

@@ -5,7 +5,6 @@ use Rattle.ras_module.specs.CallKeys.{same_call_key}
 use Rattle.admission.specs.Calls.{with_leg, legs_in}
 use Rattle.admission.specs.Legs.{leg_of}
 use Rattle.admission.proofs.CountedCalls.{AreCounted-join}
-use Rattle.admission.proofs.KeptLegs.{small_count}
 use Rattle.admission.proofs.LegLemmas.{one_leg}
 use Rattle.admission.proofs.StoredCalls.{get_call, stored_call, Becomes-update}
 use Rattle.admission.proofs.table.Calls.join.Goals as goal
@@ -24,10 +23,6 @@ write_leg-requires-clause-new c =
     ap (λ legs. leg_of legs c.args.leg.endpoint) (ap legs_in (get_call c.self.inside.calls
     c.args.key ∙ ap (λ t. map.get t.calls c.args.key) c.self.view_is)) ∙ c.requires
 
-pub come-requires : goal.come-requires
-come-requires c = small_count c.self.inside.calls c.self.inside.most c.self.invariant.stored
-    c.self.inside.leg_counts c.self.invariant.legs c.args.leg.endpoint
-
 pub invariant_of-self : goal.invariant_of-self
 invariant_of-self c =
     let old = c.self.inside.calls in
@@ -35,12 +30,12 @@ invariant_of-self c =
     let call = c.in-Some.call.now in
     let there = stored_call old new c.args.key c.self.inside.most c.args.self.now c.self.view_is
     call c.in-Some.ensures.found in
-    AreCounted-join old new c.self.inside.most c.self.inside.in_use c.self.inside.leg_counts
-    c.self.invariant c.args.key call there c.come.new.self c.args.leg
+    AreCounted-join old new c.self.inside.most c.self.inside.in_use
+    c.self.invariant c.args.key call there c.args.leg
     (one_leg call.legs c.are_two.result c.are_two.ensures.legs c.are_two.ensures.two
     c.if-are_two.false)
     (ap (λ w. leg_of (legs_in w) c.args.leg.endpoint) c.in-Some.ensures.found ∙ c.requires)
-    c.write_leg.ensures c.come.ensures.comes
+    c.write_leg.ensures
 
 pub returns-clause-ok : goal.returns-clause-ok
 returns-clause-ok c = Becomes-update c.self.inside.calls c.write_leg.new.calls c.args.key

@@ -1,8 +1,6 @@
 use Rattle.std.proofs.Common.{refl, sym, ap, subst}
-use Rattle.admission.specs.Calls.{OpenCalls, legs_of, open_calls_of}
-use Rattle.admission.specs.inside.LegCounts.{AreLegCounts}
+use Rattle.admission.specs.Calls.{open_calls_of}
 use Rattle.admission.specs.inside.Sums.{AreSums}
-use Rattle.admission.proofs.KeptLegs.{AreLegCounts-empty}
 use Rattle.admission.proofs.KeptSums.{AreSums-empty}
 use Rattle.admission.proofs.StoredCalls.{AreStored-empty, IsConsistent-stored}
 use Rattle.admission.proofs.table.Calls.new.Goals as goal
@@ -12,9 +10,6 @@ invariant_of-result c = record {
   stored = AreStored-empty c.new.result c.args.most c.new.ensures.empty c.requires.few;
   sums = subst (AreSums c.none.result) (sym (ap open_calls_of c.new.ensures.empty))
       (AreSums-empty c.none.result c.none.ensures);
-  legs = subst (λ (m : OpenCalls). AreLegCounts c.new-2.result (legs_of m))
-      (sym (ap open_calls_of c.new.ensures.empty))
-      (AreLegCounts-empty c.new-2.result c.new-2.ensures.zero);
 }
 
 pub returns-clause-sound : goal.returns-clause-sound

@@ -3,11 +3,10 @@ use Rattle.std.specs.FinMap as map
 use Rattle.indexmap.specs.IndexMap.{Updates}
 use Rattle.ras_module.specs.CallKeys.{same_call_key}
 use Rattle.admission.specs.declared.leg.Leg.{Leg}
-use Rattle.admission.specs.Calls.{new_call, legs_of}
-use Rattle.admission.proofs.CountedCalls.{AreCounted-same, AreCounted-keeps, AreCounted-open}
-use Rattle.admission.proofs.KeptLegs.{AreLegCounts-keeps, small_count}
+use Rattle.admission.specs.Calls.{new_call}
+use Rattle.admission.proofs.CountedCalls.{AreCounted-same, AreCounted-open}
 use Rattle.admission.proofs.KeptSums.{small_total, small_sum}
-use Rattle.admission.proofs.StoredCalls.{open_of, get_call, longer_by_one, Adds-open, full_stored}
+use Rattle.admission.proofs.StoredCalls.{get_call, longer_by_one, Adds-open, full_stored}
 use Rattle.admission.proofs.table.Calls.open.Goals as goal
 
 pub add-requires-clause-total : goal.add-requires-clause-total
@@ -28,19 +27,12 @@ add-requires-clause-pool c below =
       c.ranges.units.fits,
     )
 
-opened : (c : goal.After-come) → Updates same_call_key c.self.inside.calls c.insert.new.self
+opened : (c : goal.After-add) → Updates same_call_key c.self.inside.calls c.insert.new.self
     c.args.key (Some (new_call c.args.pool c.args.units c.args.leg))
 opened c =
     subst (λ (legs : List Leg). Updates same_call_key c.self.inside.calls c.insert.new.self
     c.args.key (Some (record { pool = c.args.pool; units = c.args.units; legs = legs })))
     c.one.ensures c.in-Ok.ensures.updates
-
-pub come-requires : goal.come-requires
-come-requires c =
-    small_count c.self.inside.calls c.self.inside.most c.self.invariant.stored c.reserve.new.self
-    (AreLegCounts-keeps c.self.inside.leg_counts c.reserve.new.self
-    (legs_of (open_of c.self.inside.calls)) c.self.invariant.legs c.reserve.ensures)
-    c.args.leg.endpoint
 
 pub invariant_of-self : goal.invariant_of-self
 invariant_of-self c =
@@ -49,16 +41,14 @@ invariant_of-self c =
     let absent = ap (λ t. map.get t.calls c.args.key) c.self.view_is ∙ c.requires in
     let longer = longer_by_one c.in-Ok.field-0 (length new.entries) (length old.entries)
     c.in-Ok.ensures.len (c.in-Ok.ensures.old ∙ (get_call old c.args.key ∙ absent)) in
-    AreCounted-open old new c.self.inside.most c.self.inside.in_use c.reserve.new.self
-    (AreCounted-keeps old old c.self.inside.most c.self.inside.in_use c.self.inside.leg_counts
-    c.self.invariant c.reserve.new.self c.reserve.ensures)
-    c.args.key c.add.new.self c.come.new.self c.args.pool c.args.units c.args.leg absent
+    AreCounted-open old new c.self.inside.most c.self.inside.in_use c.self.invariant
+    c.args.key c.add.new.self c.args.pool c.args.units c.args.leg absent
     c.ranges.units.fits (λ e. c.if-len-self.false (c.len.ensures.len ∙ e))
-    c.in-Ok.ensures.unique (opened c) longer c.add.ensures c.come.ensures.comes
+    c.in-Ok.ensures.unique (opened c) longer c.add.ensures
 
 pub invariant_of-self-in-Err : goal.invariant_of-self-in-Err
 invariant_of-self-in-Err c = AreCounted-same c.self.inside.calls c.insert.new.self
-    c.self.inside.most c.self.inside.in_use c.self.inside.leg_counts c.self.invariant
+    c.self.inside.most c.self.inside.in_use c.self.invariant
     c.in-Err.ensures.err
 
 pub returns-in-Ok-clause-ok : goal.returns-in-Ok-clause-ok

@@ -36,7 +36,7 @@ invariant_of-self c =
     let call = c.in-Some.call.now in
     let is = stored_call old new c.args.key.now c.self.inside.most c.args.self.now c.self.view_is
     call c.in-Some.ensures.found in
-    AreCounted-set_units old new c.self.inside.most c.self.inside.in_use c.self.inside.leg_counts
+    AreCounted-set_units old new c.self.inside.most c.self.inside.in_use
     c.self.invariant c.args.key.now call is c.take.new.self c.add.new.self c.args.units
     c.ranges.units.fits c.write_units.ensures c.take.ensures c.add.ensures
 

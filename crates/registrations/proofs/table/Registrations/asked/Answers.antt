@@ -23,7 +23,8 @@ pub overflow_add-row : goal.overflow_add-row
 overflow_add-row c =
     let i = c.self.inside in
     let old = c.index_mut-row.result.now in
-    let has = registered i.rows i.by_identifier i.by_address i.deadlines i.legs i.ends i.times i.most
+    let has = registered i.rows i.by_identifier i.by_address i.deadlines i.legs i.ends i.times
+    i.most
     c.self.invariant.stored _ c.self.view_is c.args.id.now c.live_entry-i.result.1
     c.live_entry-i.ensures.place old c.index_mut-row.ensures.value in
     let few : old.tries < 16 = subst (λ (w : Option Registration). IsSomeAnd w (λ r. r.tries < 16))

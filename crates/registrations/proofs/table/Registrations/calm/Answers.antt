@@ -43,5 +43,6 @@ returns c =
     let i = c.self.inside in
     Updates-change i.rows i.by_identifier i.by_address i.deadlines i.legs i.ends i.times i.most
     c.self.invariant.stored _ c.self.view_is c.args.id.now c.live_entry-i.result.1
-    c.live_entry-i.ensures.place c.index_mut-registration.result.now c.index_mut-registration.ensures.value
+    c.live_entry-i.ensures.place c.index_mut-registration.result.now
+    c.index_mut-registration.ensures.value
     after_calm refl refl i.deadlines c.write_end.new.ends refl c.write_end.ensures.room

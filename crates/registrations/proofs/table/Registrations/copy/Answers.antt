@@ -46,7 +46,8 @@ index-requires c =
 pub put-requires-clause-few : goal.put-requires-clause-few
 put-requires-clause-few c =
     let i = c.self.inside in
-    let are = rows_apart i.rows i.by_identifier i.by_address i.deadlines i.legs i.ends i.times i.most
+    let are = rows_apart i.rows i.by_identifier i.by_address i.deadlines i.legs i.ends i.times
+    i.most
     c.self.invariant.stored _
     c.self.view_is in
     omega (
@@ -72,7 +73,8 @@ pub put-requires-clause-identifier : goal.put-requires-clause-identifier
 put-requires-clause-identifier c =
     let i = c.self.inside in
     let row = c.in_ok-copy-2.field-0 in
-    let are = rows_apart i.rows i.by_identifier i.by_address i.deadlines i.legs i.ends i.times i.most
+    let are = rows_apart i.rows i.by_identifier i.by_address i.deadlines i.legs i.ends i.times
+    i.most
     c.self.invariant.stored _
     c.self.view_is in
     let there : slice_get c.args.self.now.order c.loop-i.i ≡ Some row = sym c.nth.ensures.nth
@@ -84,7 +86,8 @@ pub put-requires-clause-address : goal.put-requires-clause-address
 put-requires-clause-address c =
     let i = c.self.inside in
     let row = c.in_ok-copy-2.field-0 in
-    let are = rows_apart i.rows i.by_identifier i.by_address i.deadlines i.legs i.ends i.times i.most
+    let are = rows_apart i.rows i.by_identifier i.by_address i.deadlines i.legs i.ends i.times
+    i.most
     c.self.invariant.stored _
     c.self.view_is in
     let there : slice_get c.args.self.now.order c.loop-i.i ≡ Some row = sym c.nth.ensures.nth
@@ -96,7 +99,8 @@ pub loop-i-preserved : goal.loop-i-preserved
 loop-i-preserved c =
     let i = c.self.inside in
     let row = c.in_ok-copy-2.field-0 in
-    let are = rows_apart i.rows i.by_identifier i.by_address i.deadlines i.legs i.ends i.times i.most
+    let are = rows_apart i.rows i.by_identifier i.by_address i.deadlines i.legs i.ends i.times
+    i.most
     c.self.invariant.stored _
     c.self.view_is in
     let there : slice_get c.args.self.now.order c.loop-i.i ≡ Some row = sym c.nth.ensures.nth

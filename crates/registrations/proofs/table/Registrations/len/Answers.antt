@@ -27,11 +27,13 @@ returns-clause-few c =
 pub returns-clause-sound : goal.returns-clause-sound
 returns-clause-sound c =
     let i = c.self.inside in
-    consistent i.rows i.by_identifier i.by_address i.deadlines i.legs i.ends i.times i.most c.self.invariant.stored _
+    consistent i.rows i.by_identifier i.by_address i.deadlines i.legs i.ends i.times i.most
+    c.self.invariant.stored _
     c.self.view_is
 
 pub returns-clause-numbered : goal.returns-clause-numbered
 returns-clause-numbered c =
     let i = c.self.inside in
-    numbered i.rows i.by_identifier i.by_address i.deadlines i.legs i.ends i.times i.most c.self.invariant.stored _
+    numbered i.rows i.by_identifier i.by_address i.deadlines i.legs i.ends i.times i.most
+    c.self.invariant.stored _
     c.self.view_is

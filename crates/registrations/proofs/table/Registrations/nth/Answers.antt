@@ -61,6 +61,7 @@ returns-clause-live c =
     copied_is c.get.result row.0
     (λ (r : Registration). map.get c.args.self.now.live r.identifier ≡ Some r)
     (c.get.ensures ∙ row.1)
-    ((live_map i.rows i.by_identifier i.by_address i.deadlines i.legs i.ends i.times i.most c.self.invariant.stored _
+    ((live_map i.rows i.by_identifier i.by_address i.deadlines i.legs i.ends i.times i.most
+    c.self.invariant.stored _
     c.self.view_is).has
     c.in_ok-_identifier.place.now row.0 row.1)

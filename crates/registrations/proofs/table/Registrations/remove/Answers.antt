@@ -15,13 +15,15 @@ pub returns-in_err-i-clause-found : goal.returns-in_err-i-clause-found
 returns-in_err-i-clause-found c =
     let i = c.self.inside in
     c.from_residual.ensures
-    ∙ not_found i.rows i.by_identifier i.by_address i.deadlines i.legs i.ends i.times i.most c.self.invariant.stored _
+    ∙ not_found i.rows i.by_identifier i.by_address i.deadlines i.legs i.ends i.times i.most
+    c.self.invariant.stored _
     c.self.view_is c.args.id.now (sym c.in_err-i.ensures.place)
 
 pub returns-in_err-i-clause-removed : goal.returns-in_err-i-clause-removed
 returns-in_err-i-clause-removed c =
     let i = c.self.inside in
-    Becomes-same i.rows i.by_identifier i.by_address i.deadlines i.legs i.ends i.times i.most c.self.invariant.stored _
+    Becomes-same i.rows i.by_identifier i.by_address i.deadlines i.legs i.ends i.times i.most
+    c.self.invariant.stored _
     c.self.view_is c.args.id.now (sym c.in_err-i.ensures.place)
 
 pub remove-registration-requires : goal.remove-registration-requires
@@ -52,7 +54,8 @@ rename-requires c =
     omega (
       arith,
       c.clear.ensures.room,
-      entry_within i.rows i.by_identifier i.by_address i.deadlines i.legs i.ends i.times i.most c.self.invariant
+      entry_within i.rows i.by_identifier i.by_address i.deadlines i.legs i.ends i.times i.most
+          c.self.invariant
           c.in_ok-i.i _ c.in_ok-i.ensures.entry,
     )
 
@@ -84,7 +87,8 @@ invariant_of-self c =
 pub returns-clause-found : goal.returns-clause-found
 returns-clause-found c =
     let i = c.self.inside in
-    let has = registered i.rows i.by_identifier i.by_address i.deadlines i.legs i.ends i.times i.most
+    let has = registered i.rows i.by_identifier i.by_address i.deadlines i.legs i.ends i.times
+    i.most
     c.self.invariant.stored _ c.self.view_is c.args.id.now c.in_ok-i.place
     (sym c.in_ok-i.ensures.place) c.remove-registration.result c.remove-registration.ensures.value
     in
@@ -98,10 +102,12 @@ returns-clause-removed c =
     ∙ entry_at i.rows i.by_identifier i.by_address i.most c.self.invariant.stored c.args.id.now
     c.in_ok-i.place c.in_ok-i.i named c.in_ok-i.ensures.entry in
     let r = c.remove-registration.result in
-    let has = registered i.rows i.by_identifier i.by_address i.deadlines i.legs i.ends i.times i.most
+    let has = registered i.rows i.by_identifier i.by_address i.deadlines i.legs i.ends i.times
+    i.most
     c.self.invariant.stored _ c.self.view_is c.args.id.now c.in_ok-i.place named r
     c.remove-registration.ensures.value in
-    Becomes-remove i.rows i.by_identifier i.by_address i.deadlines i.legs i.ends i.times i.most c.self.invariant.stored _
+    Becomes-remove i.rows i.by_identifier i.by_address i.deadlines i.legs i.ends i.times i.most
+    c.self.invariant.stored _
     c.self.view_is c.remove-registration.new.self c.swap_remove_index.new.self
     c.swap_remove.new.self c.rename.new.self c.swap_remove-2.new.self c.rename-2.new.self
     c.in_ok-i.place r c.args.id.now has.0
@@ -115,7 +121,10 @@ returns-clause-removed c =
       c.rename.ensures.room,
       c.clear.ensures.room,
     ))
-    (omega (arith, c.swap_remove_index.ensures.room.0)) (omega (arith, c.swap_remove.ensures.room.0))
+    (omega (arith, c.swap_remove_index.ensures.room.0)) (omega (
+      arith,
+      c.swap_remove.ensures.room.0,
+    ))
     (omega (
       arith,
       rw out at c.swap_remove_index.ensures.len,

@@ -12,7 +12,8 @@ use Rattle.registrations.proofs.table.Registrations.silent.Goals as goal
 pub returns-in_err-end-clause-none : goal.returns-in_err-end-clause-none
 returns-in_err-end-clause-none c none id ended =
     let i = c.self.inside in
-    let place = ended_place i.rows i.by_identifier i.by_address i.deadlines i.legs i.ends i.times i.most
+    let place = ended_place i.rows i.by_identifier i.by_address i.deadlines i.legs i.ends i.times
+    i.most
     c.self.invariant _ c.self.view_is c.args.now id ended in
     some_none (sym place.2 ∙ (ap (λ m. map.get m place.0) (c.in_err-end.ensures.none.0 refl)
     ∙ map.get-empty nat_cmp place.0))
@@ -20,7 +21,8 @@ returns-in_err-end-clause-none c none id ended =
 pub returns-then-end-now-clause-none : goal.returns-then-end-now-clause-none
 returns-then-end-now-clause-none c none id ended =
     let i = c.self.inside in
-    let place = ended_place i.rows i.by_identifier i.by_address i.deadlines i.legs i.ends i.times i.most
+    let place = ended_place i.rows i.by_identifier i.by_address i.deadlines i.legs i.ends i.times
+    i.most
     c.self.invariant _ c.self.view_is c.args.now id ended in
     absurd (omega (
       arith,

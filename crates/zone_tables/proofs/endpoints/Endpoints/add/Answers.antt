@@ -14,7 +14,8 @@ use Rattle.zone_tables.proofs.endpoints.Endpoints.add.Goals as goal
 pub set_all-requires-clause-free : goal.set_all-requires-clause-free
 set_all-requires-clause-free c alias has other =
     let held = c.self.inside.aliases.held in
-    let agree = subst (λ (t : Roster). Agree t.roll.live held) c.self.view_is c.self.invariant.agree in
+    let agree = subst (λ (t : Roster). Agree t.roll.live held) c.self.view_is
+    c.self.invariant.agree in
     let r = c.args.registration in
     not_held held alias r.identifier
     (free_to_add c.args.self.now.roll held agree r c.requires alias
@@ -24,7 +25,8 @@ set_all-requires-clause-free c alias has other =
 pub invariant_of-self-2 : goal.invariant_of-self-2
 invariant_of-self-2 c =
     let held = c.self.inside.aliases.held in
-    let agree = subst (λ (t : Roster). Agree t.roll.live held) c.self.view_is c.self.invariant.agree in
+    let agree = subst (λ (t : Roster). Agree t.roll.live held) c.self.view_is
+    c.self.invariant.agree in
     let r = c.args.registration in
     let live_is : c.insert.new.self.live ≡ fin.insert c.args.self.now.roll.live r.identifier r =
     (on_ok c.insert.result c.unwrap.result c.unwrap.ensures c.insert.ensures.ok).rows

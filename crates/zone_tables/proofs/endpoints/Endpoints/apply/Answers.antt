@@ -5,4 +5,5 @@ use Rattle.zone_tables.proofs.endpoints.Endpoints.apply.Goals as goal
 
 pub returns-clause-sound : goal.returns-clause-sound
 returns-clause-sound c =
-    subst (λ (e : Roster). IsSoundRoll e.roll) c.self.view_is (IsSoundRoll-stored _ _ c.self.invariant)
+    subst (λ (e : Roster). IsSoundRoll e.roll) c.self.view_is (IsSoundRoll-stored _ _
+    c.self.invariant)

@@ -21,4 +21,5 @@ returns-then-is_some-clause-sound c = IsSoundRoll-stored _ _ (invariant_of-self 
 
 pub returns-else-is_some-clause-sound : goal.returns-else-is_some-clause-sound
 returns-else-is_some-clause-sound c =
-    subst (λ (e : Roster). IsSoundRoll e.roll) c.self.view_is (IsSoundRoll-stored _ _ c.self.invariant)
+    subst (λ (e : Roster). IsSoundRoll e.roll) c.self.view_is (IsSoundRoll-stored _ _
+    c.self.invariant)

@@ -17,9 +17,11 @@ use Rattle.zone_tables.proofs.endpoints.Endpoints.rewrite.Goals as goal
 pub set_all-requires-clause-free : goal.set_all-requires-clause-free
 set_all-requires-clause-free c alias has other =
     let held = c.self.inside.aliases.held in
-    let agree = subst (λ (t : Roster). Agree t.roll.live held) c.self.view_is c.self.invariant.agree in
+    let agree = subst (λ (t : Roster). Agree t.roll.live held) c.self.view_is
+    c.self.invariant.agree in
     let sound =
-    subst (λ (t : Roster). IsConsistent t.roll.live) c.self.view_is c.self.invariant.sound.consistent in
+    subst (λ (t : Roster). IsConsistent t.roll.live) c.self.view_is
+    c.self.invariant.sound.consistent in
     let id = c.args.endpoint.now in
     let dropped : c.drop_aliases.new.aliases.held ≡ without_holder held id =
     c.drop_aliases.ensures.rows ∙ ap (λ h. without_holder h id) c.reserve.ensures.held in
@@ -31,9 +33,11 @@ set_all-requires-clause-free c alias has other =
 pub rewrite-requires : goal.rewrite-requires
 rewrite-requires c =
     let held = c.self.inside.aliases.held in
-    let agree = subst (λ (t : Roster). Agree t.roll.live held) c.self.view_is c.self.invariant.agree in
+    let agree = subst (λ (t : Roster). Agree t.roll.live held) c.self.view_is
+    c.self.invariant.agree in
     let sound =
-    subst (λ (t : Roster). IsConsistent t.roll.live) c.self.view_is c.self.invariant.sound.consistent in
+    subst (λ (t : Roster). IsConsistent t.roll.live) c.self.view_is
+    c.self.invariant.sound.consistent in
     let id = c.args.endpoint.now in
     is_there (fin.get c.self.inside.registrations.live id) c.requires.old
     (ap (λ (t : Roster). fin.get t.roll.live id) c.self.view_is
@@ -42,9 +46,11 @@ rewrite-requires c =
 pub hear-requires : goal.hear-requires
 hear-requires c =
     let held = c.self.inside.aliases.held in
-    let agree = subst (λ (t : Roster). Agree t.roll.live held) c.self.view_is c.self.invariant.agree in
+    let agree = subst (λ (t : Roster). Agree t.roll.live held) c.self.view_is
+    c.self.invariant.agree in
     let sound =
-    subst (λ (t : Roster). IsConsistent t.roll.live) c.self.view_is c.self.invariant.sound.consistent in
+    subst (λ (t : Roster). IsConsistent t.roll.live) c.self.view_is
+    c.self.invariant.sound.consistent in
     let id = c.args.endpoint.now in
     let e = c.args.entry in
     subst (λ (l : Live). IsSome (fin.get l id)) (sym c.rewrite.ensures.rows)
@@ -56,9 +62,11 @@ hear-requires c =
 pub invariant_of-self-2 : goal.invariant_of-self-2
 invariant_of-self-2 c =
     let held = c.self.inside.aliases.held in
-    let agree = subst (λ (t : Roster). Agree t.roll.live held) c.self.view_is c.self.invariant.agree in
+    let agree = subst (λ (t : Roster). Agree t.roll.live held) c.self.view_is
+    c.self.invariant.agree in
     let sound =
-    subst (λ (t : Roster). IsConsistent t.roll.live) c.self.view_is c.self.invariant.sound.consistent in
+    subst (λ (t : Roster). IsConsistent t.roll.live) c.self.view_is
+    c.self.invariant.sound.consistent in
     let id = c.args.endpoint.now in
     let e = c.args.entry in
     let now = c.milliseconds.result in
@@ -80,6 +88,7 @@ invariant_of-self-2 c =
       agree = subst (λ (l : Live). Agree l c.set_all.new.self.held) (sym live_is)
           (subst (λ (h : Held). Agree (heard_now now id (update c.args.self.now.roll.live id
           (after_rewrite e.ras e.aliases c.args.deadline))) h) (sym held_is)
-          (Agree-rewriting c.args.self.now.roll held agree sound id e c.args.deadline now c.requires));
+          (Agree-rewriting c.args.self.now.roll held agree sound id e c.args.deadline now
+          c.requires));
       sound = c.hear.ensures.sound;
     }

@@ -16,9 +16,11 @@ invariant_of-self c =
       calls = c.self.invariant.calls;
       parts = AreParts-live i.config i.endpoints.roll c.interrogated.new.self.roll u parts
           c.interrogated.ensures.most _ c.interrogated.ensures.live
-          (legs-update i.endpoints.roll.live u.calls c.args.id.now (after_ask c.args.now) parts.legs);
+          (legs-update i.endpoints.roll.live u.calls c.args.id.now (after_ask c.args.now)
+          parts.legs);
       counted = counted_so _ c.interrogated.new.self.roll.live u.calls u.calls i.endpoints.legs
-          c.interrogated.new.self.legs (counted_update i.endpoints.roll.live u.calls i.endpoints.legs
+          c.interrogated.new.self.legs (counted_update i.endpoints.roll.live u.calls
+          i.endpoints.legs
           c.self.invariant.counted c.args.id.now (after_ask c.args.now))
           c.interrogated.ensures.live refl c.interrogated.ensures.legs;
       times = c.interrogated.ensures.times ∙ c.self.invariant.times;
