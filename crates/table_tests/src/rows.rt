@@ -30,8 +30,11 @@ fn register(table: &mut Registrations, alloc: Global, last: u8, heard: u64) -> R
         tries: 0,
         asked: 0,
     };
-    if table.get(&endpoint(last)).is_some() || table.by_address(address(last)).is_some() {
-        return Err(Fail::from("it is registered"));
+    if table.get(&registration.identifier).is_some() {
+        return Err(Fail::from("the identifier is in use"));
+    }
+    if table.by_address(registration.call_signal).is_some() {
+        return Err(Fail::from("the address is in use"));
     }
     table.insert(registration)?;
     Ok(())
