@@ -105,8 +105,8 @@ module _ (opened : State) (h : Held) (sums next carried : Totals)
           omega (arith, first_is, length-append h.entries (entry ∷ [])) in
           λ i. cut_so (place i) carried (base_is i) (none i) after
 
-      pub inside_unrecorded : IsInside opened (cut_so first carried base es after) carried units d1 t1
-          u1 v1
+      pub inside_unrecorded : IsInside opened (cut_so first carried base es after) carried units d1
+          t1 u1 v1
       inside_unrecorded =
           subst (λ (x : Held). IsInside opened x carried units d1 t1 u1 v1) (sym same) behind_is
 

@@ -180,9 +180,10 @@ impl<P: Pool, D: Hall, T: Ledger, U: Ledger, V: Ledger> ZoneLock<P, D, T, U, V> 
         }
     }
 
-    /// Waits for the lock and makes one step. Its outcome is made where the caller wants it. Nothing
-    /// else tells of the step, unless a chapter can be cut of the history: then it is recorded, as
-    /// `step_locked` does. After a refusal what stands in place of the outcome means nothing.
+    /// Waits for the lock and makes one step. Its outcome is made where the caller wants it.
+    /// Nothing else tells of the step, unless a chapter can be cut of the history: then it is
+    /// recorded, as `step_locked` does. After a refusal what stands in place of the outcome means
+    /// nothing.
     pub fn step<R: Wait>(
         &self,
         rt: &R,
