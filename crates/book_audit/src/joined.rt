@@ -54,7 +54,7 @@ fn returned_between(start: &Machine, lent: u128, last: &Machine) -> u128
     requires fair { in_use last.now.tables.calls ≤ in_use start.now.tables.calls + lent }
     ensures { result ≡ in_use start.now.tables.calls + lent - in_use last.now.tables.calls }
 {
-    start.tables().in_use() as u128 + lent - last.tables().in_use() as u128
+    start.tables().calls().total() as u128 + lent - last.tables().calls().total() as u128
 }
 
 /// Whether the chapters lead from place 0 and the one state to this place and the other state.

@@ -44,7 +44,7 @@ use Rattle.ras_requests.specs.Drq.{disengagement_of}
 use Rattle.ras_requests.specs.Standing.{standing, standing_in}
 use Rattle.ras_requests.specs.Requests.{plan_of}
 use Rattle.ras_machine.specs.declared.job.Occasion.{Occasion}
-use Rattle.ras_machine.specs.declared.job.Occasion.TheVariants.{First, Again}
+use Rattle.ras_machine.specs.declared.job.Occasion.TheVariants.{Again, Anew, First}
 use Rattle.ras_machine.specs.Keeping.{plan_at}
 
 -- the settings stay, and at most `units` units more are in use
@@ -280,4 +280,5 @@ module _ (z : Tables) where
   pub plans_at : (occasion : Occasion) (now : ℕ) (endpoint : Option (List ℕ)) (plan : Plan)
       → AddsBy z plan → AddsBy z (plan_at occasion now endpoint plan)
   plans_at (First dropped) now endpoint plan is = heard_too now endpoint plan is
+  plans_at Anew now endpoint plan is = heard_too now endpoint plan is
   plans_at (Again born left) now endpoint plan is = is

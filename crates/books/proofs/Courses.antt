@@ -60,6 +60,8 @@ module _ (s : State) (now : ℕ) where
       dropped)
   requests key request None place dropped is = responds (endpoint_of request)
   requests key request (Some plan) (machine.Answered reply) dropped is = tt
+  requests key request (Some plan) machine.Own dropped is =
+      serves (machine.anew key) request plan is
   requests key request (Some plan) machine.Free dropped is =
       serves (machine.first key None) request plan is
   requests key request (Some plan) machine.Full None is = tt

@@ -97,8 +97,8 @@ impl Chapter {
             (returned_by self.now.base self.now.entries self.now.end) }
     {
         let mut totals = totals_of(&self.entries);
-        let before = self.base().machine().tables().in_use();
-        let after = self.end().machine().tables().in_use();
+        let before = self.base().machine().tables().calls().total();
+        let after = self.end().machine().tables().calls().total();
         totals.returned = before as u128 + totals.lent - after as u128;
         totals
     }

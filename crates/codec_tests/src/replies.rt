@@ -31,10 +31,7 @@ fn alias_list(alloc: Global, last: u8) -> Result<ReplyAliases, Fail> {
     if let Some(digits) = DialledDigits::new(text) {
         list.push(Alias::Digits(digits))?;
     }
-    match ReplyAliases::new(list) {
-        Ok(few) => Ok(few),
-        Err(_many) => Err(Fail::from(AllocError)),
-    }
+    Ok(ReplyAliases::new(list)?.ok_or("one alias is few")?)
 }
 
 /// Appends a reply to one octet that was there.
@@ -184,7 +181,7 @@ fn longest_confirm(alloc: Global) -> Result<Reply, Fail> {
     for _ in 0..ReplyAliases::MOST {
         list.push(Alias::H323Id(H323Id::new(&[0xFFFF; 256]).unwrap()))?;
     }
-    let Ok(aliases) = ReplyAliases::new(list) else {
+    let Some(aliases) = ReplyAliases::new(list)? else {
         return Err(Fail::from("a reply may have 32 aliases"));
     };
     let confirm = RegistrationConfirm {

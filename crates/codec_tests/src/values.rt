@@ -172,11 +172,8 @@ fn registration_confirm(aliases: ReplyAliases) -> RegistrationConfirm {
 
 /// As many aliases as a reply may have.
 fn reply_aliases(alloc: Global) -> Result<ReplyAliases, Fail> {
-    Ok(
-        ReplyAliases::new(aliases(alloc, &digits("101")?, 32)?)
-            .ok()
-            .ok_or("32 aliases are few")?,
-    )
+    let list = aliases(alloc, &digits("101")?, 32)?;
+    Ok(ReplyAliases::new(list)?.ok_or("32 aliases are few")?)
 }
 
 fn replies(alloc: Global) -> Result<[Reply; 5], Fail> {
@@ -250,12 +247,20 @@ fn a_boxed_value_comes_and_goes(rt: HostRuntime) -> Result<(), Fail> {
 }
 
 #[test]
-fn a_33rd_alias_gives_the_list_back(rt: HostRuntime) -> Result<(), Fail> {
+fn a_33rd_alias_is_too_many(rt: HostRuntime) -> Result<(), Fail> {
     let many = aliases(rt.alloc(), &digits("101")?, 33)?;
-    let Err(back) = ReplyAliases::new(many) else {
-        return Err(Fail::from("33 aliases were taken"));
-    };
-    assert_eq!(rt; back.len(), 33);
+    assert!(rt; ReplyAliases::new(many)?.is_none());
+    Ok(())
+}
+
+#[test]
+fn a_list_with_memory_for_many_keeps_memory_for_few(rt: HostRuntime) -> Result<(), Fail> {
+    let mut items = Vec::with_capacity(rt.alloc(), 1350)?;
+    items.push(digits("101")?)?;
+    let few = ReplyAliases::new(AliasList::from_vec(items))?.ok_or("one alias is few")?;
+    let kept = few.into_list().into_vec();
+    assert_eq!(rt; kept.len(), 1);
+    assert!(rt; kept.capacity() <= ReplyAliases::MOST);
     Ok(())
 }
 

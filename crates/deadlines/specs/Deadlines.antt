@@ -8,10 +8,12 @@ use Rattle.keyed.specs.Maps.{put_if}
 abbrev pub Moments : Type 0
 Moments = FinMap nat_cmp ℕ
 
--- the moments, with the number below which a place can have one with no further memory
+-- the moments, the number below which a place can have one with no further memory, and for how many
+-- moments and for how many places memory is held
 pub record DeadlineTable : Type 0 where
   pub moments : Moments
   pub room : ℕ
+  pub held : ℕ × ℕ
 
 -- the moment of `from`, if it has one, is given to `to`, which has no other
 abbrev pub renamed : Moments → ℕ → ℕ → Moments

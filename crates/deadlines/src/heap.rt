@@ -142,7 +142,7 @@ pub fn add(rows: &mut Vec<Due>, at: &mut [usize], due: Due)
     ensures heap { IsHeap rows.new.items }
     ensures moments { moments_of rows.new.items
         ≡ map.insert (moments_of rows.old.items) due.place due.moment }
-    ensures capacity { vec_capacity rows.old ≤ vec_capacity rows.new }
+    ensures capacity { vec_capacity rows.new ≡ vec_capacity rows.old }
 {
     let i = rows.len();
     rows.push_reserved(due);

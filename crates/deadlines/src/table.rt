@@ -11,8 +11,9 @@ use std::alloc::{AllocError, Global};
 use std::marker::Model;
 
 /// At most one moment for each place. Places are numbers, as those of rows in a `Vec`, and moments
-/// are in any unit. Contracts see a finite map from places to moments, and the room: places below
-/// it can have a moment with no further memory. For n moments, a change takes about log2(n) steps.
+/// are in any unit. Contracts see a finite map from places to moments, the room, and the memory that
+/// is held: places below the room can have a moment with no further memory. For n moments, a change
+/// takes about log2(n) steps.
 #[derive(Drop)]
 pub struct Deadlines {
     // a heap: the children of the row at i stand at 2 i + 1 and 2 i + 2, and are due no earlier
@@ -33,7 +34,11 @@ impl Model for Deadlines {
 
     ghost use Rattle.deadlines.specs.inside.Heap.{IsStored, moments_of};
 
-    ghost view = { λ t. record { moments = moments_of t.rows.items; room = vec_len t.at } };
+    ghost view = { λ t. record {
+      moments = moments_of t.rows.items;
+      room = vec_len t.at;
+      held = (vec_capacity t.rows, vec_capacity t.at);
+    } };
 
     ghost invariant = { λ t. IsStored t.rows.items t.at.items (vec_capacity t.rows) };
 }
@@ -115,6 +120,7 @@ impl Deadlines {
         requires { place < self.old.room }
         ensures moments { self.new.moments ≡ map.insert self.old.moments place moment }
         ensures room { self.new.room ≡ self.old.room }
+        ensures held { self.new.held ≡ self.old.held }
     {
         match row_of(&self.rows, &self.at, place) {
             Some(i) => change(&mut self.rows, &mut self.at, i, moment),
@@ -126,6 +132,7 @@ impl Deadlines {
     pub fn clear(&mut self, place: usize)
         ensures moments { self.new.moments ≡ map.remove self.old.moments place }
         ensures room { self.new.room ≡ self.old.room }
+        ensures held { self.new.held ≡ self.old.held }
     {
         if let Some(i) = row_of(&self.rows, &self.at, place) {
             take_out(&mut self.rows, &mut self.at, i);
@@ -138,6 +145,7 @@ impl Deadlines {
         requires { to < self.old.room }
         ensures moments { self.new.moments ≡ renamed self.old.moments from to }
         ensures room { self.new.room ≡ self.old.room }
+        ensures held { self.new.held ≡ self.old.held }
     {
         if from == to {
             return;

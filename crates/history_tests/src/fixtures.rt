@@ -2,45 +2,13 @@
 
 use book_audit::replays;
 use history::{Acted, World, WorldFault, WorldStep};
-use pools::{FixedPool, PoolSet};
-use ras_core::{Config, ConfigParts, Moment, Networks, Zone};
-use ras_module::{Address, Name, Octets, Source};
+use pools::FixedPool;
+use ras_core::Moment;
+use ras_module::{Octets, Source};
 use std::alloc::Global;
+use worked_zone::ENDPOINT;
+pub use worked_zone::zone;
 use zone_events::{Datagram, Event};
-
-const GATEKEEPER: Address = Address {
-    ip: [10, 0, 0, 1],
-    port: 1719,
-};
-
-/// The endpoint that sends what is sent from nowhere else.
-const ENDPOINT: Source = Address {
-    ip: [10, 0, 0, 5],
-    port: 1719,
-};
-
-/// A zone of 3,000 units, of which a call may have 2,000, over one pool of 2,500, which serves all
-/// addresses.
-pub fn zone(alloc: Global) -> Option<Zone<FixedPool>> {
-    let identifier = Name::new(&[103, 107])?;
-    let mut networks = Vec::new(alloc);
-    networks.push(None).ok()?;
-    let mut parts = ConfigParts::new(identifier, GATEKEEPER, Networks::from_vec(networks));
-    parts.limit = 3_000;
-    parts.call_limit = 2_000;
-    let Ok(config) = Config::new(parts) else {
-        return None;
-    };
-    let mut pools = Vec::new(alloc);
-    pools.push(FixedPool::new(2_500)).ok()?;
-    let Ok(set) = PoolSet::new(pools) else {
-        return None;
-    };
-    match Zone::new(alloc, config, set) {
-        Ok(zone) => Some(zone),
-        Err(_) => None,
-    }
-}
 
 /// A world of `workers` workers, with `capacity` places in each ring. If there is no memory, the
 /// zone that comes back is taken once more.

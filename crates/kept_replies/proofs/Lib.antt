@@ -6,5 +6,6 @@ pub mod Deciding
 pub mod Timed
 pub mod Moments
 pub mod SeenRows
+pub mod DueRows
 pub mod PlacedBirths
 pub mod ToldTimes

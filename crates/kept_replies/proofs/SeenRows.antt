@@ -1,21 +1,20 @@
 -- Rows with their moments: what a change of one row does to both.
-use Rattle.std.proofs.Common.{◌≡◌, ℕ, ◌+◌, ◌-◌, ◌≤◌, ◌<◌, true, false, List, [], ◌∷◌, ◌++◌}
+use Rattle.std.proofs.Common.{◌≡◌, ◌≢◌, ℕ, ◌+◌, ◌-◌, ◌≤◌, ◌<◌, true, false, List, [], ◌∷◌, ◌++◌}
 use Rattle.std.proofs.Common.{length, refl, sym, ◌∙◌, ap, subst, Some, None, Option, arith}
 use Rattle.std.specs.Prelude.{slice_get, swap_remove, position, min, is_some, if◌then◌else◌}
 use Rattle.std.specs.FinMap as fin
 use Rattle.std.specs.HashMap as hash
 use Rattle.std.specs.Map.{keys_of}
-use Rattle.indexmap.specs.IndexMap.{IndexMap}
+use Rattle.indexmap.specs.IndexMap.{IndexMap, spare}
 use Rattle.keyed.specs.Maps.{Changed}
 use Rattle.keyed.specs.Places.{row_in}
-use Rattle.keyed.proofs.Decide.{some_none}
 use Rattle.keyed.proofs.Rows.{Changed-push}
 use Rattle.std.proofs.lemmas.Option.{slice_get_within}
 use Rattle.kept_replies.specs.Keys.{same_key}
 use Rattle.kept_replies.specs.inside.Due.{DueTable, AreTimed, AreDueAt, Writes, TakesOut, moved}
 use Rattle.kept_replies.specs.inside.Due.{end_of, retry_of, end_in, retry_in}
 use Rattle.kept_replies.specs.inside.Rows.{rows_seen, AreRows}
-use Rattle.kept_replies.specs.inside.Stored.{Appends, Rewrites, Removes}
+use Rattle.kept_replies.specs.inside.Stored.{Appends, Puts, Rewrites, Removes}
 use Rattle.kept_replies.specs.declared.entry.KeptEntry.{KeptEntry}
 use Rattle.kept_replies.specs.declared.key.KeptKey.{KeptKey}
 use Rattle.kept_replies.proofs.Timed.{AreDueAt-empty, AreDueAt-changed, AreDueAt-moved}
@@ -46,6 +45,15 @@ AreRows-empty rows due none ends retries = record {
   });
   fit = omega (arith, ap length none);
 }
+
+-- the same rows with the same moments
+pub AreRows-same : {S : Type 0} (old new : IndexMap KeptKey KeptEntry S) (before after : DueTable)
+    → AreRows old before → new.entries ≡ old.entries → after ≡ before → AreRows new after
+AreRows-same old new before after h rows due =
+    subst (λ (d : DueTable). AreRows new d) (sym due) (record {
+      timed = subst (λ (es : List Row). AreTimed es before) (sym rows) h.timed;
+      fit = omega (arith, ap length rows, h.fit);
+    })
 
 -- there is a place for one more row
 pub one_fits : (w : Option KeptEntry) (n m r : ℕ) → n ≡ m + (if is_some w then 0 else 1) → m < r
@@ -115,29 +123,74 @@ module _ {S : Type 0} (old new : IndexMap KeptKey KeptEntry S) (before after : D
         fit = omega (arith, shorter, h.fit, t.room);
       }
 
-module _ {S : Type 0} (old new : IndexMap KeptKey KeptEntry S) (before after : DueTable) (t : Seen)
-    (view : rows_seen old before ≡ t) (room : after.room ≡ before.room) where
-  pub Rewrites-seen : (change : KeptEntry → KeptEntry) (key : KeptKey) → Rewrites change old new key
-      → Rewrites change t (rows_seen new after) key
-  Rewrites-seen change key r =
-      subst (λ (u : Seen). Rewrites change u (rows_seen new after) key) view (record {
-        updates = r.updates;
-        entries = r.entries;
-        unique = r.unique;
-        same_length = r.same_length;
-        same_room = λ i. min (r.same_room i) (room i - r.same_length i);
-      })
+-- where one more stands at most, one place at most goes
+room_left : (w : Option KeptEntry) (a b m n r s : ℕ) → a ≤ b + 1
+    → n ≡ m + (if is_some w then 0 else 1) → s ≡ r → min a (r - m) ≤ min b (s - n) + 1
+room_left None a b m n r s room longer same = omega (arith, room, longer, same)
+room_left (Some entry) a b m n r s room longer same = omega (arith, room, longer, same)
 
--- if there is no entry, none is changed
-pub Rewrites-none : {S : Type 0} (rows : IndexMap KeptKey KeptEntry S)
-    (change : KeptEntry → KeptEntry) (key : KeptKey) → hash.get same_key rows key ≡ None
-    → hash.IsUnique same_key rows → Rewrites change rows rows key
-Rewrites-none rows change key none unique = record {
-  updates = λ entry there. some_none (sym there ∙ none);
-  entries = λ entry there. some_none (sym there ∙ none);
-  unique = unique;
-  same_length = refl;
-  same_room = refl;
+-- where another takes its place, none goes
+room_kept : (w : Option KeptEntry) (a b m n r s : ℕ) → (w ≢ None → a ≤ b)
+    → n ≡ m + (if is_some w then 0 else 1) → s ≡ r → w ≢ None → min a (r - m) ≤ min b (s - n)
+room_kept None a b m n r s room longer same there = absurd (there refl)
+room_kept (Some entry) a b m n r s room longer same there =
+    omega (arith, room there, longer, same)
+
+room_freed : (w : Option Row) (a b m n r s : ℕ) → a ≤ b
+    → n + (if is_some w then 1 else 0) ≡ m → s ≡ r → min a (r - m) ≤ min b (s - n)
+room_freed None a b m n r s room shorter same = omega (arith, room, shorter, same)
+room_freed (Some row) a b m n r s room shorter same = omega (arith, room, shorter, same)
+
+-- what a change of one row is, seen with the moments
+module _ {S : Type 0} (old new : IndexMap KeptKey KeptEntry S) (before after : DueTable)
+    (room : after.room ≡ before.room) where
+  pub Puts-seen : (key : KeptKey) (entry : KeptEntry) → Puts old new key entry
+      → Puts (rows_seen old before) (rows_seen new after) key entry
+  Puts-seen key entry p = record {
+    updates = p.updates;
+    unique = p.unique;
+    longer = p.longer;
+    room = room_left (hash.get same_key old key) (spare old) (spare new) (length old.entries)
+        (length new.entries) before.room after.room p.room p.longer room;
+    replaces = room_kept (hash.get same_key old key) (spare old) (spare new) (length old.entries)
+        (length new.entries) before.room after.room p.replaces p.longer room;
+  }
+
+  pub Rewrites-seen : (change : KeptEntry → KeptEntry) (key : KeptKey)
+      → Rewrites change old new key
+      → Rewrites change (rows_seen old before) (rows_seen new after) key
+  Rewrites-seen change key r = record {
+    updates = r.updates;
+    entries = r.entries;
+    unique = r.unique;
+    same_length = r.same_length;
+    same_room = λ i. min (r.same_room i) (room i - r.same_length i);
+  }
+
+  pub Removes-seen : (row : Option Row) → Removes old new row
+      → Removes (rows_seen old before) (rows_seen new after) row
+  Removes-seen row r = record {
+    updates = r.updates;
+    unchanged = r.unchanged;
+    unique = r.unique;
+    shorter = r.shorter;
+    room = room_freed row (spare old) (spare new) (length old.entries) (length new.entries)
+        before.room after.room r.room r.shorter room;
+  }
+
+-- an entry that is rewritten as another is put in place of it
+pub Puts-rewritten : {S : Type 0} (old new : IndexMap KeptKey KeptEntry S) (key : KeptKey)
+    (entry was : KeptEntry) → Rewrites (λ other. entry) old new key
+    → hash.get same_key old key ≡ Some was → Puts old new key entry
+Puts-rewritten old new key entry was r there = record {
+  updates = r.updates was there;
+  unique = r.unique;
+  longer = r.same_length
+      ∙ (omega arith
+      ∙ ap (λ (w : Option KeptEntry). length old.entries + (if is_some w then 0 else 1))
+      (sym there));
+  room = omega (arith, r.same_room);
+  replaces = λ some. omega (arith, r.same_room);
 }
 
 -- if there is no row, none goes

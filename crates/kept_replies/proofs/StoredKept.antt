@@ -227,6 +227,13 @@ module _ {S : Type 0} (old new : IndexMap KeptKey KeptEntry S) (key : KeptKey) (
         room = room;
       })
 
+-- what is kept has its row
+pub not_there : {S : Type 0} (rows : IndexMap KeptKey KeptEntry S) (most : ℕ) (t : KeptTable)
+    → AreStored rows most → table_of rows most ≡ t → (key : KeptKey) (entry : KeptEntry)
+    → fin.get t.kept key ≡ Some entry → hash.get same_key rows key ≡ None → ⊥
+not_there rows most t s view key entry is none =
+    some_none (sym (ap (λ u. fin.get u.kept key) view ∙ is) ∙ (sym (get_row rows key) ∙ none))
+
 -- if a new key finds a place, there are no more than there may be
 few_put : (was : Option KeptEntry) (n m most : ℕ)
     → n ≡ m + (if is_some was then 0 else 1) → m ≤ most → (was ≡ None → m < most) → n ≤ most

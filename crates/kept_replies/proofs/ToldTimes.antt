@@ -1,7 +1,7 @@
 -- How often identifiers are told, and what a change of the rows does to it.
 use Rattle.std.proofs.Common.{◌≡◌, ℕ, ◌+◌, Bool, true, false, cond, List, [], ◌∷◌}
 use Rattle.std.proofs.Common.{◌||◌, get_or, refl, ◌∙◌, ap, Some, arith}
-use Rattle.std.specs.Prelude.{slice_get, swap_remove, nat_lt, IsTrue}
+use Rattle.std.specs.Prelude.{slice_get, swap_remove, nat_lt, IsTrue, Result, Ok, Err, OnOk, is_ok}
 use Rattle.std.specs.HashMap as hash
 use Rattle.std.specs.List.{list_any, sum_by}
 use Rattle.std.specs.Map.{values_of}
@@ -23,6 +23,12 @@ use Rattle.kept_replies.specs.inside.Told.{ToldTable, AreTold, times, once}
 use Rattle.kept_replies.specs.inside.Told.{times_in}
 use Rattle.kept_replies.specs.declared.entry.KeptEntry.{KeptEntry}
 use Rattle.kept_replies.specs.declared.key.KeptKey.{KeptKey}
+
+-- what holds if a call succeeded, of one that did
+pub on_ok : {A E : Type 0} (answer : Result A E) (P : Type 0) → OnOk answer P
+    → is_ok answer ≡ true → P
+on_ok (Ok a) P h ok = h
+on_ok (Err e) P h ok = absurd (cc ok)
 
 abbrev Rows : Type 0
 Rows = List (KeptKey × KeptEntry)

@@ -1,7 +1,8 @@
 //! The births of entries by the places of their rows.
 
-ghost use Rattle.std.specs.Prelude.{◌≡◌, ◌<◌, [], ◌∷◌, ◌++◌, length, set, slice_get};
-ghost use Rattle.std.specs.Prelude.{nat_eq, position, swap_remove, IsTrue, IfSome};
+ghost use Rattle.std.specs.Prelude.{◌≡◌, ◌<◌, ◌≤◌, [], ◌∷◌, ◌++◌, length, set, slice_get};
+ghost use Rattle.std.specs.Prelude.{false, nat_eq, position, swap_remove, IsTrue, IfSome};
+ghost use Rattle.std.specs.List.{list_any};
 ghost use Rattle.indexmap.specs.IndexMap.{values};
 ghost use Rattle.kept_replies.specs.inside.Births.{AreBorn};
 
@@ -22,11 +23,16 @@ pub(crate) struct BirthPlaces {
 }
 
 impl Model for BirthPlaces {
+    ghost use Rattle.indexmap.specs.IndexSet.{spare};
     ghost use Rattle.kept_replies.specs.inside.Births.{BirthTable};
 
     ghost Value = { BirthTable };
 
-    ghost view = { λ t. record { births = t.births.keys; is_whole = t.is_whole } };
+    ghost view = { λ t. record {
+      births = t.births.keys;
+      is_whole = t.is_whole;
+      room = spare t.births;
+    } };
 }
 
 impl BirthPlaces {
@@ -65,7 +71,9 @@ impl BirthPlaces {
 
     /// Makes room for more births, if there is memory for it.
     fn make_room(&mut self, more: usize)
-        ensures { self.new ≡ self.old }
+        ensures births { self.new.births ≡ self.old.births }
+        ensures still { self.new.is_whole ≡ self.old.is_whole }
+        ensures room { self.old.room ≤ self.new.room }
     {
         // one more, since to replace a birth another is added first
         let _room = self.births.reserve(more.saturating_add(1));
@@ -83,11 +91,15 @@ impl BirthPlaces {
         }
     }
 
-    /// Adds the birth of a row after the others. This takes no memory.
+    /// Adds the birth of a row after the others. This takes no memory: it is whole no more if there
+    /// is no room, and stays whole if there is.
     pub(crate) fn add(&mut self, born: u64)
         ensures still { IsTrue self.new.is_whole → IsTrue self.old.is_whole }
         ensures births { IsTrue self.new.is_whole
             → self.new.births ≡ self.old.births ++ born ∷ [] }
+        ensures full { self.old.room ≡ 0 → self.new.is_whole ≡ false }
+        ensures whole { IsTrue self.old.is_whole → 0 < self.old.room
+            → list_any (nat_eq born) self.old.births ≡ false → IsTrue self.new.is_whole }
     {
         if self.is_whole && self.births.len() < self.births.capacity() {
             if let Ok(true) = self.births.insert(born) {

@@ -56,14 +56,16 @@ impl KeptReply {
     pub fn in_buffer(buffer: Vec<u8>, reply: &Reply, octets: &[u8]) -> Self
         requires empty { buffer.items ≡ [] }
         requires room { length octets.now ≤ vec_capacity buffer }
+        requires bounded { vec_capacity buffer ≤ 20000 }
         requires written { octets.now ≡ encoding_of reply.now }
         requires few { length octets.now ≤ 20000 }
         requires reads_back { ReadsBack reply.now }
         requires untold { identifier_in reply.now ≡ None }
         ensures { result ≡ reply.now }
     {
+        let encoded = EncodedReply::new(buffer, reply, octets);
         KeptReply {
-            encoded: EncodedReply::new(buffer, reply, octets),
+            encoded,
             told: None,
         }
     }

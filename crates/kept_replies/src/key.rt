@@ -25,7 +25,7 @@ impl Hash for KeptKey {
     ghost respects_eq = { Prim.search (hashing, rules) };
 
     fn hash<H: Hasher>(&self, state: &mut H) {
-        // each as a whole, which costs a tenth of what its octets cost one by one
+        // each as a whole, which takes a sixth of the instructions that its octets take one by one
         state.write(self.source.ip.as_slice());
         self.source.port.hash(state);
         state.write(self.bytes.as_slice());

@@ -4,6 +4,7 @@
 
 mod birth_places;
 mod copies;
+mod due;
 mod due_moments;
 mod entry;
 mod fault;

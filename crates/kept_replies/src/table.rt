@@ -1,40 +1,54 @@
-//! The table of the kept replies.
+//! The table of the kept replies: the map, and its changes.
 
-ghost use Rattle.std.specs.Prelude.{◌≡◌, ◌≢◌, ◌<◌, ◌≤◌, ◌+◌, ◌↔◌, ℕ, List, None, Some, Err};
-ghost use Rattle.std.specs.Prelude.{All, Contains, IsSome, IsTrue, IfOk, IfSome, OnOk, MatchOption};
-ghost use Rattle.std.specs.Option.{option_copied, option_map, IsSomeAnd};
-ghost use Rattle.std.specs.Map.Iter.{deref_pair};
+ghost use Rattle.std.specs.Prelude.{◌≡◌, ◌≢◌, ◌<◌, ◌≤◌, ◌↔◌, None, Err};
+ghost use Rattle.std.specs.Prelude.{All, IsOk, IsSome, IsTrue, IfOk, IfSome, OnOk};
+ghost use Rattle.std.specs.Option.{option_copied, IsSomeAnd};
 ghost use Rattle.std.specs.FinMap as map;
 ghost use Rattle.keyed.specs.Maps.{update};
-ghost use Rattle.kept_replies.specs.Kept.{births, done, pending, is_over, is_retry, left_in};
-ghost use Rattle.kept_replies.specs.Kept.{Passes, NonePasses, IsBusy, IsNamed, IsListOf};
+ghost use Rattle.kept_replies.specs.Kept.{done, pending, is_over, left_in};
+ghost use Rattle.kept_replies.specs.Kept.{Passes, NonePasses, IsBusy};
 ghost use Rattle.kept_replies.specs.Kept.{IsFreeBirth, IsEntry, IsConsistent, Becomes, Adds};
 ghost use Rattle.kept_replies.specs.Kept.{finished, postponed, without_birth};
 ghost use Rattle.kept_replies.specs.inside.Stored.{IsIn};
 
+use crate::birth_places::BirthPlaces;
+use crate::copies::copies_of;
+use crate::due_moments::DueMoments;
 use crate::entry::{KeptEntry, KeptState};
 use crate::fault::ReserveFault;
 use crate::in_progress::InProgress;
 use crate::kept_reply::KeptReply;
 use crate::key::KeptKey;
-use crate::list::{KeptList, rising};
-use crate::rows::KeptRows;
-use crate::searches::identifiers_in;
-use ras_module::{EndpointId, Request};
+use crate::rows::{add_entry, replace_entry, take_row, write_done, write_retry};
+use crate::told_counts::ToldCounts;
+use indexmap::IndexMap;
+use ras_module::Request;
 use std::alloc::{AllocError, Global};
 use std::marker::Model;
 
 /// The replies that a gatekeeper keeps, by the datagrams that they answer. Contracts see a finite
 /// map.
 pub struct Kept {
-    rows: KeptRows,
+    pub(crate) rows: IndexMap<KeptKey, KeptEntry>,
+    // by the places of the rows
+    pub(crate) births: BirthPlaces,
+    pub(crate) due: DueMoments,
+    // how often identifiers are told
+    pub(crate) told: ToldCounts,
     most: usize,
 }
 
-// By hand, as that of the rows.
+// By hand, so that it is one call where a table is dropped: a derived one is written out at each
+// exit of each function that owns some, field by field down to the buffers.
 impl Drop for Kept {
     fn drop(self) {
-        let Kept { rows: _, most: _ } = self;
+        let Kept {
+            rows: _,
+            births: _,
+            due: _,
+            told: _,
+            most: _,
+        } = self;
     }
 }
 
@@ -43,7 +57,10 @@ impl Model for Kept {
     ghost use Rattle.std.specs.FinMap as map;
     ghost use Rattle.indexmap.specs.IndexMap.{spare};
     ghost use Rattle.kept_replies.specs.Kept.{KeptTable, kept_of};
+    ghost use Rattle.kept_replies.specs.inside.Births.{AreBorn};
+    ghost use Rattle.kept_replies.specs.inside.Rows.{rows_seen, AreRows};
     ghost use Rattle.kept_replies.specs.inside.Stored.{AreStored};
+    ghost use Rattle.kept_replies.specs.inside.Told.{AreTold};
 
     ghost Value = { KeptTable };
 
@@ -52,10 +69,11 @@ impl Model for Kept {
     ghost view = { λ t. record {
       kept = kept_of t.rows.entries;
       most = t.most;
-      room = spare t.rows;
+      room = spare (rows_seen t.rows t.due);
     } };
 
-    ghost invariant = { λ t. AreStored t.rows t.most };
+    ghost invariant = { λ t. AreStored (rows_seen t.rows t.due) t.most × AreRows t.rows t.due
+        × AreBorn t.rows.entries t.births × AreTold t.rows.entries t.told };
 }
 
 impl Kept {
@@ -68,7 +86,10 @@ impl Kept {
         ensures sound { IsConsistent result }
     {
         Kept {
-            rows: KeptRows::new(alloc),
+            rows: IndexMap::new(alloc),
+            births: BirthPlaces::new(alloc),
+            due: DueMoments::new(alloc),
+            told: ToldCounts::new(alloc),
             most,
         }
     }
@@ -78,9 +99,15 @@ impl Kept {
         ensures kept { IfOk result (λ copy. copy.kept ≡ self.now.kept) }
         ensures most { IfOk result (λ copy. copy.most ≡ self.now.most) }
     {
-        let rows = self.rows.copy()?;
+        let rows = copies_of(*self.rows.allocator(), &self.rows)?;
+        let due = self.due.copy()?;
+        let births = BirthPlaces::of(*rows.allocator(), &rows);
+        let told = ToldCounts::of(*rows.allocator(), &rows);
         Ok(Kept {
             rows,
+            births,
+            due,
+            told,
             most: self.most,
         })
     }
@@ -93,12 +120,10 @@ impl Kept {
     }
 
     /// Whether each of these entries is kept for its datagram.
-    fn has_all(&self, rows: &KeptRows) -> bool
+    fn has_all(&self, rows: &IndexMap<KeptKey, KeptEntry>) -> bool
         ensures { IsTrue result ↔ All (IsIn self.now.kept) rows.now.entries }
     {
-        rows.as_map()
-            .iter()
-            .all(|(key, entry)| self.has(key, entry))
+        rows.iter().all(|(key, entry)| self.has(key, entry))
     }
 
     /// Whether this entry is kept for this datagram.
@@ -127,69 +152,6 @@ impl Kept {
         self.rows.get(key)
     }
 
-    /// The entry with this birth, with its datagram.
-    pub fn by_born(&self, born: u64) -> Option<(&KeptKey, &KeptEntry)>
-        ensures found { option_map deref_pair result ≡ map.get (births self.now.kept) born }
-        ensures sound { IsConsistent self.now }
-    {
-        let place = self.rows.place_of(born)?;
-        self.rows.get_index(place)
-    }
-
-    /// The birth of an entry that is over: any of them. None if there is none.
-    pub fn over(&self, now: u64) -> Option<u64>
-        ensures found { MatchOption result (NonePasses (is_over now) self.now.kept)
-            (Passes (is_over now) self.now.kept) }
-        ensures sound { IsConsistent self.now }
-    {
-        self.rows.over(now)
-    }
-
-    /// The birth of an entry whose request is to be served again: any of them. None if there is
-    /// none.
-    pub fn retry(&self, now: u64) -> Option<u64>
-        ensures found { MatchOption result (NonePasses (is_retry now) self.now.kept)
-            (Passes (is_retry now) self.now.kept) }
-        ensures sound { IsConsistent self.now }
-    {
-        self.rows.retry(now)
-    }
-
-    /// Whether a kept RegistrationConfirm tells this identifier, be it over or not.
-    pub fn is_named(&self, id: &EndpointId) -> bool
-        ensures { IsTrue result ↔ IsNamed self.now.kept id.now }
-    {
-        self.rows.is_named(id)
-    }
-
-    /// The identifiers that the kept RegistrationConfirms tell, in any order.
-    pub fn identifiers(&self) -> Result<Vec<EndpointId>, AllocError>
-        ensures { IfOk result
-            (λ ids. (id : List ℕ) → Contains ids.items id ↔ IsNamed self.now.kept id) }
-    {
-        let rows = self.rows.as_map();
-        identifiers_in(*rows.allocator(), rows)
-    }
-
-    /// Copies, by rising birth.
-    pub fn list(&self) -> Result<KeptList, AllocError>
-        ensures { IfOk result (IsListOf self.now.kept) }
-    {
-        let rows = self.rows.as_map();
-        rising(*rows.allocator(), rows)
-    }
-
-    /// Whether an entry for this datagram may have this birth. It may if no entry for another
-    /// datagram has it.
-    pub fn is_free(&self, key: &KeptKey, born: u64) -> bool
-        ensures { IsTrue result ↔ IsFreeBirth self.now.kept key.now born }
-    {
-        match self.by_born(born) {
-            None => true,
-            Some((other, _entry)) => *other == *key,
-        }
-    }
-
     /// Whether the limit of kept replies is reached.
     pub fn is_full(&self) -> bool
         ensures full { IsTrue result ↔ (map.len self.now.kept ≡ self.now.most) }
@@ -215,13 +177,30 @@ impl Kept {
         ensures room { self.old.room ≤ self.new.room }
         ensures succeeds { 0 < self.old.room → result ≢ Err ReserveFault.Memory }
     {
+        let _ = &self.rows;
         if self.is_busy(now) {
             return Err(ReserveFault::Busy);
         }
-        match self.rows.reserve() {
+        match self.make_room() {
             Ok(()) => Ok(()),
             Err(_) => Err(ReserveFault::Memory),
         }
+    }
+
+    /// Makes room for one more. How many there may be, and which are over, isn't looked at.
+    pub fn make_room(&mut self) -> Result<(), AllocError>
+        ensures kept { self.new.kept ≡ self.old.kept }
+        ensures most { self.new.most ≡ self.old.most }
+        ensures sound { IsConsistent self.new }
+        ensures ok { OnOk result (0 < self.new.room) }
+        ensures room { self.old.room ≤ self.new.room }
+        ensures succeeds { 0 < self.old.room → IsOk result }
+    {
+        self.rows.reserve(1)?;
+        self.due.reserve(self.rows.len() + 1)?;
+        self.births.prepare(&self.rows);
+        self.told.prepare(&self.rows);
+        Ok(())
     }
 
     /// Keeps a reply until a moment. This takes no memory.
@@ -278,9 +257,13 @@ impl Kept {
         ensures adds { Adds self.old self.new (map.insert self.old.kept key entry) }
         ensures sound { IsConsistent self.new }
     {
-        self.rows.add(key, entry);
+        self.births.add(entry.born);
+        self.told.add(entry.identifier());
+        self.due.write(self.rows.len(), &entry.state);
+        add_entry(&mut self.rows, key, entry);
     }
 
+    /// Keeps an entry for a datagram, in place of what is kept for it.
     fn put(&mut self, key: KeptKey, entry: KeptEntry)
         requires few { map.get self.old.kept key ≡ None → map.len self.old.kept < self.old.most }
         requires room { map.get self.old.kept key ≡ None → 0 < self.old.room }
@@ -290,7 +273,15 @@ impl Kept {
         ensures replaces { map.get self.old.kept key ≢ None → self.old.room ≤ self.new.room }
         ensures sound { IsConsistent self.new }
     {
-        self.rows.put(key, entry);
+        match self.rows.get_index_of(&key) {
+            Some(place) => {
+                self.births.replace(place, entry.born);
+                self.told.replace(&self.rows, &key, entry.identifier());
+                self.due.write(place, &entry.state);
+                replace_entry(&mut self.rows, &key, entry);
+            }
+            None => self.add(key, entry),
+        }
     }
 
     /// Notes that the request of an entry was answered, and keeps its reply until a moment. This
@@ -301,7 +292,11 @@ impl Kept {
             (update self.old.kept key.now (finished reply until)) }
         ensures sound { IsConsistent self.new }
     {
-        self.rows.finish(key, reply, until);
+        if let Some(place) = self.rows.get_index_of(key) {
+            self.told.replace(&self.rows, key, reply.identifier());
+            write_done(&mut self.rows, key, reply, until);
+            self.due.finish(place, until);
+        }
     }
 
     /// Makes the request of an entry wait once more, until the moment `retry`. This takes no
@@ -312,7 +307,10 @@ impl Kept {
             (update self.old.kept key.now (postponed retry)) }
         ensures sound { IsConsistent self.new }
     {
-        self.rows.postpone(key, retry);
+        if let Some(place) = self.rows.get_index_of(key) {
+            write_retry(&mut self.rows, key, retry);
+            self.due.wait(place, retry);
+        }
     }
 
     /// Drops an entry that is over, any of them, and returns its birth. If none is over, it returns
@@ -334,8 +332,15 @@ impl Kept {
         ensures becomes { Becomes self.old self.new (without_birth self.old.kept born) }
         ensures sound { IsConsistent self.new }
     {
-        if let Some(place) = self.rows.place_of(born) {
-            self.rows.remove_at(place);
-        }
+        let Some(place) = self.births.place_of(&self.rows, born) else {
+            return;
+        };
+        let Some((_key, entry)) = self.rows.get_index(place) else {
+            return;
+        };
+        self.told.take_out(entry.identifier());
+        take_row(&mut self.rows, place);
+        self.births.take_out(place);
+        self.due.take_out(place, self.rows.len());
     }
 }

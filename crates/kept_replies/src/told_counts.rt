@@ -1,14 +1,15 @@
 //! How often kept RegistrationConfirms tell each identifier.
 
-ghost use Rattle.std.specs.Prelude.{◌≡◌, ◌+◌, ℕ, List, [], Some, None, IfSome, IsSome, IsTrue};
+ghost use Rattle.std.specs.Prelude.{◌≡◌, ◌<◌, ◌≤◌, ◌+◌, ◌^◌, ℕ, List, [], Some, None, false};
+ghost use Rattle.std.specs.Prelude.{IfSome, IsSome, IsTrue};
 ghost use Rattle.std.specs.List.{list_any};
 ghost use Rattle.std.specs.Option.{option_copied, ForSome};
 ghost use Rattle.std.specs.Map.{lookup};
-ghost use Rattle.indexmap.specs.IndexMap.{get, Updates};
+ghost use Rattle.indexmap.specs.IndexMap.{get, spare, Updates};
 ghost use Rattle.kept_replies.specs.Kept.{named_by};
 ghost use Rattle.kept_replies.specs.Keys.{same_key};
 ghost use Rattle.kept_replies.specs.inside.Stored.{is_named_by};
-ghost use Rattle.kept_replies.specs.inside.Told.{AreTold, same_id, count_of, times, once};
+ghost use Rattle.kept_replies.specs.inside.Told.{AreTold, MayRise, same_id, count_of, times, once};
 ghost use Rattle.kept_replies.specs.declared.entry.KeptEntry.{KeptEntry};
 
 use crate::entry::KeptEntry;
@@ -33,11 +34,16 @@ pub(crate) struct ToldCounts {
 }
 
 impl Model for ToldCounts {
+    ghost use Rattle.indexmap.specs.IndexMap.{spare};
     ghost use Rattle.kept_replies.specs.inside.Told.{ToldTable};
 
     ghost Value = { ToldTable };
 
-    ghost view = { λ t. record { counts = t.counts.entries; is_whole = t.is_whole } };
+    ghost view = { λ t. record {
+      counts = t.counts.entries;
+      is_whole = t.is_whole;
+      room = spare t.counts;
+    } };
 }
 
 impl ToldCounts {
@@ -76,7 +82,9 @@ impl ToldCounts {
 
     /// Makes room for more identifiers, if there is memory for it.
     fn make_room(&mut self, more: usize)
-        ensures { self.new ≡ self.old }
+        ensures counts { self.new.counts ≡ self.old.counts }
+        ensures still { self.new.is_whole ≡ self.old.is_whole }
+        ensures room { self.old.room ≤ self.new.room }
     {
         // one more, since to replace a reply another is added first
         let _room = self.counts.reserve(more.saturating_add(1));
@@ -104,9 +112,14 @@ impl ToldCounts {
         ShortId::new(id.as_slice())
     }
 
-    /// Counts one more kept reply, which may tell an identifier. This takes no memory.
+    /// Counts one more kept reply, which may tell an identifier. This takes no memory: it is whole
+    /// no more if the identifier is new and there is no room, and stays whole if there is.
     pub(crate) fn add(&mut self, named: Option<&ToldId>)
         ensures still { IsTrue self.new.is_whole → IsTrue self.old.is_whole }
+        ensures full { self.old.room ≡ 0 → ForSome named.entry (λ id.
+            lookup (same_id id.now) self.old.counts ≡ None → self.new.is_whole ≡ false) }
+        ensures whole { IsTrue self.old.is_whole → 0 < self.old.room
+            → ForSome named.entry (λ id. MayRise self.old id.now) → IsTrue self.new.is_whole }
         ensures times { IsTrue self.new.is_whole → (id : List ℕ)
             → times self.new id ≡ times self.old id + once (option_copied named.entry) id }
     {
@@ -117,10 +130,7 @@ impl ToldCounts {
             self.is_whole = false;
             return;
         };
-        let times = times_of(&self.counts, &key);
-        self.is_whole = self.is_whole
-            && times < usize::MAX
-            && write_times(&mut self.counts, &key, times + 1);
+        self.is_whole = self.is_whole && raise(&mut self.counts, &key);
     }
 
     /// Takes a reply, which may tell an identifier, out of the counts.
@@ -138,12 +148,12 @@ impl ToldCounts {
             self.is_whole = false;
             return;
         };
-        let times = times_of(&self.counts, &key);
-        if times > 1 {
-            self.is_whole = self.is_whole && write_times(&mut self.counts, &key, times - 1);
-        } else {
-            self.counts.swap_remove(&key);
-            self.is_whole = self.is_whole && times == 1;
+        match lower(&mut self.counts, &key) {
+            None => self.is_whole = false,
+            Some(0) => {
+                self.counts.swap_remove(&key);
+            }
+            Some(_left) => {}
         }
     }
 
@@ -174,22 +184,33 @@ fn times_of(counts: &IndexMap<ShortId, usize>, id: &ShortId) -> usize
     counts.get(id).copied().unwrap_or(0)
 }
 
-// writes how often an identifier is told, and returns whether there was room for it
-fn write_times(counts: &mut IndexMap<ShortId, usize>, id: &ShortId, times: usize) -> bool
-    ensures { IsTrue result → Updates same_id counts.old counts.new id.now (Some times) }
-{
-    if counts.contains_key(id) {
-        rewrite_times(counts, id, times);
-        return true;
-    }
-    counts.len() < counts.capacity() && counts.insert(*id, times).is_ok()
-}
-
-fn rewrite_times(counts: &mut IndexMap<ShortId, usize>, id: &ShortId, times: usize)
-    requires { IsSome (get same_id counts.old id.now) }
-    ensures { Updates same_id counts.old counts.new id.now (Some times) }
+/// Counts an identifier once more, and returns whether there was room for it. This takes no memory.
+fn raise(counts: &mut IndexMap<ShortId, usize>, id: &ShortId) -> bool
+    ensures raised { IsTrue result → Updates same_id counts.old counts.new id.now
+        (Some (count_of (get same_id counts.old id.now) + 1)) }
+    ensures full { spare counts.old ≡ 0 → get same_id counts.old id.now ≡ None → result ≡ false }
+    ensures fits { 0 < spare counts.old → count_of (get same_id counts.old id.now) + 1 < 2 ^ 64
+        → IsTrue result }
 {
     if let Some(count) = counts.get_mut(id) {
-        *count = times;
+        let Some(raised) = count.checked_add(1) else {
+            return false;
+        };
+        *count = raised;
+        return true;
     }
+    counts.len() < counts.capacity() && counts.insert(*id, 1).is_ok()
+}
+
+/// Counts an identifier once less, and returns how often it is told then. None if it isn't told.
+fn lower(counts: &mut IndexMap<ShortId, usize>, id: &ShortId) -> Option<usize>
+    ensures lowered { IfSome result
+        (λ left. Updates same_id counts.old counts.new id.now (Some left)) }
+    ensures fewer { IfSome result
+        (λ left. count_of (get same_id counts.old id.now) ≡ left + 1) }
+{
+    let count = counts.get_mut(id)?;
+    let left = count.checked_sub(1)?;
+    *count = left;
+    Some(left)
 }

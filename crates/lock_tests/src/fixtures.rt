@@ -1,52 +1,15 @@
 //! The zone of the worked examples, and steps of it by a seat.
 
 use books::Receipt;
-use pools::{FixedPool, PoolSet};
-use ras_core::{Config, ConfigParts, Event, Moment, Networks, Outcome, Prepared, Zone, prepare};
-use ras_module::{Address, Name, Octets, Source};
+use pools::FixedPool;
+use ras_core::{Datagram, Event, Moment, Outcome, Prepared, prepare};
+use ras_module::{Address, Octets, Source};
 use std::alloc::Global;
 use std::sync::Wait;
 use std::sync::ledger::Ledger;
+use worked_zone::ENDPOINT;
+pub use worked_zone::{zone, zone_of};
 use zone_lock::{Hall, Seat, ZoneLock};
-
-const GATEKEEPER: Address = Address {
-    ip: [10, 0, 0, 1],
-    port: 1719,
-};
-
-const ENDPOINT: Source = Address {
-    ip: [10, 0, 0, 5],
-    port: 1719,
-};
-
-/// A zone of 3,000 units, of which a call may have 2,000, over a pool of 2,500.
-pub fn zone(alloc: Global) -> Option<Zone<FixedPool>> {
-    zone_of(alloc, 3_000, 0)
-}
-
-/// A zone of so many units, of which a call may have 2,000, with this least grant, over a pool of
-/// 2,500.
-pub fn zone_of(alloc: Global, limit: u64, least_grant: u64) -> Option<Zone<FixedPool>> {
-    let identifier = Name::new(&[103, 107])?;
-    let mut networks = Vec::new(alloc);
-    networks.push(None).ok()?;
-    let mut parts = ConfigParts::new(identifier, GATEKEEPER, Networks::from_vec(networks));
-    parts.limit = limit;
-    parts.call_limit = 2_000;
-    parts.least_grant = least_grant;
-    let Ok(config) = Config::new(parts) else {
-        return None;
-    };
-    let mut pools = Vec::new(alloc);
-    pools.push(FixedPool::new(2_500)).ok()?;
-    let Ok(set) = PoolSet::new(pools) else {
-        return None;
-    };
-    match Zone::new(alloc, config, set) {
-        Ok(zone) => Some(zone),
-        Err(_) => None,
-    }
-}
 
 /// A datagram of the endpoint with these octets, read.
 pub fn datagram(alloc: Global, bytes: &[u8]) -> Option<Prepared> {
@@ -67,7 +30,12 @@ pub fn apply<D: Hall, T: Ledger, U: Ledger, V: Ledger>(
 
 /// Whether this reply is sent to the endpoint.
 pub fn is_sent(outcome: &Outcome, reply: &[u8]) -> bool {
-    match &outcome.output {
+    is_sent_as(outcome.output.as_ref(), reply)
+}
+
+/// Whether this is a datagram that goes to the endpoint, with these octets.
+pub fn is_sent_as(datagram: Option<&Datagram>, reply: &[u8]) -> bool {
+    match datagram {
         Some(output) => output.to == ENDPOINT && output.bytes.as_slice() == reply,
         None => false,
     }

@@ -22,4 +22,6 @@ mod seats;
 #[cfg(test)]
 mod threads;
 #[cfg(test)]
+mod turns;
+#[cfg(test)]
 mod unrecorded;

@@ -10,6 +10,7 @@ use crate::listing::is_left_by_lists;
 use crate::replacing::{has_refused_pools, has_replaced_pool};
 use crate::seats::{are_listed, are_seated, is_short_of_a_seat};
 use crate::threads::are_all_entered;
+use crate::turns::are_turns_made;
 use crate::unrecorded::{are_all_counted, is_unrecorded};
 use pools::FixedPool;
 use ras_core::Zone;
@@ -36,6 +37,8 @@ pub enum Deed {
     RefusedPools,
     Unrecorded,
     UnrecordedThreads,
+    Turns,
+    UnrecordedTurns,
 }
 
 /// Whether a lock of this many seats over a zone of its own passes what is done with it: false if
@@ -94,6 +97,8 @@ fn open_and_do<
             Deed::RefusedPools => has_refused_pools(rt, alloc, lock, seats),
             Deed::Unrecorded => is_unrecorded(rt, alloc, lock, seats),
             Deed::UnrecordedThreads => are_all_counted(rt, alloc, lock, seats),
+            Deed::Turns => are_turns_made(rt, alloc, lock, seats, true),
+            Deed::UnrecordedTurns => are_turns_made(rt, alloc, lock, seats, false),
         },
         Err((_, OpenFault::BadSeats)) => Some(false),
         Err((_, OpenFault::Memory)) => None,

@@ -85,7 +85,7 @@ fn request(alloc: Global, seq: RequestSeqNum) -> Result<(), &'static str> {
 }
 
 fn reply(alloc: Global, seq: RequestSeqNum) -> Result<(), &'static str> {
-    let Ok(held) = ReplyAliases::new(doubled(alloc)?) else {
+    let Ok(Some(held)) = ReplyAliases::new(doubled(alloc)?) else {
         return Err(OTHERWISE);
     };
     let reply = Reply::Rrj {

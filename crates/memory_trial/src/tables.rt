@@ -84,7 +84,7 @@ fn registration(alloc: Global, last: u8) -> Result<Registration, &'static str> {
     if list.push(alias).is_err() {
         list.push(alias).map_err(|_| TWICE)?;
     }
-    let Ok(aliases) = ReplyAliases::new(list) else {
+    let Ok(Some(aliases)) = ReplyAliases::new(list) else {
         return Err(OTHERWISE);
     };
     Ok(Registration {

@@ -158,14 +158,14 @@ impl<P: Pool> Zone<P> {
     pub fn endpoints(&self) -> Result<RegistrationList, AllocError>
         ensures { IfOk result (IsListOf self.now.state.tables.live) }
     {
-        self.machine.tables().list()
+        self.machine.tables().registrations().list()
     }
 
     /// The calls that are open, by rising key.
     pub fn calls(&self) -> Result<CallList, AllocError>
         ensures { IfOk result (λ list. list ≡ fin.entries self.now.state.tables.calls) }
     {
-        self.machine.tables().calls()
+        self.machine.tables().calls().list()
     }
 
     /// The bandwidth in use: the units of all calls, of 100 bit/s each.
@@ -173,7 +173,7 @@ impl<P: Pool> Zone<P> {
         ensures sum { result ≡ in_use self.now.state.tables.calls }
         ensures limit { result ≤ self.now.state.tables.config.limit }
     {
-        self.machine.tables().in_use()
+        self.machine.tables().calls().total()
     }
 
     /// The state as it stands, in lists of its own.

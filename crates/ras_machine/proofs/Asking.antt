@@ -4,7 +4,6 @@ use Rattle.std.proofs.Common.{subst, Some, None}
 use Rattle.std.specs.Prelude.{Option, All, IsSome, if◌then◌else◌}
 use Rattle.ras_module.specs.declared.reply.Reply.{Reply}
 use Rattle.ras_module.specs.declared.request.Request.{Request}
-use Rattle.ras_module.specs.declared.reply.Reply.TheVariants.{Rip}
 use Rattle.ras_writing.specs.Replies.{encoding_of}
 use Rattle.kept_replies.specs.declared.key.KeptKey.{KeptKey}
 use Rattle.kept_replies.specs.Kept.{KeptReplies}
@@ -15,7 +14,7 @@ use Rattle.pools.specs.Account.{IsAnswer}
 use Rattle.zone_tables.specs.declared.unit_request.UnitRequest.{UnitRequest}
 use Rattle.ras_machine.specs.declared.job.Job.{Job}
 use Rattle.ras_machine.specs.declared.job.Occasion.{Occasion}
-use Rattle.ras_machine.specs.declared.job.Occasion.TheVariants.{First, Again}
+use Rattle.ras_machine.specs.declared.job.Occasion.TheVariants.{Again, Anew, First}
 use Rattle.zone_events.specs.declared.outcome.Outcome.{Outcome}
 use Rattle.ras_machine.specs.State.{State}
 use Rattle.zone_tables.specs.Leaving.{AreSameButLent}
@@ -28,10 +27,9 @@ use Rattle.ras_machine.specs.Keeping.{dropped_for, in_progress}
 use Rattle.ras_machine.specs.Keeping.{kept_with, plan_at, state_after, waits, with_answered_pool}
 use Rattle.zone_config.specs.Terms.{term_of}
 use Rattle.ras_machine.specs.Machine.{Ending, Serving, ended, note_at, plan_ending}
-use Rattle.ras_requests.specs.Conclusions.{RequestsUnits, granted_by}
-use Rattle.zone_tables.specs.UnitRequests.{units_requested, calls_after_answer, calls_with_grant}
-use Rattle.ras_requests.specs.Conclusions.{refused_by}
-use Rattle.zone_tables.specs.UnitRequests.{reply_of, reply_with_grant}
+use Rattle.ras_requests.specs.Conclusions.{RequestsUnits, asker_of, granted_by, refused_by}
+use Rattle.ras_requests.specs.Replies.{reply_of, reply_with_grant}
+use Rattle.zone_tables.specs.UnitRequests.{calls_after_answer, calls_with_grant, units_requested}
 use Rattle.ras_machine.specs.Courses.{heard_at, Does}
 use Rattle.ras_machine.specs.Soundness.{AreBornBefore}
 use Rattle.zone_tables.specs.Soundness.{HasCounts}
@@ -43,7 +41,11 @@ use Rattle.ras_machine.proofs.Dropping.{born_kept_with}
 module _ (s : State) (now : ℕ) (key : KeptKey) (request : Request)
     (id : List ℕ) (q : UnitRequest) where
   abbrev pub asking : Plan
-  asking = Asking (units_requested q) (granted_by s.tables q) (refused_by s.tables q)
+  asking =
+      Asking (units_requested q) (granted_by s.tables request q) (refused_by s.tables request q)
+
+  abbrev reply_to : Lend → Bool → Reply
+  reply_to answer w = reply_of (seq_of request) q answer w s.tables.config.delay
 
   abbrev pub asked_task : Occasion → Task
   asked_task occasion = record {
@@ -63,7 +65,7 @@ module _ (s : State) (now : ℕ) (key : KeptKey) (request : Request)
 
   abbrev pub asked_tables : Occasion → Lend → Tables
   asked_tables occasion answer = heard_at (record s.tables {
-    calls = calls_after_answer q answer s.tables.calls;
+    calls = calls_after_answer (asker_of request) q answer s.tables.calls;
     pools = pools_after_answer s.tables.pools (units_requested q) answer;
   }) occasion now (Some id)
 
@@ -95,22 +97,24 @@ module _ (s : State) (now : ℕ) (key : KeptKey) (request : Request)
 
   -- how the request is served on an occasion, if it gets units and if it gets none
   abbrev lent_at : Occasion → ℕ → Served
-  lent_at (First dropped) units = with_heard now (Some id) (granted_by s.tables q units)
-  lent_at (Again born left) units = granted_by s.tables q units
+  lent_at (First dropped) units = with_heard now (Some id) (granted_by s.tables request q units)
+  lent_at Anew units = with_heard now (Some id) (granted_by s.tables request q units)
+  lent_at (Again born left) units = granted_by s.tables request q units
 
   abbrev refused_at : Occasion → Served
-  refused_at (First dropped) = with_heard now (Some id) (refused_by s.tables q)
-  refused_at (Again born left) = refused_by s.tables q
+  refused_at (First dropped) = with_heard now (Some id) (refused_by s.tables request q)
+  refused_at Anew = with_heard now (Some id) (refused_by s.tables request q)
+  refused_at (Again born left) = refused_by s.tables request q
 
   abbrev granted_answer : Occasion → Lend → Option ℕ → Ending
   granted_answer occasion answer grant = Some (
-    asked_outcome occasion answer (reply_with_grant q grant),
+    asked_outcome occasion answer (reply_with_grant (seq_of request) q.purpose grant),
     record s {
       tables = heard_at (record s.tables {
-        calls = calls_with_grant q grant s.tables.calls;
+        calls = calls_with_grant (asker_of request) q grant s.tables.calls;
         pools = pools_after_answer s.tables.pools (units_requested q) answer;
       }) occasion now (Some id);
-      kept = asked_kept occasion false (reply_with_grant q grant);
+      kept = asked_kept occasion false (reply_with_grant (seq_of request) q.purpose grant);
     },
   )
 
@@ -120,7 +124,9 @@ module _ (s : State) (now : ℕ) (key : KeptKey) (request : Request)
       (answered (granted (lent_at occasion) (refused_at occasion) grant)))
       ≡ granted_answer occasion answer grant
   by_grant (First dropped) answer None = refl
+  by_grant Anew answer None = refl
   by_grant (First dropped) answer (Some units) = refl
+  by_grant Anew answer (Some units) = refl
   by_grant (Again born left) answer None = refl
   by_grant (Again born left) answer (Some units) = refl
 
@@ -128,85 +134,84 @@ module _ (s : State) (now : ℕ) (key : KeptKey) (request : Request)
   lent_now : (occasion : Occasion) (units : ℕ)
       → plan_ending s now (asked_task occasion) (plan_at occasion now (Some id) asking)
       (choices_of (asked_outcome occasion (Lent units)
-      (reply_of q (Lent units) false s.tables.config.delay)))
+      (reply_to (Lent units) false)))
       ≡ asked_answer occasion (Lent units) false
-      (reply_of q (Lent units) false s.tables.config.delay)
+      (reply_to (Lent units) false)
   lent_now (First dropped) units =
       by_grant (First dropped) (Lent units) (grant_of q.least (Lent units))
+  lent_now Anew units =
+      by_grant Anew (Lent units) (grant_of q.least (Lent units))
   lent_now (Again born left) units =
       by_grant (Again born left) (Lent units) (grant_of q.least (Lent units))
 
   refused_now : (occasion : Occasion)
       → plan_ending s now (asked_task occasion) (plan_at occasion now (Some id) asking)
-      (choices_of (asked_outcome occasion Refused (reply_of q Refused false s.tables.config.delay)))
-      ≡ asked_answer occasion Refused false (reply_of q Refused false s.tables.config.delay)
+      (choices_of (asked_outcome occasion Refused (reply_to Refused false)))
+      ≡ asked_answer occasion Refused false (reply_to Refused false)
   refused_now (First dropped) = refl
+  refused_now Anew = refl
   refused_now (Again born left) = refl
 
-  waits_at_first : (dropped : Option ℕ) → seq_of request ≡ q.seq
-      → plan_ending s now (asked_task (First dropped))
-      (plan_at (First dropped) now (Some id) asking)
-      (choices_of (asked_outcome (First dropped) Wait (reply_of q Wait true s.tables.config.delay)))
-      ≡ asked_answer (First dropped) Wait true (reply_of q Wait true s.tables.config.delay)
-  waits_at_first dropped seq =
-      ap (λ n. asked_answer (First dropped) Wait true (Rip n s.tables.config.delay)) seq
-
   waits_again : (born left : ℕ) (w : Bool) → waits (Again born left) Wait ≡ w
-      → seq_of request ≡ q.seq
       → plan_ending s now (asked_task (Again born left)) asking
-      (choices_of (asked_outcome (Again born left) Wait (reply_of q Wait w s.tables.config.delay)))
-      ≡ asked_answer (Again born left) Wait w (reply_of q Wait w s.tables.config.delay)
-  waits_again born left true is seq =
-      ap (λ w. came_to (Again born left) (granted_by s.tables q) (refused_by s.tables q) Wait w) is
-      ∙ ap (λ n. asked_answer (Again born left) Wait true (Rip n s.tables.config.delay)) seq
-  waits_again born left false is seq =
-      ap (λ w. came_to (Again born left) (granted_by s.tables q) (refused_by s.tables q) Wait w) is
+      (choices_of (asked_outcome (Again born left) Wait (reply_to Wait w)))
+      ≡ asked_answer (Again born left) Wait w (reply_to Wait w)
+  waits_again born left true is =
+      ap (λ w. came_to (Again born left) (granted_by s.tables request q)
+      (refused_by s.tables request q) Wait w) is
+  waits_again born left false is =
+      ap (λ w. came_to (Again born left) (granted_by s.tables request q)
+      (refused_by s.tables request q) Wait w) is
 
   pub asked_by : (occasion : Occasion) (answer : Lend) (w : Bool) → w ≡ waits occasion answer
-      → seq_of request ≡ q.seq
       → plan_ending s now (asked_task occasion) (plan_at occasion now (Some id) asking)
-      (choices_of (asked_outcome occasion answer (reply_of q answer w s.tables.config.delay)))
-      ≡ asked_answer occasion answer w (reply_of q answer w s.tables.config.delay)
-  asked_by occasion (Lent units) false is seq = lent_now occasion units
-  asked_by occasion (Lent units) true is seq = absurd (cc is)
-  asked_by occasion Refused false is seq = refused_now occasion
-  asked_by occasion Refused true is seq = absurd (cc is)
-  asked_by (First dropped) Wait true is seq = waits_at_first dropped seq
-  asked_by (First dropped) Wait false is seq = absurd (cc is)
-  asked_by (Again born left) Wait w is seq = waits_again born left w (sym is) seq
+      (choices_of (asked_outcome occasion answer (reply_to answer w)))
+      ≡ asked_answer occasion answer w (reply_to answer w)
+  asked_by occasion (Lent units) false is = lent_now occasion units
+  asked_by occasion (Lent units) true is = absurd (cc is)
+  asked_by occasion Refused false is = refused_now occasion
+  asked_by occasion Refused true is = absurd (cc is)
+  asked_by (First dropped) Wait true is = refl
+  asked_by Anew Wait true is = refl
+  asked_by (First dropped) Wait false is = absurd (cc is)
+  asked_by Anew Wait false is = absurd (cc is)
+  asked_by (Again born left) Wait w is = waits_again born left w (sym is)
 
   may_choose : (occasion : Occasion) (answer : Lend) (reply : Reply)
       → IsAnswer (figures_at s.tables.pools q.pool) q.units answer
       → MayChoose s (plan_at occasion now (Some id) asking)
       (choices_of (asked_outcome occasion answer reply))
   may_choose (First dropped) answer reply fits = fits
+  may_choose Anew answer reply fits = fits
   may_choose (Again born left) answer reply fits = fits
 
   pub ask_is : (occasion : Occasion)
       → ask_in_plan (plan_at occasion now (Some id) asking) ≡ Some (units_requested q)
   ask_is (First dropped) = refl
+  ask_is Anew = refl
   ask_is (Again born left) = refl
 
   pools_are : (occasion : Occasion) (answer : Lend)
       → (asked_tables occasion answer).pools ≡ pools_after_answer s.tables.pools (units_requested
       q) answer
   pools_are (First dropped) answer = refl
+  pools_are Anew answer = refl
   pools_are (Again born left) answer = refl
 
   pub does_asked : (occasion : Occasion) (answer : Lend) (w : Bool)
-      (plan : Plan) → RequestsUnits s.tables plan q
-      → w ≡ waits occasion answer → seq_of request ≡ q.seq
+      (plan : Plan) → RequestsUnits s.tables request plan q
+      → w ≡ waits occasion answer
       → IsAnswer (figures_at s.tables.pools q.pool) q.units answer
       → IsTimely s now occasion → AreBornBefore s.steps s.kept
-      → length (encoding_of (reply_of q answer w s.tables.config.delay)) ≤ 20000
+      → length (encoding_of (reply_to answer w)) ≤ 20000
       → Does s now (Serving (record {
         job = record { key = key; occasion = occasion };
         request = request;
         plan = plan_at occasion now (Some id) plan;
-      })) (asked_outcome occasion answer (reply_of q answer w s.tables.config.delay))
-      (asked_state occasion answer w (reply_of q answer w s.tables.config.delay))
-  does_asked occasion answer w plan asks w_is seq fits timely before few =
-      let reply = reply_of q answer w s.tables.config.delay in
+      })) (asked_outcome occasion answer (reply_to answer w))
+      (asked_state occasion answer w (reply_to answer w))
+  does_asked occasion answer w plan asks w_is fits timely before few =
+      let reply = reply_to answer w in
       subst (λ (p : Plan). Does s now (Serving (record {
         job = record { key = key; occasion = occasion };
         request = request;
@@ -214,7 +219,7 @@ module _ (s : State) (now : ℕ) (key : KeptKey) (request : Request)
       })) (asked_outcome occasion answer reply) (asked_state occasion answer w reply))
       (sym asks.is) (record {
         allowed = (timely, may_choose occasion answer reply fits);
-        makes = asked_by occasion answer w w_is seq;
+        makes = asked_by occasion answer w w_is;
         pools = subst (λ (ask : Option RequestedUnits). AreSameButLent
             (pools_after_ask s.tables.pools ask (Some answer)) (asked_tables occasion answer).pools)
             (sym (ask_is occasion))
@@ -231,34 +236,41 @@ module _ (s : State) (now : ℕ) (key : KeptKey) (request : Request)
       })
 
 -- a plan by which units are requested asks for them
-pub asks_by : (z : Tables) (plan : Plan) (q : UnitRequest) → RequestsUnits z plan q
+pub asks_by : (z : Tables) (request : Request) (plan : Plan) (q : UnitRequest)
+    → RequestsUnits z request plan q
     → (occasion : Occasion) (now : ℕ) (endpoint : Option (List ℕ))
     → ask_in_plan (plan_at occasion now endpoint plan) ≡ Some (units_requested q)
-asks_by z plan q asks (First dropped) now None =
+asks_by z request plan q asks (First dropped) now None =
     ap (λ p. ask_in_plan (plan_at (First dropped) now None p)) asks.is
-asks_by z plan q asks (First dropped) now (Some id) =
+asks_by z request plan q asks Anew now None =
+    ap (λ p. ask_in_plan (plan_at Anew now None p)) asks.is
+asks_by z request plan q asks (First dropped) now (Some id) =
     ap (λ p. ask_in_plan (plan_at (First dropped) now (Some id) p)) asks.is
-asks_by z plan q asks (Again born left) now endpoint = ap ask_in_plan asks.is
+asks_by z request plan q asks Anew now (Some id) =
+    ap (λ p. ask_in_plan (plan_at Anew now (Some id) p)) asks.is
+asks_by z request plan q asks (Again born left) now endpoint = ap ask_in_plan asks.is
 
--- the same, of what the code has
-pub does_answered : (old : State) (now : ℕ) (job : Job) (id : List ℕ)
-    (request : Request) (q : UnitRequest) (answer : Lend) (w : Bool) (reply : Reply)
+-- the same, of what the code has: the request names an endpoint
+pub does_answered : (old : State) (now : ℕ) (job : Job) (endpoint : Option (List ℕ))
+    → IsSome endpoint
+    → (request : Request) (q : UnitRequest) (answer : Lend) (w : Bool) (reply : Reply)
     (tables : Tables) (kept : KeptReplies)
-    → w ≡ waits job.occasion answer → seq_of request ≡ q.seq
+    → w ≡ waits job.occasion answer
     → IsAnswer (figures_at old.tables.pools q.pool) q.units answer
     → IsTimely old now job.occasion → AreBornBefore old.steps old.kept
-    → reply ≡ reply_of q answer w old.tables.config.delay → length (encoding_of reply) ≤ 20000
+    → reply ≡ reply_of (seq_of request) q answer w old.tables.config.delay
+    → length (encoding_of reply) ≤ 20000
     → tables ≡ heard_at (record old.tables {
-      calls = calls_after_answer q answer old.tables.calls;
+      calls = calls_after_answer (asker_of request) q answer old.tables.calls;
       pools = pools_after_answer old.tables.pools (units_requested q) answer;
-    }) job.occasion now (Some id)
+    }) job.occasion now endpoint
     → kept ≡ kept_with old.kept job.key job.occasion old.steps
     (state_after request reply w (term_of old.tables.config now))
-    → (plan : Plan) → RequestsUnits old.tables plan q
+    → (plan : Plan) → RequestsUnits old.tables request plan q
     → Does old now (Serving (record {
       job = job;
       request = request;
-      plan = plan_at job.occasion now (Some id) plan;
+      plan = plan_at job.occasion now endpoint plan;
     })) (record {
       answer = Some answer;
       output = Some (record { to = job.key.source; bytes = encoding_of reply });
@@ -266,12 +278,13 @@ pub does_answered : (old : State) (now : ℕ) (job : Job) (id : List ℕ)
       dropped = dropped_for job.occasion;
       given = None;
     }) (record old { tables = tables; kept = kept })
-does_answered s now job id request q answer w reply tables kept w_is seq fits timely before
-    reply_is few tables_is kept_is plan asks =
-    let told = reply_of q answer w s.tables.config.delay in
-    let does = does_asked s now job.key request id q job.occasion answer
-    w plan asks w_is seq fits timely before
-    (subst (λ (r : Reply). length (encoding_of r) ≤ 20000) reply_is few) in
+does_answered s now job None there request q answer w reply tables kept w_is fits timely before
+    reply_is few tables_is kept_is plan asks = absurd (cc there)
+does_answered s now job (Some id) there request q answer w reply tables kept w_is fits timely
+    before reply_is few tables_is kept_is plan asks =
+    let told = reply_of (seq_of request) q answer w s.tables.config.delay in
+    let does = does_asked s now job.key request id q job.occasion answer w plan asks w_is fits
+    timely before (subst (λ (r : Reply). length (encoding_of r) ≤ 20000) reply_is few) in
     let course = Serving (record {
       job = job;
       request = request;
@@ -291,33 +304,3 @@ does_answered s now job id request q answer w reply tables kept w_is seq fits ti
       tables = asked_tables s now job.key request id q job.occasion answer;
       kept = k;
     })) (sym kept_so) does))
-
--- the same, of a request that names an endpoint
-pub does_answered_for : (old : State) (now : ℕ) (job : Job) (endpoint : Option (List ℕ))
-    → IsSome endpoint
-    → (request : Request) (q : UnitRequest) (answer : Lend) (w : Bool) (reply : Reply)
-    (tables : Tables) (kept : KeptReplies)
-    → w ≡ waits job.occasion answer → seq_of request ≡ q.seq
-    → IsAnswer (figures_at old.tables.pools q.pool) q.units answer
-    → IsTimely old now job.occasion → AreBornBefore old.steps old.kept
-    → reply ≡ reply_of q answer w old.tables.config.delay → length (encoding_of reply) ≤ 20000
-    → tables ≡ heard_at (record old.tables {
-      calls = calls_after_answer q answer old.tables.calls;
-      pools = pools_after_answer old.tables.pools (units_requested q) answer;
-    }) job.occasion now endpoint
-    → kept ≡ kept_with old.kept job.key job.occasion old.steps
-    (state_after request reply w (term_of old.tables.config now))
-    → (plan : Plan) → RequestsUnits old.tables plan q
-    → Does old now (Serving (record {
-      job = job;
-      request = request;
-      plan = plan_at job.occasion now endpoint plan;
-    })) (record {
-      answer = Some answer;
-      output = Some (record { to = job.key.source; bytes = encoding_of reply });
-      note = note_at job.occasion;
-      dropped = dropped_for job.occasion;
-      given = None;
-    }) (record old { tables = tables; kept = kept })
-does_answered_for s now job (Some id) there = does_answered s now job id
-does_answered_for s now job None there = absurd (cc there)

@@ -14,7 +14,7 @@ use Rattle.ras_requests.specs.Plans.{Plan}
 use Rattle.ras_requests.specs.Requests.{HasReply, plan_of}
 use Rattle.ras_machine.specs.State.{State}
 use Rattle.ras_machine.specs.Keeping.{is_repeat}
-use Rattle.ras_machine.specs.Machine.{Repeating, Place, Answered, Free, Full, first}
+use Rattle.ras_machine.specs.Machine.{Repeating, Place, Answered, Free, Full, Own, anew, first}
 use Rattle.ras_machine.specs.Machine.{place_by, place_of, request_case, request_course, serving}
 use Rattle.ras_machine.specs.Courses.{IsPlacedIn}
 use Rattle.ras_machine.proofs.Dropping.{fits_of}
@@ -34,10 +34,10 @@ module _ (s : State) (now : ℕ) (key : KeptKey) (request : Request) (dropped : 
 
   place_known : (entry : KeptEntry) (repeat : Bool) → fin.get s.kept key ≡ Some entry
       → is_repeat s now entry ≡ repeat
-      → place_of s now key ≡ (if repeat then Answered (reply_in entry.state) else Free)
+      → place_of s now key ≡ (if repeat then Answered (reply_in entry.state) else Own)
   place_known entry repeat there is =
       ap (place_by s now) there
-      ∙ ap (λ b. if b then Answered (reply_in entry.state) else Free) is
+      ∙ ap (λ b. if b then Answered (reply_in entry.state) else Own) is
 
   place_unknown : (full : Bool) → fin.get s.kept key ≡ None
       → (fin.len s.kept == s.tables.config.kept) ≡ full
@@ -53,8 +53,8 @@ module _ (s : State) (now : ℕ) (key : KeptKey) (request : Request) (dropped : 
 
   pub known : (entry : KeptEntry) → fin.get s.kept key ≡ Some entry
       → is_repeat s now entry ≡ false → request_course s now key dropped request
-      ≡ serving (first key None) now request its_plan.0
-  known entry there repeat = by_place Free (place_known entry false there repeat)
+      ≡ serving (anew key) now request its_plan.0
+  known entry there repeat = by_place Own (place_known entry false there repeat)
 
   pub has_place : fin.get s.kept key ≡ None → fin.len s.kept ≢ s.tables.config.kept
       → request_course s now key dropped request
@@ -82,10 +82,11 @@ pub placed_by : (s : State) (now : ℕ) (key : KeptKey) (dropped : Option ℕ) �
     → fin.len s.kept ≡ s.tables.config.kept → fin.get s.kept key ≡ None → is_some dropped ≡ true
     → IfSome dropped (Passes (is_over now) s.kept) → IsPlacedIn s (first key dropped)
 placed_by s now key None apart full absent is over = absurd (cc is)
-placed_by s now key (Some born) apart full absent is over =
-    fits_of (record { kept = s.kept; most = s.tables.config.kept; room = 0 }) now key born apart
-    full
-    absent over
+placed_by s now key (Some born) apart full absent is over = (
+  absent,
+  fits_of (record { kept = s.kept; most = s.tables.config.kept; room = 0 }) now born apart full
+      over,
+)
 
 -- a look-up that finds nothing
 pub absent_of : {A : Type 0} {v : Option A} (w : Option (Bor A)) → option_copied w ≡ v

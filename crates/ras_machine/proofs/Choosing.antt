@@ -33,7 +33,7 @@ use Rattle.ras_machine.specs.declared.job.Occasion.TheVariants.{First}
 use Rattle.ras_machine.specs.Keeping.{Task, is_repeat, plan_at}
 use Rattle.ras_machine.specs.Turns.{IsDueIn, IsNothingDueIn}
 use Rattle.ras_machine.specs.Machine.{Course, Ending, Hearing, Ignoring}
-use Rattle.ras_machine.specs.Machine.{Place, Answered, Free, Full}
+use Rattle.ras_machine.specs.Machine.{Place, Answered, Free, Full, Own}
 use Rattle.ras_machine.specs.Machine.{again, again_course, at_moment}
 use Rattle.ras_machine.specs.Machine.{course_at, course_ending, first}
 use Rattle.ras_machine.specs.Machine.{message_course, noted, place_by, place_of, request_case}
@@ -116,6 +116,7 @@ module _ (s : State) (now : ℕ) (outcome : Outcome) (after : State) where
         ≡ request_case s now key request plan place dropped
     same_request None place dropped is = refl
     same_request (Some plan) (Answered reply) dropped is = refl
+    same_request (Some plan) Own dropped is = refl
     same_request (Some plan) Free dropped is = refl
     same_request (Some plan) Full dropped is =
         ap (request_case s now key request (Some plan) Full) (full_shown plan dropped is)
@@ -173,7 +174,7 @@ module _ (s : State) (now : ℕ) where
     taken : (w : Option KeptEntry) → place_by s now w ≡ Full
         → (w ≡ None) × (fin.len s.kept ≡ s.tables.config.kept)
     taken (Some entry) is = absurd (cases (is_repeat s now entry) is) where
-      cases : (b : Bool) → (if b then Answered (reply_in entry.state) else Free) ≡ Full → ⊥
+      cases : (b : Bool) → (if b then Answered (reply_in entry.state) else Own) ≡ Full → ⊥
       cases true is = cc is
       cases false is = cc is
     taken None is = (refl, cases (fin.len s.kept == s.tables.config.kept) refl is) where
@@ -192,6 +193,7 @@ module _ (s : State) (now : ℕ) where
     placed_ready : (request : Request) (plan : Plan) (place : Place) → place_of s now key ≡ place
         → IsReady s now (request_case s now key request (Some plan) place dropped)
     placed_ready request plan (Answered reply) is = tt
+    placed_ready request plan Own is = tt
     placed_ready request plan Free is = tt
     placed_ready request plan Full is =
         let all = taken (fin.get s.kept key) is in

@@ -1,8 +1,8 @@
 -- What the kept replies are after one was dropped, and after one was added.
-use Rattle.std.proofs.Common.{Bor, ◌≡◌, ◌<◌, ◌+◌, ℕ, Bool, true, false, refl, sym, ◌∙◌, ap, subst}
+use Rattle.std.proofs.Common.{◌≡◌, ◌<◌, ◌+◌, ℕ, Bool, true, refl, sym, ◌∙◌, ap, subst}
 use Rattle.std.proofs.Common.{Some, None, arith}
-use Rattle.std.specs.Prelude.{Option, IfSome, IsTrue, is_some}
-use Rattle.std.specs.Option.{IsSomeAnd, option_copied, option_map}
+use Rattle.std.specs.Prelude.{IfSome, Option}
+use Rattle.std.specs.Option.{IsSomeAnd, option_map}
 use Rattle.std.specs.FinMap as fin
 use Rattle.keyed.specs.Maps.{update}
 use Rattle.keyed.proofs.Decide.{same_some, some_none}
@@ -14,12 +14,12 @@ use Rattle.kept_replies.specs.declared.entry.KeptState.{KeptState}
 use Rattle.kept_replies.specs.declared.entry.KeptState.TheVariants.{Done, Pending}
 use Rattle.kept_replies.specs.Kept.{KeptReplies, AreBornApart, IsFreeBirth, KeptTable}
 use Rattle.kept_replies.specs.Kept.{Passes, births, without, without_birth}
-use Rattle.kept_replies.specs.Kept.{is_over, left_in}
+use Rattle.kept_replies.specs.Kept.{is_over}
 use Rattle.kept_replies.proofs.Births.{births-has}
 use Rattle.kept_replies.proofs.KeyOrder.{key_cmp_total, key_cmp-IsAntisymmetric}
 use Rattle.ras_machine.specs.declared.job.Occasion.{Occasion}
-use Rattle.ras_machine.specs.declared.job.Occasion.TheVariants.{First, Again}
-use Rattle.ras_machine.specs.inside.Room.{FitsIn, HasPlaceIn, IsPlaced}
+use Rattle.ras_machine.specs.declared.job.Occasion.TheVariants.{Again, Anew, First}
+use Rattle.ras_machine.specs.inside.Room.{FitsIn}
 use Rattle.ras_machine.specs.State.{State}
 use Rattle.ras_machine.specs.Steps.{IsTimely}
 use Rattle.ras_machine.specs.Keeping.{after_drop, dropped_for, kept_with, served_again}
@@ -109,52 +109,39 @@ module _ (kept : KeptReplies) (steps : ℕ) (before : AreBornBefore steps kept) 
       → AreBornBefore (steps + 1) (kept_with kept key occasion steps state)
   born_kept_with key (First dropped) state =
       born_inserted dropped key (record { born = steps; state = state }) refl
+  born_kept_with key Anew state =
+      born_inserted None key (record { born = steps; state = state }) refl
   born_kept_with key (Again first left) (Done reply until) =
       born_updated key (served_again (Done reply until)) (λ e. refl)
   born_kept_with key (Again first left) (Pending request reply retry more) =
       born_updated key (served_again (Pending request reply retry more)) (λ e. refl)
 
--- a look-up that finds nothing
-pub not_found : {A : Type 0} {v : Option A} (w : Option (Bor A)) → option_copied w ≡ v
-    → is_some w ≡ false → v ≡ None
-not_found None is none = sym is
-not_found (Some x) is none = absurd (cc none)
-
 -- if there is no place, one becomes free once an entry that is over is dropped
-pub fits_of : (t : KeptTable) (now : ℕ) (key : KeptKey) (born : ℕ) → AreBornApart t.kept
-    → fin.len t.kept ≡ t.most → fin.get t.kept key ≡ None
-    → Passes (is_over now) t.kept born → FitsIn t key (Some born)
-fits_of t now key born apart full absent over = (
-  absent,
-  omega (arith, full, fewer t.kept apart (is_over now) born over),
-)
+pub fits_of : (t : KeptTable) (now born : ℕ) → AreBornApart t.kept → fin.len t.kept ≡ t.most
+    → Passes (is_over now) t.kept born → FitsIn t (Some born)
+fits_of t now born apart full over =
+    omega (arith, full, fewer t.kept apart (is_over now) born over)
 
--- and if one that is over is dropped, there is a place
-pub place_of : (t : KeptTable) (now : ℕ) (key : KeptKey) (dropped : Option ℕ) → AreBornApart t.kept
-    → FitsIn t key dropped → IfSome dropped (Passes (is_over now) t.kept) → HasPlaceIn t now key
-place_of t now key None apart fits over absent busy = omega (arith, fits absent, busy.full)
-place_of t now key (Some born) apart fits over absent busy =
-    none_passes (fin.get (births t.kept) born) refl over where
-      none_passes : (w : Option (KeptKey × KeptEntry)) → fin.get (births t.kept) born ≡ w
-          → IsSomeAnd w (λ row. IsTrue (is_over now row.1)) → ⊥
-      none_passes None is h = h
-      none_passes (Some row) is h =
-          let there = births-has t.kept apart born row is in
-          absurd (cc (sym h ∙ busy.none_over row.0 row.1 there.0))
+-- what has no entry has none once another is dropped
+get_none_after : (kept : KeptReplies) (row : Option (KeptKey × KeptEntry)) (key : KeptKey)
+    → fin.get kept key ≡ None → fin.get (without kept row) key ≡ None
+get_none_after kept row key none = cases (fin.get (without kept row) key) refl where
+  cases : (w : Option KeptEntry) → fin.get (without kept row) key ≡ w
+      → fin.get (without kept row) key ≡ None
+  cases None is = is
+  cases (Some entry) is = some_none (sym (get_without kept row key entry is) ∙ none)
 
--- a request that finds a place is not turned away
-pub placed_in : (t : KeptTable) (now : ℕ) (key : KeptKey) (occasion : Occasion)
-    → AreBornApart t.kept → IsPlaced t key occasion
-    → IfSome (dropped_for occasion) (Passes (is_over now) t.kept) → HasPlaceIn t now key
-placed_in t now key (First dropped) apart fits over absent busy =
-    place_of t now key dropped apart fits over absent busy
-placed_in t now key (Again born left) apart there over absent busy =
-    subst (λ (w : Option KeptEntry). IsSomeAnd w (λ entry. left_in entry.state ≡ left)) absent there
+pub none_after_drop : (kept : KeptReplies) (dropped : Option ℕ) (key : KeptKey)
+    → fin.get kept key ≡ None → fin.get (after_drop kept dropped) key ≡ None
+none_after_drop kept None key none = none
+none_after_drop kept (Some born) key none =
+    get_none_after kept (fin.get (births kept) born) key none
 
--- the entry that is dropped for it is over
+-- the entry that is dropped for a request is over
 pub over_of : (s : State) (now : ℕ) (occasion : Occasion) → IsTimely s now occasion
     → IfSome (dropped_for occasion) (Passes (is_over now) s.kept)
 over_of s now (First dropped) timely = timely
+over_of s now Anew timely = tt
 over_of s now (Again born left) timely = tt
 
 -- nothing that is kept was born

@@ -6,7 +6,7 @@ use Rattle.ras_requests.specs.declared.conclusion.Decision.{Decision}
 use Rattle.zone_tables.specs.declared.unit_request.UnitRequest.{UnitRequest}
 use Rattle.zone_tables.specs.Tables.{Tables}
 use Rattle.ras_requests.specs.Plans.{Plan}
-use Rattle.ras_requests.specs.Requests.{HasReply, plan_of}
+use Rattle.ras_requests.specs.Requests.{HasReply, endpoint_of, plan_of}
 use Rattle.zone_tables.specs.Changes.{IsPossible}
 use Rattle.ras_requests.specs.declared.conclusion.Newcomer.{Newcomer}
 use Rattle.ras_requests.specs.Conclusions.{RequestsUnits, IsConclusion, Names}
@@ -18,15 +18,15 @@ module _ (z : Tables) (now : ℕ) (request : Request) (served : HasReply request
 
   -- a change that was decided can be made
   pub possible_of : (d : Decision) → IsConclusion z now request (conclusion.Settled d)
-      → IsPossible z d.change
+      → IsPossible z (endpoint_of request) d.change
   possible_of d is = (is its_plan.0 its_plan.1).possible
 
   -- and units may be requested
   pub requests_units_of : (q : UnitRequest) → IsConclusion z now request (conclusion.Asking q)
-      → RequestsUnits z its_plan.0 q
+      → RequestsUnits z request its_plan.0 q
   requests_units_of q is = is its_plan.0 its_plan.1
 
   -- a new endpoint may be added
   pub names_of : (n : Newcomer) → IsConclusion z now request (conclusion.Naming n)
-      → Names z now its_plan.0 n
+      → Names z now request its_plan.0 n
   names_of n is = is its_plan.0 its_plan.1

@@ -32,7 +32,7 @@ use Rattle.ras_requests.specs.Standing.{Standing, NoCall, NoLeg, HasLeg, standin
 use Rattle.ras_requests.specs.Requests.{plan_of}
 use Rattle.ras_machine.specs.Keeping.{plan_at}
 use Rattle.ras_machine.specs.declared.job.Occasion.{Occasion}
-use Rattle.ras_machine.specs.declared.job.Occasion.TheVariants.{First, Again}
+use Rattle.ras_machine.specs.declared.job.Occasion.TheVariants.{Again, Anew, First}
 use Rattle.ras_machine.specs.Soundness.{MayRequestUnits}
 
 -- the settings stay however the request is served, and a pool is asked only for a request that may
@@ -151,4 +151,5 @@ pub is_plan_at : (z : Tables) (may : Type 0) (occasion : Occasion) (now : ℕ)
     (endpoint : Option (List ℕ)) (plan : Plan)
     → IsPlanFor z may plan → IsPlanFor z may (plan_at occasion now endpoint plan)
 is_plan_at z may (First dropped) now endpoint plan is = heard_too z may now endpoint plan is
+is_plan_at z may Anew now endpoint plan is = heard_too z may now endpoint plan is
 is_plan_at z may (Again born left) now endpoint plan is = is

@@ -30,7 +30,7 @@ use Rattle.ras_requests.specs.Requests.{endpoint_of, plan_of, seq_of}
 use Rattle.ras_machine.specs.declared.course.Course as code
 use Rattle.ras_machine.specs.declared.course.Course.TheVariants as course
 use Rattle.ras_machine.specs.declared.job.Occasion.{Occasion}
-use Rattle.ras_machine.specs.declared.job.Occasion.TheVariants.{First, Again}
+use Rattle.ras_machine.specs.declared.job.Occasion.TheVariants.{Again, Anew, First}
 use Rattle.ras_machine.specs.State.{State}
 use Rattle.ras_machine.specs.Soundness.{AllWaitInProgress, MayRequestUnits, WaitsInProgress}
 use Rattle.ras_machine.specs.Keeping.{Progress, Task, after_drop, answered, granted}
@@ -93,6 +93,8 @@ module _ (delay : ℕ) where
         → AllWaitInProgress delay (kept_with kept key occasion born state)
     waiting_with key (First dropped) born state fits =
         waiting_inserted dropped key (record { born = born; state = state }) fits
+    waiting_with key Anew born state fits =
+        waiting_inserted None key (record { born = born; state = state }) fits
     waiting_with key (Again first left) born (Done reply until) fits =
         waiting_updated key (served_again (Done reply until)) (λ e is. tt)
     waiting_with key (Again first left) born (Pending request reply retry more) fits =

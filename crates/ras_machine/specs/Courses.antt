@@ -13,10 +13,10 @@ use Rattle.zone_events.specs.declared.outcome.Outcome.{Outcome}
 use Rattle.ras_requests.specs.declared.conclusion.Conclusion.{Conclusion}
 use Rattle.ras_requests.specs.declared.conclusion.Conclusion.TheVariants as conclusion
 use Rattle.ras_requests.specs.Plans.{Plan, Served, Settled, Naming, Asking}
-use Rattle.ras_requests.specs.Requests.{endpoint_of, plan_of, seq_of, HasReply}
+use Rattle.ras_requests.specs.Requests.{plan_of, HasReply}
 use Rattle.zone_tables.specs.Soundness.{CountsOneMore}
 use Rattle.zone_tables.specs.Changes.{heard}
-use Rattle.ras_requests.specs.Conclusions.{IsConclusion, IsFor}
+use Rattle.ras_requests.specs.Conclusions.{IsConclusion}
 use Rattle.zone_tables.specs.Leaving.{AreSameButLent}
 use Rattle.zone_tables.specs.Pools.{RequestedUnits}
 use Rattle.zone_tables.specs.Tables.{Tables}
@@ -27,7 +27,7 @@ use Rattle.ras_machine.specs.declared.course.Course.TheVariants as course
 use Rattle.ras_machine.specs.declared.course.Task as code_task
 use Rattle.ras_machine.specs.declared.job.Job.{Job}
 use Rattle.ras_machine.specs.declared.job.Occasion.{Occasion}
-use Rattle.ras_machine.specs.declared.job.Occasion.TheVariants.{First, Again}
+use Rattle.ras_machine.specs.declared.job.Occasion.TheVariants.{Again, Anew, First}
 use Rattle.ras_machine.specs.State.{State}
 use Rattle.ras_machine.specs.Soundness.{AreBornBefore, Sound}
 use Rattle.ras_machine.specs.Turns.{IsDueIn, IsNothingDueIn}
@@ -41,6 +41,7 @@ use Rattle.ras_machine.specs.inside.Room.{IsPlaced}
 -- an endpoint is heard as its request is served for the first time
 abbrev pub heard_at : Tables → Occasion → ℕ → Option (List ℕ) → Tables
 heard_at z (First dropped) now endpoint = heard z now endpoint
+heard_at z Anew now endpoint = heard z now endpoint
 heard_at z (Again born left) now endpoint = z
 
 -- What a course comes to, before the clock and the number of steps are set.
@@ -89,7 +90,6 @@ pub record IsTask (s : State) (now : ℕ) (task : code_task.Task) : Type 0 where
   pub served : HasReply task.request
   pub placed : IsPlacedIn s task.job
   pub concludes : IsConclusion s.tables now task.request task.conclusion
-  pub about : IsFor (seq_of task.request) (endpoint_of task.request) task.conclusion
 
 -- it can be done
 abbrev pub Stands : State → ℕ → code.Course → Type 0

@@ -19,7 +19,7 @@ use Rattle.pools.specs.declared.interface.Lend.{Lend}
 use Rattle.pools.specs.declared.interface.Lend.TheVariants.{Lent, Refused, Wait}
 use Rattle.ras_machine.specs.declared.job.Job.{Job}
 use Rattle.ras_machine.specs.declared.job.Occasion.{Occasion}
-use Rattle.ras_machine.specs.declared.job.Occasion.TheVariants.{First, Again}
+use Rattle.ras_machine.specs.declared.job.Occasion.TheVariants.{Again, Anew, First}
 use Rattle.zone_config.specs.declared.term.Term.{Term}
 use Rattle.zone_tables.specs.Tables.{Tables}
 use Rattle.ras_machine.specs.State.{State}
@@ -50,11 +50,13 @@ pub record Task : Type 0 where
 -- the entry that is dropped for its reply
 abbrev pub dropped_for : Occasion → Option ℕ
 dropped_for (First dropped) = dropped
+dropped_for Anew = None
 dropped_for (Again born left) = None
 
 -- the endpoint that a request names was heard as it came, and isn't as it is served again
 abbrev pub plan_at : Occasion → ℕ → Option (List ℕ) → Plan → Plan
 plan_at (First dropped) now endpoint plan = hearing now endpoint plan
+plan_at Anew now endpoint plan = hearing now endpoint plan
 plan_at (Again born left) now endpoint plan = plan
 
 -- how far a request is after it was served: it was answered, or it is to wait
@@ -75,6 +77,7 @@ in_progress delay request refused = record {
 -- it is served once more at least, if its pool makes it wait
 abbrev pub may_wait : Occasion → Bool
 may_wait (First dropped) = true
+may_wait Anew = true
 may_wait (Again born left) = nat_lt 1 left
 
 abbrev pub waits : Occasion → Lend → Bool
@@ -113,10 +116,11 @@ served_again (Done reply until) entry = finished reply until entry
 served_again (Pending request reply retry left) entry = postponed retry entry
 
 -- What is kept if a request was served: an entry from this step on, for which another may have
--- been dropped; or the entry that waited goes on.
+-- been dropped, or which takes the place of an earlier one; or the entry that waited goes on.
 abbrev pub kept_with : KeptReplies → KeptKey → Occasion → ℕ → KeptState → KeptReplies
 kept_with kept key (First dropped) born state =
     insert (after_drop kept dropped) key (record { born = born; state = state })
+kept_with kept key Anew born state = insert kept key (record { born = born; state = state })
 kept_with kept key (Again birth left) born state = update kept key (served_again state)
 
 -- how far the request is then: it waits for the delay, or its reply is kept for the window

@@ -17,7 +17,7 @@ use Rattle.zone_events.specs.declared.event.Event.{Event}
 use Rattle.zone_events.specs.declared.event.Event.TheVariants as event
 use Rattle.ras_machine.specs.declared.job.Job.{Job}
 use Rattle.ras_machine.specs.declared.job.Occasion.{Occasion}
-use Rattle.ras_machine.specs.declared.job.Occasion.TheVariants.{First, Again}
+use Rattle.ras_machine.specs.declared.job.Occasion.TheVariants.{Again, Anew, First}
 use Rattle.zone_events.specs.declared.outcome.Datagram.{Datagram}
 use Rattle.zone_events.specs.declared.outcome.IgnoredCause.{IgnoredCause}
 use Rattle.zone_events.specs.declared.outcome.IgnoredCause.TheVariants.{TooLong, Unreadable}
@@ -69,17 +69,21 @@ serving job now request plan = Serving (record {
 abbrev pub first : KeptKey → Option ℕ → Job
 first key dropped = record { key = key; occasion = First dropped }
 
--- What is kept for a datagram: a reply that answers it, as it came before; else a place for its
--- reply, its own entry's or a free one; or neither, if as many replies are kept as may be. An entry
--- that is over, or confirms a registration that has gone, doesn't answer it.
+abbrev pub anew : KeptKey → Job
+anew key = record { key = key; occasion = Anew }
+
+-- What is kept for a datagram: a reply that answers it, as it came before; or an entry of its own
+-- that doesn't, since it is over or confirms a registration that has gone; or nothing, and there is
+-- a free place for its reply, or none, if as many replies are kept as may be.
 pub data Place : Type 0 where
   Answered : Reply → Place
+  Own : Place
   Free : Place
   Full : Place
 
 abbrev pub place_by : State → ℕ → Option KeptEntry → Place
 place_by s now (Some entry) =
-    if is_repeat s now entry then Answered (reply_in entry.state) else Free
+    if is_repeat s now entry then Answered (reply_in entry.state) else Own
 place_by s now None = if len s.kept == s.tables.config.kept then Full else Free
 
 abbrev pub place_of : State → ℕ → KeptKey → Place
@@ -100,6 +104,7 @@ abbrev pub request_case : State → ℕ → KeptKey → Request → Option Plan 
 request_case s now key request None place dropped = response_course s (endpoint_of request)
 request_case s now key request (Some plan) (Answered reply) dropped =
     Repeating (record { to = key.source; bytes = encoding_of reply })
+request_case s now key request (Some plan) Own dropped = serving (anew key) now request plan
 request_case s now key request (Some plan) Free dropped =
     serving (first key None) now request plan
 request_case s now key request (Some plan) Full None = Ignoring Busy
@@ -172,6 +177,7 @@ noted what output s = Some (noted_outcome what output, s)
 -- what happened in a step in which a request was served
 abbrev pub note_at : Occasion → Note
 note_at (First dropped) = note.Served
+note_at Anew = note.Served
 note_at (Again born left) = note.Done (Retry born)
 
 -- a reply goes to where the datagram came from, and is kept

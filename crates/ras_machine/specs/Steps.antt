@@ -8,7 +8,7 @@ use Rattle.zone_events.specs.declared.due_item.DueItem.{DueItem}
 use Rattle.zone_events.specs.declared.due_item.DueItem.TheVariants.{Retry}
 use Rattle.zone_events.specs.declared.event.Event.{Event}
 use Rattle.ras_machine.specs.declared.job.Occasion.{Occasion}
-use Rattle.ras_machine.specs.declared.job.Occasion.TheVariants.{First, Again}
+use Rattle.ras_machine.specs.declared.job.Occasion.TheVariants.{Again, Anew, First}
 use Rattle.zone_events.specs.declared.outcome.Datagram.{Datagram}
 use Rattle.zone_events.specs.declared.outcome.IgnoredCause.TheVariants.{Busy}
 use Rattle.zone_events.specs.declared.outcome.Note.{Note}
@@ -51,6 +51,7 @@ MayChoose s (Asking ask lent refused) choices =
 -- again when that is due
 abbrev pub IsTimely : State → ℕ → Occasion → Type 0
 IsTimely s now (First dropped) = IfSome dropped (Passes (is_over now) s.kept)
+IsTimely s now Anew = Unit {0}
 IsTimely s now (Again born left) = IsDueIn s now (Retry born)
 
 -- What may be chosen: no place is found for a reply only if nothing that is kept is over; what is

@@ -8,7 +8,7 @@ ghost use Rattle.kept_replies.specs.Kept.{NonePasses, Passes, is_over, reply_in}
 ghost use Rattle.ras_requests.specs.Plans.{Plan};
 ghost use Rattle.ras_requests.specs.Requests.{HasReply, plan_of};
 ghost use Rattle.ras_machine.specs.Keeping.{is_repeat};
-ghost use Rattle.ras_machine.specs.Machine.{Repeating, first, message_course, request_course};
+ghost use Rattle.ras_machine.specs.Machine.{Repeating, anew, first, message_course, request_course};
 ghost use Rattle.ras_machine.specs.Machine.{response_course, serving};
 ghost use Rattle.ras_machine.specs.Courses.{CallsFor, IsPlacedIn};
 
@@ -65,7 +65,7 @@ impl Machine {
             if self.is_repeat(now, entry) {
                 return self.repeating(key.source, &entry.state);
             }
-            return self.serving(now, first(key, None), request);
+            return self.serving(now, anew(key), request);
         }
         if !self.kept.is_full() {
             return self.serving(now, first(key, None), request);
@@ -81,7 +81,8 @@ impl Machine {
         ensures { (now : ℕ) → CallsFor self.now now
             (response_course self.now (Some response.endpoint)) result }
     {
-        if self.tables.get(&response.get().endpoint).is_none() {
+        let registrations = self.tables.registrations();
+        if registrations.get(&response.get().endpoint).is_none() {
             return Course::Ignoring(IgnoredCause::UnknownEndpoint);
         }
         Course::Hearing(response)
@@ -96,7 +97,7 @@ impl Machine {
         }
         match entry.identifier() {
             None => true,
-            Some(told) => self.tables.get(&told.id()).is_some(),
+            Some(told) => self.tables.registrations().get(&told.id()).is_some(),
         }
     }
 
@@ -185,5 +186,15 @@ fn first(key: KeptKey, dropped: Option<u64>) -> Job
     Job {
         key,
         occasion: Occasion::First { dropped },
+    }
+}
+
+/// A request is served as it comes, in place of what is kept for its datagram.
+fn anew(key: KeptKey) -> Job
+    ensures { result ≡ anew key }
+{
+    Job {
+        key,
+        occasion: Occasion::Anew,
     }
 }

@@ -18,8 +18,12 @@ pub struct Job {
 /// When a request is served.
 #[derive(Clone, Copy)]
 pub enum Occasion {
-    /// As it comes. If its reply finds no place else, the kept entry with this birth is dropped.
+    /// As it comes, and nothing is kept for its datagram. If its reply finds no place else, the
+    /// kept entry with this birth is dropped.
     First { dropped: Option<u64> },
+    /// As it comes. What is kept for its datagram doesn't answer it any more, and its reply takes
+    /// that place.
+    Anew,
     /// After a wait: its kept entry has this birth, and it is served `left` times more at most.
     Again { born: u64, left: u64 },
 }
@@ -30,7 +34,7 @@ impl Occasion {
         ensures { result ≡ note_at self }
     {
         match self {
-            Occasion::First { .. } => Note::Served,
+            Occasion::First { .. } | Occasion::Anew => Note::Served,
             Occasion::Again { born, .. } => Note::Done(DueItem::Retry(born)),
         }
     }
@@ -41,7 +45,7 @@ impl Occasion {
     {
         match self {
             Occasion::First { dropped } => dropped,
-            Occasion::Again { .. } => None,
+            Occasion::Anew | Occasion::Again { .. } => None,
         }
     }
 
@@ -51,7 +55,7 @@ impl Occasion {
         ensures { result ≡ waits self answer }
     {
         match (answer, self) {
-            (Lend::Wait, Occasion::First { .. }) => true,
+            (Lend::Wait, Occasion::First { .. } | Occasion::Anew) => true,
             (Lend::Wait, Occasion::Again { left, .. }) => 1 < left,
             _ => false,
         }

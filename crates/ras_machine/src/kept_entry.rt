@@ -1,33 +1,27 @@
 //! What is kept of a request that was served.
 
-ghost use Rattle.std.specs.Prelude.{◌≡◌, ◌≤◌, IfSome, IsTrue, OnOk};
-ghost use Rattle.kept_replies.specs.Kept.{IsConsistent, Passes, is_over};
-ghost use Rattle.ras_machine.specs.Keeping.{after_drop, dropped_for, kept_with, state_after};
+ghost use Rattle.std.specs.Prelude.{◌≡◌, ◌≤◌, IsTrue, OnOk};
+ghost use Rattle.kept_replies.specs.Kept.{IsConsistent};
+ghost use Rattle.ras_machine.specs.Keeping.{after_drop, kept_with, state_after};
 ghost use Rattle.ras_machine.specs.inside.Room.{HasRoom, IsInProgress, IsPlaced, MayBeKept};
 ghost use Rattle.ras_machine.specs.Soundness.{AreBornBefore};
 
 use crate::job::{Job, Occasion};
-use kept_replies::{InProgress, Kept, KeptReply, KeptState, ReserveFault};
+use kept_replies::{InProgress, Kept, KeptEntry, KeptReply, KeptState};
 use ras_module::{Reply, Request};
 use std::alloc::AllocError;
 use zone_config::Term;
 
 /// Makes room for the reply to a request, whose datagram has an entry or finds a place for one.
-pub fn reserve(kept: &mut Kept, now: u64, job: &Job) -> Result<(), AllocError>
+pub fn reserve(kept: &mut Kept, job: &Job) -> Result<(), AllocError>
     requires place { IsPlaced kept.old job.now.key job.now.occasion }
-    requires over { IfSome (dropped_for job.now.occasion) (Passes (is_over now) kept.old.kept) }
     ensures kept { kept.new.kept ≡ kept.old.kept }
     ensures most { kept.new.most ≡ kept.old.most }
-    ensures sound { IsConsistent kept.new }
     ensures room { OnOk result (HasRoom kept.new job.now.key) }
 {
-    if kept.find(&job.key).is_some() {
-        return Ok(());
-    }
-    match kept.reserve(now) {
-        Ok(()) => Ok(()),
-        Err(ReserveFault::Memory) => Err(AllocError),
-        Err(ReserveFault::Busy) => unreachable!(),
+    match job.occasion {
+        Occasion::First { .. } => kept.make_room(),
+        Occasion::Anew | Occasion::Again { .. } => Ok(()),
     }
 }
 
@@ -83,16 +77,17 @@ pub fn keep(kept: &mut Kept, job: Job, born: u64, state: KeptState)
     match occasion {
         Occasion::First { dropped } => {
             drop_entry(kept, dropped);
-            match state {
-                KeptState::Done { reply, until } => kept.keep(key, born, reply, until),
-                KeptState::Pending {
-                    request,
-                    reply,
-                    retry,
-                    left,
-                } => kept.pend(key, born, request, reply, retry, left),
-            }
+            kept.add(key, KeptEntry { born, state });
         }
+        Occasion::Anew => match state {
+            KeptState::Done { reply, until } => kept.keep(key, born, reply, until),
+            KeptState::Pending {
+                request,
+                reply,
+                retry,
+                left,
+            } => kept.pend(key, born, request, reply, retry, left),
+        },
         Occasion::Again { .. } => match state {
             KeptState::Done { reply, until } => kept.finish(&key, reply, until),
             KeptState::Pending { retry, .. } => kept.postpone(&key, retry),

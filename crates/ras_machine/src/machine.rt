@@ -186,12 +186,12 @@ impl Machine {
         ensures { IfOk result (IsUnusedIn self.now) }
     {
         // the next one nearly always is: then no list of all that are told is made
-        let next = self.tables.unused(&[]);
+        let next = self.tables.registrations().unused(&[]);
         if self.is_unused(&next) {
             return Ok(next);
         }
         let told = self.kept.identifiers()?;
-        Ok(self.tables.unused(&told))
+        Ok(self.tables.registrations().unused(&told))
     }
 
     /// One step by a course that was chosen: what it calls for is done, and the clock stands at

@@ -47,7 +47,7 @@ impl Machine {
         ensures { IsTrue result ↔ IsTimely self.now now occasion }
     {
         match occasion {
-            Occasion::First { dropped: None } => true,
+            Occasion::First { dropped: None } | Occasion::Anew => true,
             Occasion::First {
                 dropped: Some(born),
             } => self.is_over(now, born),
@@ -72,7 +72,7 @@ impl Machine {
         let times = self.tables.times();
         let moment = now.milliseconds();
         let registrations = self.tables.registrations();
-        let calls = self.tables.calls_table();
+        let calls = self.tables.calls();
         let next = self.next_pool_turn;
         is_due(item, registrations, calls, &self.kept, moment, next, &times)
     }
@@ -100,6 +100,6 @@ impl Machine {
     {
         // by its type it has 1 to 128 characters
         let _ = id.as_slice();
-        self.tables.get(id).is_none() && !self.kept.is_named(id)
+        self.tables.registrations().get(id).is_none() && !self.kept.is_named(id)
     }
 }

@@ -1,11 +1,10 @@
 //! Serving requests: what was concluded is carried out, and its reply is kept.
 
 ghost use Rattle.std.specs.Prelude.{◌≡◌, ◌^◌, All, IfSome, IsSome, None, OnErr, OnOk, Some};
-ghost use Rattle.std.specs.Option.{option_copied};
 ghost use Rattle.ras_requests.specs.Plans.{Plan};
-ghost use Rattle.ras_requests.specs.Requests.{endpoint_of, seq_of};
+ghost use Rattle.ras_requests.specs.Requests.{endpoint_of};
 ghost use Rattle.zone_tables.specs.Changes.{IsPossible, IsRegistered};
-ghost use Rattle.ras_requests.specs.Conclusions.{RequestsUnits};
+ghost use Rattle.ras_requests.specs.Conclusions.{RequestsUnits, asker_of};
 ghost use Rattle.zone_tables.specs.UnitRequests.{IsUnitRequest, leg_of_purpose, units_requested};
 ghost use Rattle.ras_requests.specs.Conclusions.{served};
 ghost use Rattle.zone_tables.specs.Parts.{usage_of};
@@ -23,15 +22,12 @@ use crate::kept_entry::{keep, reserve, state_after};
 use crate::machine::Machine;
 use kept_replies::{KeptReply, KeptState};
 use ras_codec::write_reserved;
-use ras_module::{EndpointId, Octets, Request};
-use ras_requests::{Conclusion, Decision};
+use ras_module::{Octets, Reply, Request};
+use ras_requests::{Conclusion, Decision, endpoint_of, seq_of, unit_reply};
 use std::alloc::AllocError;
 use zone_config::Moment;
 use zone_events::{Datagram, Outcome};
 use zone_tables::{Lender, UnitRequest, ZoneTables};
-
-/// The octets that are enough for a reply to a request for which a pool is asked.
-const SHORT_REPLY: usize = 64;
 
 impl Machine {
     /// Serves a request: what was concluded about it is carried out, and its reply is kept. A new
@@ -88,13 +84,14 @@ impl Machine {
         decision: Decision,
         outcome: &mut Outcome,
     ) -> Result<(), AllocError>
-        requires possible { IsPossible self.old.tables decision.change }
+        requires possible { IsPossible self.old.tables (endpoint_of request.now) decision.change }
         requires unused { IfSome outcome.old.given (IsUnusedIn self.old) }
         requires placed { IsPlacedIn self.old job }
         requires timely { IsTimely self.old now job.occasion }
         requires sound { Sound self.old }
         ensures does { OnOk result ((plan : Plan)
-            → resolved plan outcome.old.given ≡ Some (served self.old.tables now decision)
+            → resolved plan outcome.old.given
+            ≡ Some (served self.old.tables now request.now decision)
             → Does self.old now (serving job now request.now plan) outcome.new self.new) }
         ensures given { OnOk result (outcome.new.given ≡ outcome.old.given) }
         ensures answer { OnOk result (outcome.new.answer ≡ None) }
@@ -105,8 +102,8 @@ impl Machine {
         let kept_reply = KeptReply::new(self.alloc, &reply, output.bytes.as_slice())?;
         let term = self.tables.config().term(now);
         let occasion = job.occasion;
-        reserve(&mut self.kept, now.milliseconds(), &job)?;
-        self.tables.apply(now, change)?;
+        reserve(&mut self.kept, &job)?;
+        self.tables.apply(now, endpoint_of(request), change)?;
         hear(&mut self.tables, occasion, now, request);
         let until = term.until;
         keep(
@@ -138,15 +135,14 @@ impl Machine {
     ) -> Result<(), AllocError>
         requires lends_for { L.lends_for lender.old self.old.tables.pools }
         requires may { IsUnitRequest (usage_of self.old.tables) unit_request }
-        requires leg { IfSome (leg_of_purpose unit_request.purpose)
+        requires leg { IfSome (leg_of_purpose (asker_of request) unit_request.purpose)
             (IsRegistered self.old.tables.live) }
-        requires seq { seq_of request ≡ unit_request.seq }
         requires endpoint { IsSome (endpoint_of request) }
         requires placed { IsPlacedIn self.old job }
         requires timely { IsTimely self.old now job.occasion }
         requires sound { Sound self.old }
         ensures does { OnOk result ((plan : Plan)
-            → RequestsUnits self.old.tables plan unit_request
+            → RequestsUnits self.old.tables request plan unit_request
             → Does self.old now (serving job now request plan) outcome.new self.new) }
         ensures asks { OnOk result (IsAskedOnce L.lends lender.old self.old.tables.pools
             (Some (units_requested unit_request)) outcome.new.answer lender.new) }
@@ -159,13 +155,14 @@ impl Machine {
         let term = config.term(now);
         let to = job.key.source;
         let occasion = job.occasion;
-        let mut bytes = Vec::with_capacity(self.alloc, SHORT_REPLY)?;
-        let buffer = Vec::with_capacity(self.alloc, SHORT_REPLY)?;
-        reserve(&mut self.kept, now.milliseconds(), &job)?;
-        let answer = self.tables.request_units(&unit_request, lender)?;
+        let mut bytes = Vec::with_capacity(self.alloc, Reply::SHORT)?;
+        let buffer = Vec::with_capacity(self.alloc, Reply::SHORT)?;
+        reserve(&mut self.kept, &job)?;
+        let endpoint = endpoint_of(&request).unwrap();
+        let answer = self.tables.request_units(endpoint, &unit_request, lender)?;
         hear(&mut self.tables, occasion, now, &request);
         let waits = occasion.waits(answer);
-        let reply = unit_request.reply(answer, waits, delay);
+        let reply = unit_reply(seq_of(&request), &unit_request, answer, waits, delay);
         write_reserved(&reply, &mut bytes);
         let kept_reply = KeptReply::in_buffer(buffer, &reply, &bytes);
         let state = state_after(request, reply, kept_reply, waits, term);
@@ -180,21 +177,6 @@ impl Machine {
     }
 }
 
-/// The endpointIdentifier of a request, if it has one.
-fn endpoint_of(request: &Request) -> Option<&EndpointId>
-    ensures { option_copied result ≡ endpoint_of request.now }
-{
-    match request {
-        Request::Grq(_) => None,
-        Request::Rrq(q) => q.get().endpoint.as_ref(),
-        Request::Urq(q) => q.get().endpoint.as_ref(),
-        Request::Arq(q) => Some(&q.get().endpoint),
-        Request::Brq(q) => Some(&q.get().endpoint),
-        Request::Drq(q) => Some(&q.get().endpoint),
-        Request::Irr(q) => Some(&q.get().endpoint),
-    }
-}
-
 /// Notes that the endpoint that a request names was heard, if it is registered and the request is
 /// served as it comes.
 fn hear(tables: &mut ZoneTables, occasion: Occasion, now: Moment, request: &Request)
@@ -202,9 +184,10 @@ fn hear(tables: &mut ZoneTables, occasion: Occasion, now: Moment, request: &Requ
     ensures heard { tables.new ≡ heard_at tables.old occasion now (endpoint_of request.now) }
     ensures sound { SoundTables tables.new }
 {
-    if let Occasion::First { .. } = occasion {
-        if let Some(id) = endpoint_of(request) {
-            tables.hear(now, id);
-        }
+    if let Occasion::Again { .. } = occasion {
+        return;
+    }
+    if let Some(id) = endpoint_of(request) {
+        tables.hear(now, id);
     }
 }

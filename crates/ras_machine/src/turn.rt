@@ -161,7 +161,7 @@ impl Machine {
         ensures err { OnErr result (self.new ≡ self.old) }
     {
         let seq = self.interrogation_number;
-        let to = self.tables.get(id).unwrap().ras;
+        let to = self.tables.registrations().get(id).unwrap().ras;
         let output = self.datagram(to, &Reply::Irq { seq })?;
         self.tables.interrogated(now, id);
         self.interrogation_number = following(seq);

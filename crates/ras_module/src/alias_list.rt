@@ -1,7 +1,7 @@
 //! Lists of aliases.
 
 ghost use Rattle.std.specs.Prelude.{◌≡◌, ◌↔◌, ◌++◌, ◌∷◌, ◌≤◌, [], length, IfOk};
-ghost use Rattle.std.specs.Prelude.{OnOk, OnErr, IsTrue, MatchResult, ◌<◌};
+ghost use Rattle.std.specs.Prelude.{OnOk, OnErr, IsTrue, MatchOption, ◌<◌, vec_capacity};
 ghost use Rattle.std.specs.Cmp.Lexicographic.{pointwise};
 ghost use Rattle.ras_module.specs.Aliases.{same_alias, has_alias, without_doubles};
 ghost use Rattle.ras_module.specs.Same.{aliases_equivalence, aliases_partial_equivalence};
@@ -121,36 +121,43 @@ impl Eq for AliasList {
     ghost laws = { aliases_equivalence };
 }
 
-/// The aliases of a reply, in order: at most 32 of them. Contracts see the list.
+/// The aliases of a reply or of a registration, in order: at most 32 of them, in memory for no more
+/// than that. Contracts see the list.
 #[derive(Drop)]
 pub struct ReplyAliases {
-    list: AliasList,
+    items: Vec<Alias>,
 }
 
 impl Model for ReplyAliases {
-    ghost use Rattle.std.specs.Prelude.{List, length, ◌≤◌};
+    ghost use Rattle.std.specs.Prelude.{List, vec_capacity, ◌≤◌};
     ghost use Rattle.ras_module.specs.declared.alias.Alias.{Alias};
 
     ghost Value = { List Alias };
 
-    ghost view = { λ a. a.list };
+    ghost view = { λ a. a.items.items };
 
-    ghost invariant = { λ a. length a.list ≤ 32 };
+    ghost invariant = { λ a. vec_capacity a.items ≤ 32 };
 }
 
 impl ReplyAliases {
     /// The most aliases of a reply.
     pub const MOST: usize = 32;
 
-    /// These aliases. The list comes back if and only if there are more than 32.
-    pub fn new(list: AliasList) -> Result<Self, AliasList>
-        ensures { MatchResult result (λ few. (few ≡ list) × (length list ≤ 32))
-            (λ many. (many ≡ list) × (32 < length list)) }
+    /// These aliases. None if and only if there are more than 32. A list that has memory for more is
+    /// copied, so that what is kept takes no more than it may.
+    pub fn new(list: AliasList) -> Result<Option<Self>, AllocError>
+        ensures { IfOk result (λ found. MatchOption found (32 < length list)
+            (λ few. (few ≡ list) × (length list ≤ 32))) }
     {
         if list.len() > Self::MOST {
-            return Err(list);
+            return Ok(None);
         }
-        Ok(ReplyAliases { list })
+        let AliasList { items } = list;
+        if items.capacity() <= Self::MOST {
+            return Ok(Some(ReplyAliases { items }));
+        }
+        let items = fitting(*items.allocator(), &items)?;
+        Ok(Some(ReplyAliases { items }))
     }
 
     /// The aliases, in order.
@@ -158,25 +165,36 @@ impl ReplyAliases {
         ensures items { result.now ≡ self.now }
         ensures few { length self.now ≤ 32 }
     {
-        self.list.as_slice()
+        self.items.as_slice()
     }
 
     /// The list of the aliases. This takes no memory.
     pub fn into_list(self) -> AliasList
         ensures { result ≡ self }
     {
-        let ReplyAliases { list } = self;
-        list
+        let ReplyAliases { items } = self;
+        AliasList { items }
     }
 
     /// An equal list.
     pub fn copy(&self) -> Result<Self, AllocError>
         ensures { IfOk result (λ copy. copy ≡ self.now) }
     {
-        Ok(ReplyAliases {
-            list: self.list.copy()?,
-        })
+        let items = fitting(*self.items.allocator(), &self.items)?;
+        Ok(ReplyAliases { items })
     }
+}
+
+/// Copies of these aliases, in memory for no more than these.
+fn fitting(alloc: Global, aliases: &[Alias]) -> Result<Vec<Alias>, AllocError>
+    ensures items { IfOk result (λ copy. copy.items ≡ aliases.now) }
+    ensures capacity { IfOk result (λ copy. vec_capacity copy ≡ length aliases.now) }
+{
+    let mut copy = Vec::with_capacity(alloc, aliases.len())?;
+    for alias in aliases {
+        copy.push_reserved(*alias);
+    }
+    Ok(copy)
 }
 
 impl PartialEq for ReplyAliases {
@@ -185,7 +203,7 @@ impl PartialEq for ReplyAliases {
     ghost laws = { aliases_partial_equivalence };
 
     fn eq(&self, other: &Self) -> bool {
-        self.list == other.list
+        self.as_slice() == other.as_slice()
     }
 }
 

@@ -121,7 +121,13 @@ impl RegistrationConfirm {
 }
 
 impl Reply {
-    /// Octets that are enough for the encoding of this reply: at most 20,000.
+    /// Octets that are enough for the encoding of any reply.
+    pub const MOST: usize = 20_000;
+
+    /// Octets that are enough for the encoding of a reply without aliases and names.
+    pub const SHORT: usize = 64;
+
+    /// Octets that are enough for the encoding of this reply: at most `MOST`.
     pub fn room(&self) -> usize
         ensures room { result ≡ room_of self.now }
         ensures most { result ≤ 20000 }
@@ -132,8 +138,8 @@ impl Reply {
             Reply::Rrj {
                 reason: RegistrationRejectReason::DuplicateAlias(held),
                 ..
-            } => 64 + 516 * held.as_slice().len(),
-            _ => 64,
+            } => Self::SHORT + 516 * held.as_slice().len(),
+            _ => Self::SHORT,
         }
     }
 
@@ -141,57 +147,34 @@ impl Reply {
     pub fn copy(&self) -> Result<Reply, AllocError>
         ensures { IfOk result (λ copy. copy ≡ self.now) }
     {
-        match self {
-            Reply::Gcf(confirm) => Ok(Reply::Gcf(confirm.copy()?)),
-            Reply::Grj { seq, reason } => Ok(Reply::Grj {
-                seq: *seq,
-                reason: *reason,
-            }),
-            Reply::Rcf(confirm) => {
-                let copy = confirm.get().copy()?;
-                Ok(Reply::Rcf(Boxed::new(confirm.allocator(), copy)?))
+        Ok(match *self {
+            Reply::Gcf(ref confirm) => Reply::Gcf(confirm.copy()?),
+            Reply::Grj { seq, reason } => Reply::Grj { seq, reason },
+            Reply::Rcf(ref confirm) => {
+                Reply::Rcf(Boxed::new(confirm.allocator(), confirm.get().copy()?)?)
             }
-            Reply::Rrj { seq, reason } => Ok(Reply::Rrj {
-                seq: *seq,
+            Reply::Rrj { seq, ref reason } => Reply::Rrj {
+                seq,
                 reason: reason.copy()?,
-            }),
-            Reply::Ucf { seq } => Ok(Reply::Ucf { seq: *seq }),
-            Reply::Urj { seq, reason } => Ok(Reply::Urj {
-                seq: *seq,
-                reason: *reason,
-            }),
-            Reply::Acf { seq, units, dest } => Ok(Reply::Acf {
-                seq: *seq,
-                units: *units,
-                dest: *dest,
-            }),
-            Reply::Arj { seq, reason } => Ok(Reply::Arj {
-                seq: *seq,
-                reason: *reason,
-            }),
-            Reply::Bcf { seq, units } => Ok(Reply::Bcf {
-                seq: *seq,
-                units: *units,
-            }),
+            },
+            Reply::Ucf { seq } => Reply::Ucf { seq },
+            Reply::Urj { seq, reason } => Reply::Urj { seq, reason },
+            Reply::Acf { seq, units, dest } => Reply::Acf { seq, units, dest },
+            Reply::Arj { seq, reason } => Reply::Arj { seq, reason },
+            Reply::Bcf { seq, units } => Reply::Bcf { seq, units },
             Reply::Brj {
                 seq,
                 reason,
                 allowed,
-            } => Ok(Reply::Brj {
-                seq: *seq,
-                reason: *reason,
-                allowed: *allowed,
-            }),
-            Reply::Dcf { seq } => Ok(Reply::Dcf { seq: *seq }),
-            Reply::Drj { seq, reason } => Ok(Reply::Drj {
-                seq: *seq,
-                reason: *reason,
-            }),
-            Reply::Irq { seq } => Ok(Reply::Irq { seq: *seq }),
-            Reply::Rip { seq, delay } => Ok(Reply::Rip {
-                seq: *seq,
-                delay: *delay,
-            }),
-        }
+            } => Reply::Brj {
+                seq,
+                reason,
+                allowed,
+            },
+            Reply::Dcf { seq } => Reply::Dcf { seq },
+            Reply::Drj { seq, reason } => Reply::Drj { seq, reason },
+            Reply::Irq { seq } => Reply::Irq { seq },
+            Reply::Rip { seq, delay } => Reply::Rip { seq, delay },
+        })
     }
 }

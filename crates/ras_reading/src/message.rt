@@ -12,7 +12,7 @@ use crate::request::{
     info_request_response, registration_request, unregistration_request,
 };
 use ras_grammar::{Decoder, ReadFault};
-use ras_module::{Boxed, Request};
+use ras_module::Request;
 use std::alloc::Global;
 
 fn root_message(alloc: Global, decoder: &mut Decoder<'_>) -> Result<Option<Request>, ReadFault>
@@ -21,16 +21,13 @@ fn root_message(alloc: Global, decoder: &mut Decoder<'_>) -> Result<Option<Reque
     let mut ahead = decoder.ahead();
     let index = ahead.choice_index(24)?;
     let request = match index {
-        0 => Some(Request::Grq(Boxed::new(alloc, gatekeeper_request(&mut ahead)?)?)),
-        3 => {
-            let request = registration_request(alloc, &mut ahead)?;
-            Some(Request::Rrq(Boxed::new(alloc, request)?))
-        }
-        6 => Some(Request::Urq(Boxed::new(alloc, unregistration_request(&mut ahead)?)?)),
-        9 => Some(Request::Arq(Boxed::new(alloc, admission_request(alloc, &mut ahead)?)?)),
-        12 => Some(Request::Brq(Boxed::new(alloc, bandwidth_request(&mut ahead)?)?)),
-        15 => Some(Request::Drq(Boxed::new(alloc, disengage_request(&mut ahead)?)?)),
-        22 => Some(Request::Irr(Boxed::new(alloc, info_request_response(&mut ahead)?)?)),
+        0 => Some(Request::Grq(gatekeeper_request(alloc, &mut ahead)?)),
+        3 => Some(Request::Rrq(registration_request(alloc, &mut ahead)?)),
+        6 => Some(Request::Urq(unregistration_request(alloc, &mut ahead)?)),
+        9 => Some(Request::Arq(admission_request(alloc, &mut ahead)?)),
+        12 => Some(Request::Brq(bandwidth_request(alloc, &mut ahead)?)),
+        15 => Some(Request::Drq(disengage_request(alloc, &mut ahead)?)),
+        22 => Some(Request::Irr(info_request_response(alloc, &mut ahead)?)),
         _ => None,
     };
     *decoder = ahead;

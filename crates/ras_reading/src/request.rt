@@ -24,15 +24,18 @@ use crate::sequence::{
 };
 use ras_grammar::{Decoder, ReadFault};
 use ras_module::{
-    AdmissionRequest, BandwidthRequest, DisengageRequest, EndpointId, GatekeeperRequest,
+    AdmissionRequest, BandwidthRequest, Boxed, DisengageRequest, EndpointId, GatekeeperRequest,
     InfoRequestResponse, RegistrationRequest, TimeToLive, UnregistrationRequest,
 };
 use std::alloc::Global;
 
 /// GatekeeperRequest. What stands after gatekeeperIdentifier is not read.
 #[tactic(auto, unfolding(crate::specs::Requests::gatekeeper_request))]
-pub fn gatekeeper_request(decoder: &mut Decoder<'_>) -> Result<GatekeeperRequest, ReadFault>
-    ensures { Gives gatekeeper_request.reading decoder.old result decoder.new }
+pub fn gatekeeper_request(
+    alloc: Global,
+    decoder: &mut Decoder<'_>,
+) -> Result<Boxed<GatekeeperRequest>, ReadFault>
+    ensures { GivesUnlessMemory gatekeeper_request.reading decoder.old result decoder.new }
 {
     let mut ahead = decoder.ahead();
     let _extended = ahead.boolean()?;
@@ -46,8 +49,9 @@ pub fn gatekeeper_request(decoder: &mut Decoder<'_>) -> Result<GatekeeperRequest
     let _ras = transport_address(&mut ahead)?;
     endpoint_type(&mut ahead)?;
     let gatekeeper = optional_identifier(&mut ahead, has_gatekeeper)?;
+    let request = Boxed::new(alloc, GatekeeperRequest { seq, gatekeeper })?;
     *decoder = ahead;
-    Ok(GatekeeperRequest { seq, gatekeeper })
+    Ok(request)
 }
 
 /// What is read of the additions of a RegistrationRequest.
@@ -139,7 +143,7 @@ fn registration_additions(
 pub fn registration_request(
     alloc: Global,
     decoder: &mut Decoder<'_>,
-) -> Result<RegistrationRequest, ReadFault>
+) -> Result<Boxed<RegistrationRequest>, ReadFault>
     ensures { GivesUnlessMemory registration_request.reading decoder.old result decoder.new }
 {
     let mut ahead = decoder.ahead();
@@ -158,23 +162,30 @@ pub fn registration_request(
     let gatekeeper = optional_identifier(&mut ahead, has_gatekeeper)?;
     vendor_identifier(&mut ahead)?;
     let more = registration_additions(&mut ahead, extended)?;
+    let request = Boxed::new(
+        alloc,
+        RegistrationRequest {
+            seq,
+            call_signal,
+            ras,
+            aliases,
+            gatekeeper,
+            time_to_live: more.time_to_live,
+            keep_alive: more.keep_alive,
+            endpoint: more.endpoint,
+        },
+    )?;
     *decoder = ahead;
-    Ok(RegistrationRequest {
-        seq,
-        call_signal,
-        ras,
-        aliases,
-        gatekeeper,
-        time_to_live: more.time_to_live,
-        keep_alive: more.keep_alive,
-        endpoint: more.endpoint,
-    })
+    Ok(request)
 }
 
 /// UnregistrationRequest. Its additions are not read.
 #[tactic(auto, unfolding(crate::specs::Requests::unregistration_request))]
-pub fn unregistration_request(decoder: &mut Decoder<'_>) -> Result<UnregistrationRequest, ReadFault>
-    ensures { Gives unregistration_request.reading decoder.old result decoder.new }
+pub fn unregistration_request(
+    alloc: Global,
+    decoder: &mut Decoder<'_>,
+) -> Result<Boxed<UnregistrationRequest>, ReadFault>
+    ensures { GivesUnlessMemory unregistration_request.reading decoder.old result decoder.new }
 {
     let mut ahead = decoder.ahead();
     let _extended = ahead.boolean()?;
@@ -186,12 +197,16 @@ pub fn unregistration_request(decoder: &mut Decoder<'_>) -> Result<Unregistratio
     skip_aliases(&mut ahead, has_aliases)?;
     skip_non_standard_data(&mut ahead, has_non_standard_data)?;
     let endpoint = optional_identifier(&mut ahead, has_endpoint)?;
+    let request = Boxed::new(
+        alloc,
+        UnregistrationRequest {
+            seq,
+            call_signal,
+            endpoint: endpoint.map(EndpointId::new),
+        },
+    )?;
     *decoder = ahead;
-    Ok(UnregistrationRequest {
-        seq,
-        call_signal,
-        endpoint: endpoint.map(EndpointId::new),
-    })
+    Ok(request)
 }
 
 /// The extension bit of an AdmissionRequest, and which of its components are there.
@@ -231,7 +246,7 @@ fn admission_preamble(decoder: &mut Decoder<'_>) -> Result<AdmissionPreamble, Re
 pub fn admission_request(
     alloc: Global,
     decoder: &mut Decoder<'_>,
-) -> Result<AdmissionRequest, ReadFault>
+) -> Result<Boxed<AdmissionRequest>, ReadFault>
     ensures { GivesUnlessMemory admission_request.reading decoder.old result decoder.new }
 {
     let mut ahead = decoder.ahead();
@@ -255,22 +270,29 @@ pub fn admission_request(
     let present = additions(&mut ahead, there.extended)?;
     skip_addition(&mut ahead, &present, 0)?;
     let guid = call_identifier_at(&mut ahead, &present, 1)?;
+    let request = Boxed::new(
+        alloc,
+        AdmissionRequest {
+            seq,
+            endpoint,
+            dest,
+            dest_address,
+            asked,
+            call: call_key(conference, guid),
+            answer,
+        },
+    )?;
     *decoder = ahead;
-    Ok(AdmissionRequest {
-        seq,
-        endpoint,
-        dest,
-        dest_address,
-        asked,
-        call: call_key(conference, guid),
-        answer,
-    })
+    Ok(request)
 }
 
 /// BandwidthRequest.
 #[tactic(auto, unfolding(crate::specs::Requests::bandwidth_request))]
-pub fn bandwidth_request(decoder: &mut Decoder<'_>) -> Result<BandwidthRequest, ReadFault>
-    ensures { Gives bandwidth_request.reading decoder.old result decoder.new }
+pub fn bandwidth_request(
+    alloc: Global,
+    decoder: &mut Decoder<'_>,
+) -> Result<Boxed<BandwidthRequest>, ReadFault>
+    ensures { GivesUnlessMemory bandwidth_request.reading decoder.old result decoder.new }
 {
     let mut ahead = decoder.ahead();
     let extended = ahead.boolean()?;
@@ -285,19 +307,26 @@ pub fn bandwidth_request(decoder: &mut Decoder<'_>) -> Result<BandwidthRequest, 
     skip_non_standard_data(&mut ahead, has_non_standard_data)?;
     let present = additions(&mut ahead, extended)?;
     let guid = call_identifier_at(&mut ahead, &present, 0)?;
+    let request = Boxed::new(
+        alloc,
+        BandwidthRequest {
+            seq,
+            endpoint,
+            call: call_key(conference, guid),
+            asked,
+        },
+    )?;
     *decoder = ahead;
-    Ok(BandwidthRequest {
-        seq,
-        endpoint,
-        call: call_key(conference, guid),
-        asked,
-    })
+    Ok(request)
 }
 
 /// DisengageRequest.
 #[tactic(auto, unfolding(crate::specs::Requests::disengage_request))]
-pub fn disengage_request(decoder: &mut Decoder<'_>) -> Result<DisengageRequest, ReadFault>
-    ensures { Gives disengage_request.reading decoder.old result decoder.new }
+pub fn disengage_request(
+    alloc: Global,
+    decoder: &mut Decoder<'_>,
+) -> Result<Boxed<DisengageRequest>, ReadFault>
+    ensures { GivesUnlessMemory disengage_request.reading decoder.old result decoder.new }
 {
     let mut ahead = decoder.ahead();
     let extended = ahead.boolean()?;
@@ -310,18 +339,25 @@ pub fn disengage_request(decoder: &mut Decoder<'_>) -> Result<DisengageRequest, 
     skip_non_standard_data(&mut ahead, has_non_standard_data)?;
     let present = additions(&mut ahead, extended)?;
     let guid = call_identifier_at(&mut ahead, &present, 0)?;
+    let request = Boxed::new(
+        alloc,
+        DisengageRequest {
+            seq,
+            endpoint,
+            call: call_key(conference, guid),
+        },
+    )?;
     *decoder = ahead;
-    Ok(DisengageRequest {
-        seq,
-        endpoint,
-        call: call_key(conference, guid),
-    })
+    Ok(request)
 }
 
 /// InfoRequestResponse. What stands after endpointIdentifier is not read.
 #[tactic(auto, unfolding(crate::specs::Requests::info_request_response))]
-pub fn info_request_response(decoder: &mut Decoder<'_>) -> Result<InfoRequestResponse, ReadFault>
-    ensures { Gives info_request_response.reading decoder.old result decoder.new }
+pub fn info_request_response(
+    alloc: Global,
+    decoder: &mut Decoder<'_>,
+) -> Result<Boxed<InfoRequestResponse>, ReadFault>
+    ensures { GivesUnlessMemory info_request_response.reading decoder.old result decoder.new }
 {
     let mut ahead = decoder.ahead();
     let _extended = ahead.boolean()?;
@@ -332,6 +368,7 @@ pub fn info_request_response(decoder: &mut Decoder<'_>) -> Result<InfoRequestRes
     let seq = request_seq_num(&mut ahead)?;
     endpoint_type(&mut ahead)?;
     let endpoint = endpoint_identifier(&mut ahead)?;
+    let request = Boxed::new(alloc, InfoRequestResponse { seq, endpoint })?;
     *decoder = ahead;
-    Ok(InfoRequestResponse { seq, endpoint })
+    Ok(request)
 }

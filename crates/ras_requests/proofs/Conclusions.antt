@@ -1,21 +1,29 @@
 -- Decisions about requests.
-use Rattle.std.proofs.Common.{◌≡◌, ℕ, false, List, sym, ◌∙◌}
-use Rattle.std.proofs.Common.{ap, Some}
-use Rattle.std.specs.Prelude.{if◌then◌else◌}
+use Rattle.std.proofs.Common.{Bor, ◌≡◌, ℕ, false, List, sym, ◌∙◌}
+use Rattle.std.proofs.Common.{ap, None, Some}
+use Rattle.std.specs.Prelude.{IfSome, Option, if◌then◌else◌}
+use Rattle.std.specs.Option.{option_copied}
 use Rattle.std.specs.FinMap as fin
+use Rattle.keyed.specs.Maps.{update}
+use Rattle.keyed.proofs.Decide.{some_none}
+use Rattle.ras_module.specs.declared.address.Address.{Address}
 use Rattle.ras_module.specs.declared.reply.Reply.{Reply}
+use Rattle.ras_module.specs.declared.request.Request.TheVariants.{Rrq}
 use Rattle.ras_module.specs.declared.reason.RegistrationRejectReason.TheVariants as reject
 use reject.{FullRegistrationRequired}
 use Rattle.ras_module.specs.declared.request.RegistrationRequest.{RegistrationRequest}
 use Rattle.registrations.specs.declared.registration.Registration.{Registration}
-use Rattle.registrations.specs.Registry.{IsConsistent}
+use Rattle.registrations.specs.Registry.{IsConsistent, at_address, with_deadline}
+use Rattle.registrations.proofs.Consistent.{IsAt-found}
 use Rattle.zone_tables.specs.declared.change.Change.TheVariants.{Endpoint}
 use Rattle.zone_tables.specs.declared.change.EndpointChange.TheVariants.{Renewal}
-use Rattle.zone_tables.specs.Tables.{Tables}
+use Rattle.zone_tables.specs.Tables.{Tables, identifier_at, identifier_or_none, with_live}
 use Rattle.ras_requests.specs.Rrq.{keep_alive, named, has_moved, confirmation, deadline}
 use Rattle.ras_requests.specs.Rrq.{rejection}
-use Rattle.ras_requests.specs.Conclusions.{Decides, served}
+use Rattle.ras_requests.specs.Urq.{leaving}
+use Rattle.ras_requests.specs.Conclusions.{Decides}
 use Rattle.ras_requests.specs.Plans.{Settled}
+use Rattle.zone_tables.proofs.Addressed.{found_at}
 use Rattle.zone_tables.proofs.Answered.{is_there}
 
 -- a registration is kept alive
@@ -23,22 +31,37 @@ pub Decides-renewal : (z : Tables) (now : ℕ) (q : RegistrationRequest) (id : L
     (r : Registration) (reply : Reply) (until : ℕ) → IsConsistent z.live
     → q.endpoint ≡ Some id → fin.get z.live id ≡ Some r → has_moved r q.ras ≡ false
     → reply ≡ confirmation z q r.call_signal r.aliases r.identifier → until ≡ deadline z now q
-    → Decides z now (keep_alive z now q (named z q.endpoint))
-    (record { reply = reply; change = Endpoint (Renewal r.identifier until) })
-Decides-renewal z now q id r reply until sound names there stays reply_is until_is = record {
-  possible = (
-    is_there (fin.get z.live r.identifier) r
-        (ap (fin.get z.live) (sound.own id r there) ∙ there),
-    tt,
-  );
-  is = ap (keep_alive z now q) (ap (named z) names ∙ there)
-      ∙ ap (λ b. if b then rejection z q FullRegistrationRequired else Settled
-      (served z now (record {
-        reply = confirmation z q r.call_signal r.aliases r.identifier;
-        change = Endpoint (Renewal r.identifier (deadline z now q));
-      }))) stays
-      ∙ (λ i. Settled (served z now (record {
-        reply = sym reply_is i;
-        change = Endpoint (Renewal r.identifier (sym until_is i));
-      })));
-}
+    → Decides z now (Rrq q) (keep_alive z now q (named z q.endpoint))
+    (record { reply = reply; change = Endpoint (Renewal r.call_signal until) })
+Decides-renewal z now q id r reply until sound names there stays reply_is until_is =
+    let at = found_at z.live sound id r there in
+    let here : identifier_at z.live r.call_signal ≡ r.identifier = ap identifier_or_none at in
+    record {
+      possible = (is_there (at_address z.live r.call_signal) r at, tt);
+      is = ap (keep_alive z now q) (ap (named z) names ∙ there)
+          ∙ ap (λ b. if b then rejection z q FullRegistrationRequired else Settled (record {
+            reply = confirmation z q r.call_signal r.aliases r.identifier;
+            tables = with_live z (update z.live r.identifier
+                (with_deadline (deadline z now q)));
+          })) stays
+          ∙ (λ i. Settled (record {
+            reply = sym reply_is i;
+            tables = with_live z (update z.live (sym here i) (with_deadline (sym until_is i)));
+          }));
+    }
+
+-- what holds of a registration that is found holds of the one that is lent
+pub some_lent : (w : Option (Bor Registration)) (v : Option Registration)
+    (P : Registration → Type 0) → option_copied w ≡ v → ((r : Registration) → v ≡ Some r → P r)
+    → IfSome w (λ r. P r.now)
+some_lent None v P is so = tt
+some_lent (Some r) v P is so = so r.now (sym is)
+
+-- who unregisters is found by its address
+pub leaving_at : (z : Tables) → IsConsistent z.live → (endpoint : Option (List ℕ))
+    (call_signal : Option Address) (r : Registration)
+    → leaving z endpoint call_signal ≡ Some r → at_address z.live r.call_signal ≡ Some r
+leaving_at z sound (Some id) call_signal r found = found_at z.live sound id r found
+leaving_at z sound None (Some address) r found =
+    ap (at_address z.live) (IsAt-found z.live sound address r found).address_is ∙ found
+leaving_at z sound None None r found = some_none (sym found)

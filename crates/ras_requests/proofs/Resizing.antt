@@ -5,6 +5,7 @@ use Rattle.std.specs.Prelude.{nat_le, if◌then◌else◌}
 use Rattle.std.specs.FinMap as fin
 use Rattle.std.proofs.lemmas.Bool.Decides.{nat_tests}
 use Rattle.ras_module.specs.declared.request.BandwidthRequest.{BandwidthRequest}
+use Rattle.ras_module.specs.declared.request.Request.TheVariants.{Brq}
 use Rattle.admission.specs.declared.call.Call.{Call}
 use Rattle.admission.specs.Calls.{in_use}
 use Rattle.zone_tables.specs.declared.unit_request.Purpose.TheVariants.{Raising}
@@ -18,8 +19,7 @@ module _ (z : Tables) (q : BandwidthRequest) (call : Call) (w r n l : ℕ) where
   pub RequestsUnits-resizing : fin.get z.calls q.call ≡ Some call → call.pool < length z.pools
       → in_use z.calls ≤ z.config.limit → w ≡ wanted z q.asked → call.units < w → r ≡ units_left z
       → 0 < r → n ≡ min (w - call.units) r → l ≡ least_units z w - call.units
-      → RequestsUnits z (resizing z q call) (record {
-        seq = q.seq;
+      → RequestsUnits z (Brq q) (resizing z q call) (record {
         call = q.call;
         pool = call.pool;
         units = n;
@@ -48,6 +48,7 @@ module _ (z : Tables) (q : BandwidthRequest) (call : Call) (w r n l : ℕ) where
             limit = omega (arith, n_is, w_is, more);
           };
         };
+        names = refl;
         registered = tt;
         is =
             ap (λ (b : Bool). if b then Settled (lowering z q call (wanted z q.asked))

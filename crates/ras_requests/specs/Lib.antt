@@ -7,4 +7,5 @@ pub mod Brq
 pub mod Arq
 pub mod Drq
 pub mod Requests
+pub mod Replies
 pub mod Conclusions

@@ -4,11 +4,11 @@ ghost use Rattle.std.specs.Prelude.{◌≡◌, ◌≤◌, ◌-◌, None, Some};
 ghost use Rattle.std.specs.FinMap as fin;
 ghost use Rattle.ras_requests.specs.Brq.{bandwidth, least_units, resizing, units_left, wanted};
 ghost use Rattle.zone_tables.specs.Soundness.{SoundTables};
-ghost use Rattle.ras_requests.specs.Conclusions.{Concludes, IsFor};
+ghost use Rattle.ras_requests.specs.Conclusions.{Concludes};
 
 use crate::conclusion::{Conclusion, Decision};
 use admission::Call;
-use ras_module::{BandRejectReason, BandwidthRequest, Reply};
+use ras_module::{BandRejectReason, BandwidthRequest, Reply, Request};
 use zone_config::Moment;
 use zone_tables::{CallChange, Change, Purpose, UnitRequest, ZoneTables};
 
@@ -17,7 +17,7 @@ pub(crate) fn units_left(tables: &ZoneTables) -> u64
     ensures left { result ≡ units_left tables.now }
     ensures sound { SoundTables tables.now }
 {
-    tables.config().parts().limit - tables.in_use()
+    tables.config().parts().limit - tables.calls().total()
 }
 
 /// The units that are asked for, but no more than a call may have.
@@ -37,9 +37,8 @@ pub(crate) fn least_units(tables: &ZoneTables, wanted: u32) -> u32
 /// A call gives units back, or its pool is asked for more.
 fn resize(tables: &ZoneTables, now: Moment, q: &BandwidthRequest, call: &Call) -> Conclusion
     requires call { fin.get tables.now.calls q.now.call ≡ Some call.now }
-    ensures concludes { Concludes tables.now now
+    ensures concludes { Concludes tables.now now (Request.Brq q.now)
         (resizing tables.now q.now call.now) result }
-    ensures about { IsFor q.now.seq (Some q.now.endpoint) result }
 {
     let wanted = wanted(tables, q.asked);
     if wanted <= call.units {
@@ -51,7 +50,6 @@ fn resize(tables: &ZoneTables, now: Moment, q: &BandwidthRequest, call: &Call) -
         return Conclusion::Settled(rejection(q, reason, call.units));
     }
     Conclusion::Asking(UnitRequest {
-        seq: q.seq,
         call: q.call,
         pool: call.pool,
         units: u64::from(wanted - call.units).min(left) as u32,
@@ -62,13 +60,13 @@ fn resize(tables: &ZoneTables, now: Moment, q: &BandwidthRequest, call: &Call) -
 
 /// What is decided about a BandwidthRequest.
 pub(crate) fn change_bandwidth(tables: &ZoneTables, now: Moment, q: &BandwidthRequest) -> Conclusion
-    ensures concludes { Concludes tables.now now (bandwidth tables.now q.now) result }
-    ensures about { IsFor q.now.seq (Some q.now.endpoint) result }
+    ensures concludes { Concludes tables.now now (Request.Brq q.now)
+        (bandwidth tables.now q.now) result }
 {
-    if tables.get(&q.endpoint).is_none() {
+    if tables.registrations().get(&q.endpoint).is_none() {
         return rejected(q, BandRejectReason::NotBound);
     }
-    let Some(call) = tables.call(&q.call) else {
+    let Some(call) = tables.calls().get(&q.call) else {
         return rejected(q, BandRejectReason::InvalidConferenceId);
     };
     if call.legs.get(&q.endpoint).is_none() {

@@ -1,33 +1,26 @@
 //! Disengaging from calls.
 
-ghost use Rattle.std.specs.Prelude.{◌≡◌, IfOk, None};
+ghost use Rattle.std.specs.Prelude.{◌≡◌};
 ghost use Rattle.ras_requests.specs.Drq.{disengagement};
 ghost use Rattle.ras_requests.specs.Conclusions.{Decides};
 
 use crate::conclusion::Decision;
-use ras_module::{Boxed, DisengageRejectReason, DisengageRequest, Reply};
-use std::alloc::{AllocError, Global};
+use ras_module::{DisengageRejectReason, DisengageRequest, Reply, Request};
 use zone_config::Moment;
 use zone_tables::{CallChange, Change, ZoneTables};
 
 /// What is decided about a DisengageRequest.
-pub(crate) fn disengage(
-    alloc: Global,
-    tables: &ZoneTables,
-    now: Moment,
-    q: &DisengageRequest,
-) -> Result<Decision, AllocError>
-    ensures decides { IfOk result (Decides tables.now now (disengagement tables.now q.now)) }
+pub(crate) fn disengage(tables: &ZoneTables, now: Moment, q: &DisengageRequest) -> Decision
+    ensures decides { Decides tables.now now (Request.Drq q.now)
+        (disengagement tables.now q.now) result }
 {
-    if tables.get(&q.endpoint).is_none() {
-        return Ok(rejection(q, DisengageRejectReason::NotRegistered));
+    if tables.registrations().get(&q.endpoint).is_none() {
+        return rejection(q, DisengageRejectReason::NotRegistered);
     }
-    if tables.leg(&q.call, &q.endpoint).is_none() {
-        return Ok(rejection(q, DisengageRejectReason::RequestToDropOther));
+    if tables.calls().leg(&q.call, &q.endpoint).is_none() {
+        return rejection(q, DisengageRejectReason::RequestToDropOther);
     }
-    let endpoint = Boxed::new(alloc, q.endpoint)?;
-    let leaving = CallChange::Leaving(q.call, endpoint);
-    Ok(Decision::calls(Reply::Dcf { seq: q.seq }, leaving))
+    Decision::calls(Reply::Dcf { seq: q.seq }, CallChange::Leaving(q.call))
 }
 
 /// A DisengageReject.

@@ -1,6 +1,6 @@
 //! Gatekeeper discovery.
 
-ghost use Rattle.std.specs.Prelude.{◌≡◌, IfOk};
+ghost use Rattle.std.specs.Prelude.{◌≡◌, IfOk, OnErr, false};
 ghost use Rattle.ras_requests.specs.Grq.{discovery, is_foreign};
 
 use ras_module::{
@@ -25,7 +25,8 @@ pub(crate) fn discover(
     tables: &ZoneTables,
     q: &GatekeeperRequest,
 ) -> Result<Reply, AllocError>
-    ensures { IfOk result (λ reply. reply ≡ discovery tables.now q.now) }
+    ensures reply { IfOk result (λ reply. reply ≡ discovery tables.now q.now) }
+    ensures memory { OnErr result (is_foreign tables.now q.now.gatekeeper ≡ false) }
 {
     if is_foreign(tables, &q.gatekeeper) {
         return Ok(Reply::Grj {

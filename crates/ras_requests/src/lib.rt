@@ -8,9 +8,11 @@ mod brq;
 mod conclusion;
 mod drq;
 mod grq;
+mod replies;
 mod requests;
 mod rrq;
 mod urq;
 
 pub use conclusion::{Conclusion, Decision, Newcomer};
-pub use requests::decide;
+pub use replies::unit_reply;
+pub use requests::{decide, endpoint_of, seq_of};

@@ -1,8 +1,9 @@
 //! What is concluded about a request, of whatever kind it is.
 
-ghost use Rattle.std.specs.Prelude.{IfOk};
+ghost use Rattle.std.specs.Prelude.{◌≡◌, IfOk, OnErr};
+ghost use Rattle.std.specs.Option.{option_copied};
 ghost use Rattle.ras_requests.specs.Requests.{HasReply, endpoint_of, seq_of};
-ghost use Rattle.ras_requests.specs.Conclusions.{IsConclusion, IsFor};
+ghost use Rattle.ras_requests.specs.Conclusions.{IsConclusion, MayWantMemory};
 
 use crate::arq::admit;
 use crate::brq::change_bandwidth;
@@ -11,7 +12,7 @@ use crate::drq::disengage;
 use crate::grq::discover;
 use crate::rrq::register;
 use crate::urq::unregister;
-use ras_module::Request;
+use ras_module::{EndpointId, Request, RequestSeqNum};
 use std::alloc::{AllocError, Global};
 use zone_config::Moment;
 use zone_tables::ZoneTables;
@@ -26,7 +27,7 @@ pub fn decide(
 ) -> Result<Conclusion, AllocError>
     requires { HasReply request.now }
     ensures concludes { IfOk result (IsConclusion tables.now now request.now) }
-    ensures about { IfOk result (IsFor (seq_of request.now) (endpoint_of request.now)) }
+    ensures memory { OnErr result (MayWantMemory tables.now request.now) }
 {
     match request {
         Request::Grq(q) => {
@@ -34,10 +35,40 @@ pub fn decide(
             Ok(Conclusion::Settled(Decision::reply(reply)))
         }
         Request::Rrq(q) => register(alloc, tables, now, q.get()),
-        Request::Urq(q) => Ok(Conclusion::Settled(unregister(alloc, tables, now, q.get())?)),
-        Request::Arq(q) => admit(alloc, tables, now, q.get()),
+        Request::Urq(q) => Ok(Conclusion::Settled(unregister(tables, now, q.get()))),
+        Request::Arq(q) => Ok(admit(tables, now, q.get())),
         Request::Brq(q) => Ok(change_bandwidth(tables, now, q.get())),
-        Request::Drq(q) => Ok(Conclusion::Settled(disengage(alloc, tables, now, q.get())?)),
+        Request::Drq(q) => Ok(Conclusion::Settled(disengage(tables, now, q.get()))),
         Request::Irr(_) => unreachable!(),
+    }
+}
+
+/// The requestSeqNum of a request.
+pub fn seq_of(request: &Request) -> RequestSeqNum
+    ensures { result ≡ seq_of request.now }
+{
+    match request {
+        Request::Grq(q) => q.get().seq,
+        Request::Rrq(q) => q.get().seq,
+        Request::Urq(q) => q.get().seq,
+        Request::Arq(q) => q.get().seq,
+        Request::Brq(q) => q.get().seq,
+        Request::Drq(q) => q.get().seq,
+        Request::Irr(q) => q.get().seq,
+    }
+}
+
+/// The endpointIdentifier of a request, if it has one.
+pub fn endpoint_of(request: &Request) -> Option<&EndpointId>
+    ensures { option_copied result ≡ endpoint_of request.now }
+{
+    match request {
+        Request::Grq(_) => None,
+        Request::Rrq(q) => q.get().endpoint.as_ref(),
+        Request::Urq(q) => q.get().endpoint.as_ref(),
+        Request::Arq(q) => Some(&q.get().endpoint),
+        Request::Brq(q) => Some(&q.get().endpoint),
+        Request::Drq(q) => Some(&q.get().endpoint),
+        Request::Irr(q) => Some(&q.get().endpoint),
     }
 }

@@ -1,19 +1,20 @@
 //! Registration of endpoints.
 
-ghost use Rattle.std.specs.Prelude.{◌≡◌, ◌<◌, IfOk, MatchOption, [], length};
+ghost use Rattle.std.specs.Prelude.{◌≡◌, ◌<◌, IfOk, MatchOption, OnErr, [], false, length};
 ghost use Rattle.ras_module.specs.Aliases.{has_alias, without_doubles};
 ghost use Rattle.registrations.specs.Registry.{at_address};
 ghost use Rattle.registrations.specs.Agreement.{registered_elsewhere};
 ghost use Rattle.ras_requests.specs.Rrq.{confirmation, deadline, granted, has_moved};
 ghost use Rattle.ras_requests.specs.Rrq.{entering, full_registration};
 ghost use Rattle.ras_requests.specs.Rrq.{keep_alive, named, registration};
-ghost use Rattle.ras_requests.specs.Conclusions.{Concludes, Decides, IsFor};
+ghost use Rattle.ras_requests.specs.Conclusions.{Concludes, Decides};
+ghost use Rattle.ras_requests.specs.Grq.{is_foreign};
 
 use crate::conclusion::{Conclusion, Decision, Newcomer};
 use crate::grq::is_foreign;
 use ras_module::{
     Address, Alias, AliasList, Boxed, EndpointId, RegistrationConfirm, RegistrationRejectReason,
-    RegistrationRequest, Reply, ReplyAliases, TimeToLive,
+    RegistrationRequest, Reply, ReplyAliases, Request, TimeToLive,
 };
 use registrations::Registration;
 use std::alloc::{AllocError, Global};
@@ -69,23 +70,23 @@ fn keep_alive(
     now: Moment,
     q: &RegistrationRequest,
 ) -> Result<Decision, AllocError>
-    ensures { IfOk result (Decides tables.now now
+    ensures { IfOk result (Decides tables.now now (Request.Rrq q.now)
         (keep_alive tables.now now q.now (named tables.now q.now.endpoint))) }
 {
     let Some(id) = &q.endpoint else {
         return Ok(rejection(q, RegistrationRejectReason::FullRegistrationRequired));
     };
-    let Some(r) = tables.get(id) else {
+    let Some(r) = tables.registrations().get(id) else {
         return Ok(rejection(q, RegistrationRejectReason::FullRegistrationRequired));
     };
     if has_moved(r, q.ras) {
         return Ok(rejection(q, RegistrationRejectReason::FullRegistrationRequired));
     }
     let told = r.aliases.copy()?;
-    let id = Boxed::new(alloc, r.identifier)?;
+    let renewal = EndpointChange::Renewal(r.call_signal, deadline(tables, now, q));
     Ok(Decision {
         reply: confirmation(alloc, tables, q, r.call_signal, told, &r.identifier)?,
-        change: Change::Endpoint(EndpointChange::Renewal(id, deadline(tables, now, q))),
+        change: Change::Endpoint(renewal),
     })
 }
 
@@ -107,10 +108,7 @@ fn distinct(alloc: Global, aliases: &AliasList) -> Result<Option<ReplyAliases>, 
             kept.push(*alias)?;
         }
     }
-    match ReplyAliases::new(kept) {
-        Ok(few) => Ok(Some(few)),
-        Err(_) => Ok(None),
-    }
+    ReplyAliases::new(kept)
 }
 
 /// Whether an alias is in the list.
@@ -127,10 +125,9 @@ fn register_fully(
     now: Moment,
     q: &RegistrationRequest,
 ) -> Result<Conclusion, AllocError>
-    ensures concludes { IfOk result (Concludes tables.now now
+    ensures concludes { IfOk result (Concludes tables.now now (Request.Rrq q.now)
         (full_registration tables.now now q.now q.now.call_signal q.now.ras
         (without_doubles q.now.aliases))) }
-    ensures about { IfOk result (IsFor q.now.seq q.now.endpoint) }
 {
     let Some(call_signal) = q.call_signal else {
         return Ok(rejected(q, RegistrationRejectReason::InvalidCallSignalAddress));
@@ -162,21 +159,19 @@ fn enter(
     entry: Entry,
 ) -> Result<Conclusion, AllocError>
     requires { registered_elsewhere tables.now.live entry.call_signal entry.aliases ≡ [] }
-    ensures concludes { IfOk result (Concludes tables.now now
+    ensures concludes { IfOk result (Concludes tables.now now (Request.Rrq q.now)
         (entering tables.now now q.now entry
         (at_address tables.now.live entry.call_signal))) }
-    ensures about { IfOk result (IsFor q.now.seq q.now.endpoint) }
 {
     let told = entry.aliases.copy()?;
     let deadline = deadline(tables, now, q);
-    if let Some(r) = tables.by_address(entry.call_signal) {
-        let id = Boxed::new(alloc, r.identifier)?;
+    if let Some(r) = tables.registrations().by_address(entry.call_signal) {
         return Ok(Conclusion::Settled(Decision {
             reply: confirmation(alloc, tables, q, entry.call_signal, told, &r.identifier)?,
-            change: Change::Endpoint(EndpointChange::Rewriting(id, entry, deadline)),
+            change: Change::Endpoint(EndpointChange::Rewriting(entry, deadline)),
         }));
     }
-    if tables.len() == tables.config().endpoints() {
+    if tables.registrations().len() == tables.config().endpoints() {
         return Ok(rejected(q, RegistrationRejectReason::ResourceUnavailable));
     }
     let newcomer = Newcomer {
@@ -198,9 +193,9 @@ pub(crate) fn register(
     now: Moment,
     q: &RegistrationRequest,
 ) -> Result<Conclusion, AllocError>
-    ensures concludes { IfOk result (Concludes tables.now now
+    ensures concludes { IfOk result (Concludes tables.now now (Request.Rrq q.now)
         (registration tables.now now q.now)) }
-    ensures about { IfOk result (IsFor q.now.seq q.now.endpoint) }
+    ensures memory { OnErr result (is_foreign tables.now q.now.gatekeeper ≡ false) }
 {
     if is_foreign(tables, &q.gatekeeper) {
         return Ok(rejected(q, RegistrationRejectReason::DiscoveryRequired));

@@ -12,13 +12,14 @@ use std::alloc::AllocError;
 use std::marker::Model;
 
 /// A reply, as the octets that are sent for it (ITU-T H.225.0). A RegistrationConfirm takes a tenth
-/// of the memory so. Contracts see the reply.
+/// of the memory so, and none takes more than 20,000 octets. Contracts see the reply.
 #[derive(Drop)]
 pub struct EncodedReply {
     octets: Vec<u8>,
 }
 
 impl Model for EncodedReply {
+    ghost use Rattle.std.specs.Prelude.{◌≤◌, vec_capacity};
     ghost use Rattle.ras_module.specs.declared.reply.Reply.{Reply};
     ghost use Rattle.ras_writing.specs.Encoded.{IsEncoded, reply_of};
 
@@ -26,7 +27,7 @@ impl Model for EncodedReply {
 
     ghost view = { λ e. reply_of e.octets.items };
 
-    ghost invariant = { λ e. IsEncoded e.octets.items };
+    ghost invariant = { λ e. IsEncoded e.octets.items × (vec_capacity e.octets ≤ 20000) };
 }
 
 impl EncodedReply {
@@ -35,6 +36,7 @@ impl EncodedReply {
     pub fn new(buffer: Vec<u8>, reply: &Reply, octets: &[u8]) -> Self
         requires empty { buffer.items ≡ [] }
         requires room { length octets.now ≤ vec_capacity buffer }
+        requires bounded { vec_capacity buffer ≤ 20000 }
         requires written { octets.now ≡ encoding_of reply.now }
         requires few { length octets.now ≤ 20000 }
         requires reads_back { ReadsBack reply.now }
@@ -58,8 +60,10 @@ impl EncodedReply {
     pub fn copy(&self) -> Result<Self, AllocError>
         ensures { IfOk result (λ copy. copy ≡ self.now) }
     {
-        let octets = Vec::from_slice(*self.octets.allocator(), &self.octets)?;
-        Ok(EncodedReply { octets })
+        let buffer = Vec::with_capacity(*self.octets.allocator(), self.octets.len())?;
+        Ok(EncodedReply {
+            octets: filled(buffer, &self.octets),
+        })
     }
 }
 
@@ -77,14 +81,17 @@ impl Eq for EncodedReply {
     ghost laws = { decided same_reply reply_decides };
 }
 
-/// The buffer with these octets in it.
+/// The buffer with these octets in it, as large as before.
 fn filled(buffer: Vec<u8>, octets: &[u8]) -> Vec<u8>
     requires empty { buffer.items ≡ [] }
     requires room { length octets.now ≤ vec_capacity buffer }
-    ensures { result.items ≡ octets.now }
+    ensures items { result.items ≡ octets.now }
+    ensures capacity { vec_capacity result ≡ vec_capacity buffer }
 {
     let mut filled = buffer;
-    filled.extend_from_slice(octets).unwrap();
+    for octet in octets {
+        filled.push_reserved(*octet);
+    }
     filled
 }
 

@@ -12,7 +12,7 @@ use Rattle.std.proofs.Math.Bool.{or_assoc}
 use Rattle.keyed.proofs.Decide.{any_decides}
 use Rattle.ras_module.specs.Same.{texts_decide}
 use Rattle.registrations.specs.declared.registration.Registration.{Registration}
-use Rattle.registrations.specs.inside.Numbers.{number_of, next_number}
+use Rattle.registrations.specs.Numbers.{number_of, next_number}
 use Rattle.registrations.specs.Registry.{identifier_of, IsUnused, live_of}
 use Rattle.registrations.proofs.Rows.{none_named}
 use Rattle.ras_module.specs.Texts.{IsText}

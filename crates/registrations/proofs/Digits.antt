@@ -6,7 +6,7 @@ use Rattle.std.specs.Prelude.{SomeIff, Option, Some, None, IsSome}
 use Rattle.std.proofs.Math.Seq.{drop-cons}
 use Rattle.std.proofs.Math.Nat.{pow-succ'}
 use Rattle.std.proofs.lemmas.List.{drop-set, length-drop}
-use Rattle.registrations.specs.inside.Numbers.{number_of}
+use Rattle.registrations.specs.Numbers.{number_of}
 use Rattle.ras_module.specs.Texts.{IsText}
 
 one_digit : (r k : ℕ) → (r % 10) * 10 ^ k + (r / 10) * 10 ^ (k + 1) ≡ r * 10 ^ k

@@ -35,9 +35,9 @@ end_in_table t id = end_at t.times t.live t.legs id
 module _ {S Z : Type 0} (rows : Slab Registration) (by_identifier : HashMap (List ℕ) ℕ S)
     (by_address : HashMap Address ℕ S) (deadlines : DeadlineTable) (legs : Vec ℕ Z)
     (ends : DeadlineTable) (times : Times) (most : ℕ)
-    (s : IsTable rows by_identifier by_address deadlines legs ends times most) where
+    (start : ℕ) (s : IsTable rows by_identifier by_address deadlines legs ends times most) where
   abbrev here : Registry
-  here = registry_of rows by_identifier by_address deadlines legs ends times most
+  here = registry_of rows by_identifier by_address deadlines legs ends times most start
 
   -- a row has the number of legs that stands at its place
   legs_of_row : (i : ℕ) (r : Registration) → slice_get here.order i ≡ Some r

@@ -188,9 +188,9 @@ module _ {S : Type 0} (rows : Slab Registration) (by_identifier : HashMap (List 
     len_stored = len_live order are_rows ∙ length_order rows by_identifier.entries leads
 
     pub IsSound-stored : {Z : Type 0} (deadlines : DeadlineTable) (legs : Vec ℕ Z)
-        (ends : DeadlineTable) (times : Times)
-        → IsSound (registry_of rows by_identifier by_address deadlines legs ends times most)
-    IsSound-stored deadlines legs ends times = record {
+        (ends : DeadlineTable) (times : Times) (start : ℕ)
+        → IsSound (registry_of rows by_identifier by_address deadlines legs ends times most start)
+    IsSound-stored deadlines legs ends times start = record {
       consistent = IsConsistent-rows order are_rows;
       few = omega (arith, len_stored, s.few);
     }
@@ -409,8 +409,9 @@ module _ {S : Type 0} (rows : Slab Registration) (by_identifier : HashMap (List 
 module _ {S : Type 0} (rows : Slab Registration) (by_identifier : HashMap (List ℕ) ℕ S)
     (by_address : HashMap Address ℕ S) {Z : Type 0} (deadlines : DeadlineTable) (legs : Vec ℕ Z)
     (ends : DeadlineTable) (times : Times) (most : ℕ)
-    (s : IsStored rows by_identifier by_address most) (t : Registry)
-    (view : registry_of rows by_identifier by_address deadlines legs ends times most ≡ t) where
+    {start : ℕ} (s : IsStored rows by_identifier by_address most) (t : Registry)
+    (view : registry_of rows by_identifier by_address deadlines legs ends times most start
+    ≡ t) where
   abbrev order_here : List Registration
   order_here = order_of rows by_identifier.entries
 
@@ -420,7 +421,8 @@ module _ {S : Type 0} (rows : Slab Registration) (by_identifier : HashMap (List 
 
   pub consistent : IsConsistent t.live
   consistent = subst (λ (u : Registry). IsConsistent u.live) view
-      (IsSound-stored rows by_identifier by_address most s deadlines legs ends times).consistent
+      (IsSound-stored rows by_identifier by_address most s deadlines legs ends times
+      start).consistent
 
   pub numbered : IsNumbered t
   numbered = subst IsNumbered view (record {
@@ -476,7 +478,7 @@ module _ {S : Type 0} (rows : Slab Registration) (by_identifier : HashMap (List 
       → (f old).identifier ≡ old.identifier → (f old).call_signal ≡ old.call_signal
       → (next later : DeadlineTable) → next.room ≡ deadlines.room → later.room ≡ ends.room
       → UpdatesOne t (registry_of (with_value rows i (f old)) by_identifier by_address next legs
-      later times most) (update t.live id f)
+      later times most start) (update t.live id f)
   Updates-change id i is old there f keeps stays next later same still =
       let has = registered id i is old there in
       let stored = IsStored-change rows by_identifier by_address most s i old (f old) there keeps
@@ -489,9 +491,10 @@ module _ {S : Type 0} (rows : Slab Registration) (by_identifier : HashMap (List 
         room = same_room rows by_identifier by_address most s i old (f old) there keeps stays
             deadlines next legs ends later same still ∙ ap (λ u. u.room) view;
         sound = IsSound-stored (with_value rows i (f old)) by_identifier by_address most stored
-            next legs later times;
+            next legs later times start;
         legs = ap (λ u. u.legs) view;
         times = ap (λ u. u.times) view;
+        next = ap (λ u. u.next) view;
       }
 
   -- if nobody has the identifier, nobody goes
@@ -502,8 +505,9 @@ module _ {S : Type 0} (rows : Slab Registration) (by_identifier : HashMap (List 
     most = refl;
     room = omega arith;
     sound = subst IsSound view
-        (IsSound-stored rows by_identifier by_address most s deadlines legs ends times);
+        (IsSound-stored rows by_identifier by_address most s deadlines legs ends times start);
     times = refl;
+    next = refl;
   }
 
   -- a registration goes
@@ -514,7 +518,7 @@ module _ {S : Type 0} (rows : Slab Registration) (by_identifier : HashMap (List 
       → IsStored next next_named next_placed most
       → room_of rows by_identifier by_address deadlines legs ends
       ≤ room_of next next_named next_placed later after left
-      → Becomes t (registry_of next next_named next_placed later after left times most)
+      → Becomes t (registry_of next next_named next_placed later after left times most start)
       (fin.remove t.live id)
   Becomes-remove next next_named next_placed later after left i r id own u there stored more =
       record {
@@ -523,22 +527,25 @@ module _ {S : Type 0} (rows : Slab Registration) (by_identifier : HashMap (List 
             stored ∙ (λ k. fin.remove (view k).live (own k));
         most = ap (λ u. u.most) view;
         room = omega (arith, more, ap (λ u. u.room) view);
-        sound = IsSound-stored next next_named next_placed most stored later after left times;
+        sound = IsSound-stored next next_named next_placed most stored later after left times start;
         times = ap (λ u. u.times) view;
+        next = ap (λ u. u.next) view;
       }
 
   -- only the numbers of legs are changed
   pub Counts-change : (after : Vec ℕ Z) (later : DeadlineTable) (m : LegCounts)
       → vec_capacity after ≡ vec_capacity legs → later.room ≡ ends.room
       → leg_counts_of by_identifier.entries after.items ≡ m
-      → Counts t (registry_of rows by_identifier by_address deadlines after later times most) m
+      → Counts t (registry_of rows by_identifier by_address deadlines after later times most
+      start) m
   Counts-change after later m same still is = record {
     rows = ap (λ u. u.live) view;
     most = ap (λ u. u.most) view;
     room = omega (arith, same, still, ap (λ u. u.room) view);
     legs = is;
     times = ap (λ u. u.times) view;
-    sound = IsSound-stored rows by_identifier by_address most s deadlines after later times;
+    next = ap (λ u. u.next) view;
+    sound = IsSound-stored rows by_identifier by_address most s deadlines after later times start;
   }
 
   -- the number of legs of an endpoint stands where its entry does

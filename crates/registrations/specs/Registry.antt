@@ -22,7 +22,8 @@ LegCounts = FinMap (slice_cmp nat_cmp) ℕ
 
 -- the registrations, the most that there may be, how many more can be added so that no memory is
 -- taken for them, the order in which the registrations are numbered, the number of legs of each
--- endpoint, and how long an endpoint with a leg may be silent
+-- endpoint, how long an endpoint with a leg may be silent, and the number at which the search for
+-- an unused identifier begins
 pub record Registry : Type 0 where
   pub live : Live
   pub most : ℕ
@@ -30,6 +31,7 @@ pub record Registry : Type 0 where
   pub order : List Registration
   pub legs : LegCounts
   pub times : Times
+  pub next : ℕ
 
 abbrev pub identifier_of : Registration → List ℕ
 identifier_of r = r.identifier
@@ -63,7 +65,8 @@ pub record IsUnused (live : Live) (taken : List (List ℕ)) (id : List ℕ) : Ty
   pub not_taken : Contains taken id → ⊥
   pub text : IsText 128 id
 
--- the table has the same registrations, in the same order, with the same legs, and no less room
+-- the table has the same registrations, in the same order, with the same legs, no less room, and
+-- searches for an unused identifier from the same number
 pub record Stays (old new : Registry) : Type 0 where
   pub rows : new.live ≡ old.live
   pub most : new.most ≡ old.most
@@ -71,6 +74,7 @@ pub record Stays (old new : Registry) : Type 0 where
   pub room : old.room ≤ new.room
   pub legs : new.legs ≡ old.legs
   pub times : new.times ≡ old.times
+  pub next : new.next ≡ old.next
 
 -- a registration that is given another identifier
 abbrev pub with_identifier : List ℕ → Registration → Registration
@@ -116,6 +120,7 @@ pub record Updates (old new : Registry) (live : Live) : Type 0 where
   pub sound : IsSound new
   pub legs : new.legs ≡ old.legs
   pub times : new.times ≡ old.times
+  pub next : new.next ≡ old.next
 
 -- after a change that takes no memory and no room, the table has these
 pub record Becomes (old new : Registry) (live : Live) : Type 0 where
@@ -124,6 +129,7 @@ pub record Becomes (old new : Registry) (live : Live) : Type 0 where
   pub room : old.room ≤ new.room
   pub sound : IsSound new
   pub times : new.times ≡ old.times
+  pub next : new.next ≡ old.next
 
 -- after one more registration was added, the table has these
 pub record Adds (old new : Registry) (live : Live) : Type 0 where
@@ -140,4 +146,5 @@ pub record Counts (old new : Registry) (counts : LegCounts) : Type 0 where
   pub room : new.room ≡ old.room
   pub legs : new.legs ≡ counts
   pub times : new.times ≡ old.times
+  pub next : new.next ≡ old.next
   pub sound : IsSound new

@@ -1,10 +1,11 @@
 //! Identifiers that may be handed out.
 
-ghost use Rattle.std.specs.Prelude.{◌≡◌, ◌≤◌, nat_eq};
+ghost use Rattle.std.specs.Prelude.{◌≡◌, ◌≤◌, ◌+◌, length, nat_eq};
 ghost use Rattle.std.specs.List.{list_any};
 ghost use Rattle.std.specs.Cmp.Lexicographic.{pointwise};
 ghost use Rattle.std.specs.FinMap as map;
 ghost use Rattle.ras_module.specs.Texts.{IsText};
+ghost use Rattle.registrations.specs.Numbers.{IsFoundFrom};
 ghost use Rattle.registrations.specs.Registry.{IsUnused};
 
 use crate::number::{after, numbered};
@@ -15,7 +16,8 @@ use ras_module::EndpointId;
 /// from this one.
 pub(crate) fn unused_from(table: &Registrations, taken: &[EndpointId], start: u64) -> EndpointId
     requires few { map.len table.now.live ≤ 20000 }
-    ensures { IsUnused table.now.live taken.now result }
+    ensures unused { IsUnused table.now.live taken.now result }
+    ensures from { IsFoundFrom start (map.len table.now.live + length taken.now) result }
 {
     let mut number = start;
     for _tries in 0..table.len() + taken.len() + 1 {

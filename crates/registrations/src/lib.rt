@@ -3,6 +3,7 @@
 
 mod fault;
 mod fresh;
+mod in_call;
 mod list;
 mod number;
 mod registration;

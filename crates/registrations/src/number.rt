@@ -2,7 +2,8 @@
 
 ghost use Rattle.std.specs.Prelude.{◌≡◌, ◌≤◌, ◌<◌, ◌-◌, ℕ, length, drop, slice_index};
 ghost use Rattle.ras_module.specs.Texts.{IsText};
-ghost use Rattle.registrations.specs.inside.Numbers.{number_of, next_number};
+ghost use Rattle.registrations.specs.Numbers.{number_of, next_number, number_in, start_after};
+ghost use Rattle.registrations.specs.Numbers.{with_digit};
 
 use ras_module::{BmpString, EndpointId};
 
@@ -43,16 +44,26 @@ fn first_of(digits: &[u16; 20]) -> usize
     start
 }
 
+/// The number with one more digit. None if the character isn't one, and if the number is too large.
+fn with_digit(number: u64, character: u16) -> Option<u64>
+    ensures { result ≡ with_digit number character }
+{
+    if !(48..=57).contains(&character) {
+        return None;
+    }
+    number
+        .checked_mul(10)?
+        .checked_add(u64::from(character - 48))
+}
+
 /// The number that a text of decimal digits stands for. None for any other text, and for a number
 /// that is too large.
-fn number_in(identifier: &EndpointId) -> Option<u64> {
-    let mut number = 0u64;
+fn number_in(identifier: &EndpointId) -> Option<u64>
+    ensures { result ≡ number_in identifier.now }
+{
+    let mut number = 0;
     for character in identifier.as_slice() {
-        if !(48..=57).contains(character) {
-            return None;
-        }
-        let digit = u64::from(*character - 48);
-        number = number.checked_mul(10)?.checked_add(digit)?;
+        number = with_digit(number, *character)?;
     }
     Some(number)
 }
@@ -65,7 +76,9 @@ pub(crate) fn after(number: u64) -> u64
 }
 
 /// Where the search for an unused identifier begins once this one is in use.
-pub(crate) fn raised(start: u64, identifier: &EndpointId) -> u64 {
+pub(crate) fn raised(start: u64, identifier: &EndpointId) -> u64
+    ensures { result ≡ start_after start identifier.now }
+{
     match number_in(identifier) {
         Some(number) if start <= number => after(number),
         _ => start,

@@ -2,7 +2,7 @@
 
 ghost use Rattle.std.specs.Prelude.{◌≡◌, ◌≢◌, ◌≤◌, ◌<◌, ◌+◌, ◌++◌, ◌∷◌, [], ◌↔◌, ℕ, List, Option};
 ghost use Rattle.std.specs.Prelude.{None, Some, Err, IsOk, IsSome, IfSome, IsTrue, IfOk, OnOk};
-ghost use Rattle.std.specs.Prelude.{OnErr, nat_eq, slice_get, ◌-◌};
+ghost use Rattle.std.specs.Prelude.{OnErr, nat_eq, slice_get, ◌-◌, length};
 ghost use Rattle.std.specs.Option.{option_copied, option_map, IsSomeAnd};
 ghost use Rattle.std.specs.Cmp.Lexicographic.{pointwise};
 ghost use Rattle.std.specs.FinMap as map;
@@ -13,8 +13,7 @@ ghost use Rattle.registrations.specs.inside.Stored.{IsIn, AreAllIn};
 ghost use Rattle.registrations.specs.Registry.{at_address, IsUnused, IsListOf, IsConsistent};
 ghost use Rattle.registrations.specs.Registry.{IsNumbered, IsSound, Stays, Updates, Becomes, Adds};
 ghost use Rattle.registrations.specs.Registry.{with_identifier, with_deadline, after_rewrite};
-ghost use Rattle.registrations.specs.Registry.{after_hear, after_ask, after_calm, Counts};
-ghost use Rattle.registrations.specs.Silence.{HasEnded};
+ghost use Rattle.registrations.specs.Numbers.{start_after, IsFoundFrom};
 
 use crate::fault::AddFault;
 use crate::fresh::{is_taken, unused_from};
@@ -33,16 +32,16 @@ use std::marker::Model;
 /// The registrations of a zone. No two of them share an identifier or a call signal address.
 /// Contracts see a finite map.
 pub struct Registrations {
-    rows: Slab<Registration>,
+    pub(crate) rows: Slab<Registration>,
     // where the row with each identifier stands, and the row with each call signal address
-    by_identifier: IndexMap<EndpointId, usize>,
+    pub(crate) by_identifier: IndexMap<EndpointId, usize>,
     by_address: IndexMap<Address, usize>,
     // of each row, by where its identifier stands in the index: its deadline, the number of legs of
     // its endpoint, and the moment at which the silence of that endpoint ends, if it has a leg
     deadlines: Deadlines,
-    legs: Vec<usize>,
-    ends: Deadlines,
-    times: Times,
+    pub(crate) legs: Vec<usize>,
+    pub(crate) ends: Deadlines,
+    pub(crate) times: Times,
     most: usize,
     // where the search for an unused identifier begins, so that it needn't pass those in use: after
     // each number that was in use, and at 1 again after the last number of all
@@ -78,7 +77,7 @@ impl Model for Registrations {
     ghost coded = { Prim.hlevel (codes, map.code) };
 
     ghost view = { λ t. registry_of t.rows t.by_identifier t.by_address t.deadlines t.legs t.ends
-        t.times t.most };
+        t.times t.most t.next_number };
 
     ghost invariant = { λ t. IsTable t.rows t.by_identifier t.by_address t.deadlines t.legs t.ends
         t.times t.most };
@@ -131,6 +130,7 @@ impl Registrations {
         ensures order { IfOk result (λ copy. copy.order ≡ self.now.order) }
         ensures legs { IfOk result (λ copy. copy.legs ≡ self.now.legs) }
         ensures times { IfOk result (λ copy. copy.times ≡ self.now.times) }
+        ensures next { IfOk result (λ copy. copy.next ≡ self.now.next) }
     {
         let alloc = *self.by_identifier.allocator();
         let mut copy = Registrations::with_room(alloc, self.most, self.times, self.len())?;
@@ -241,31 +241,6 @@ impl Registrations {
         self.nth(i)
     }
 
-    /// In how many calls this endpoint has a leg. None if it isn't registered.
-    pub fn legs(&self, id: &EndpointId) -> Option<usize>
-        ensures legs { result ≡ map.get self.now.legs id.now }
-        ensures live { IsSome result → IsSome (map.get self.now.live id.now) }
-    {
-        let (i, _place) = entry_of(&self.by_identifier, id)?;
-        Some(self.legs[i])
-    }
-
-    /// A registration whose endpoint has a leg and has been silent for too long: any of them. None
-    /// if there is none.
-    pub fn silent(&self, now: u64) -> Option<&Registration>
-        ensures ended { IfSome result (λ r.
-            HasEnded now self.now.times self.now.live self.now.legs r.now.identifier) }
-        ensures live { IfSome result (λ r. map.get self.now.live r.now.identifier ≡ Some r.now) }
-        ensures none { result ≡ None → (id : List ℕ)
-            → HasEnded now self.now.times self.now.live self.now.legs id → ⊥ }
-    {
-        let (end, i) = self.ends.earliest()?;
-        if end > now {
-            return None;
-        }
-        self.nth(i)
-    }
-
     /// The registration with this number. The numbers below `len` have one each, and each
     /// registration has one number, as long as the table isn't changed.
     pub fn nth(&self, i: usize) -> Option<&Registration>
@@ -307,7 +282,9 @@ impl Registrations {
 
     /// An identifier that no registration has, and that is not taken: any such one.
     pub fn unused(&self, taken: &[EndpointId]) -> EndpointId
-        ensures { IsUnused self.now.live taken.now result }
+        ensures unused { IsUnused self.now.live taken.now result }
+        ensures from { IsFoundFrom self.now.next
+            (map.len self.now.live + length taken.now) result }
     {
         unused_from(self, taken, self.next_number)
     }
@@ -339,9 +316,12 @@ impl Registrations {
     ) -> Result<EndpointId, AddFault>
         requires { at_address self.old.live registration.call_signal ≡ None }
         ensures unused { IfOk result (IsUnused self.old.live taken.now) }
+        ensures from { IfOk result (IsFoundFrom self.old.next
+            (map.len self.old.live + length taken.now)) }
         ensures ok { IfOk result (λ id. Adds self.old self.new
             (map.insert self.old.live id (with_identifier id registration))) }
         ensures legs { IfOk result (λ id. self.new.legs ≡ map.insert self.old.legs id 0) }
+        ensures next { IfOk result (λ id. self.new.next ≡ start_after self.old.next id) }
         ensures full { (result ≡ Err AddFault.Full) ↔ (map.len self.old.live ≡ self.old.most) }
         ensures reserved { 0 < self.old.room → result ≢ Err AddFault.Memory }
         ensures err { OnErr result (Stays self.old self.new) }
@@ -363,6 +343,8 @@ impl Registrations {
             (map.insert self.old.live registration.identifier registration)) }
         ensures legs { OnOk result
             (self.new.legs ≡ map.insert self.old.legs registration.identifier 0) }
+        ensures next { OnOk result
+            (self.new.next ≡ start_after self.old.next registration.identifier) }
         ensures full { (result ≡ Err AddFault.Full) ↔ (map.len self.old.live ≡ self.old.most) }
         ensures reserved { 0 < self.old.room → result ≢ Err AddFault.Memory }
         ensures err { OnErr result (Stays self.old self.new) }
@@ -389,6 +371,7 @@ impl Registrations {
             (map.insert self.old.live registration.identifier registration) }
         ensures order { self.new.order ≡ self.old.order ++ registration ∷ [] }
         ensures legs { self.new.legs ≡ map.insert self.old.legs registration.identifier legs }
+        ensures next { self.new.next ≡ start_after self.old.next registration.identifier }
     {
         self.next_number = raised(self.next_number, &registration.identifier);
         let i = self.by_identifier.len();
@@ -445,89 +428,13 @@ impl Registrations {
         row.deadline = deadline;
         self.deadlines.set(i, deadline);
     }
-
-    /// Notes that an endpoint was heard.
-    pub fn hear(&mut self, id: &EndpointId, now: u64)
-        requires { IsSome (map.get self.old.live id.now) }
-        ensures { Updates self.old self.new (update self.old.live id.now (after_hear now)) }
-    {
-        let (i, place) = live_entry(&self.by_identifier, id);
-        let row = &mut self.rows[place];
-        row.heard = now;
-        row.tries = 0;
-        let end = end_of(row, self.legs[i], &self.times);
-        write_end(&mut self.ends, i, end);
-    }
-
-    /// Notes that an endpoint was asked for a sign of life. It may be asked 16 times in a row.
-    pub fn asked(&mut self, id: &EndpointId, now: u64)
-        requires { IsSomeAnd (map.get self.old.live id.now) (λ r. r.tries < 16) }
-        ensures { Updates self.old self.new (update self.old.live id.now (after_ask now)) }
-    {
-        let (i, place) = live_entry(&self.by_identifier, id);
-        let row = &mut self.rows[place];
-        row.asked = now;
-        row.tries += 1;
-        let end = end_of(row, self.legs[i], &self.times);
-        write_end(&mut self.ends, i, end);
-    }
-
-    /// Counts the tries of an endpoint from 0 again.
-    pub fn calm(&mut self, id: &EndpointId)
-        requires { IsSome (map.get self.old.live id.now) }
-        ensures { Updates self.old self.new (update self.old.live id.now after_calm) }
-    {
-        let (i, place) = live_entry(&self.by_identifier, id);
-        let registration = &mut self.rows[place];
-        registration.tries = 0;
-        let end = end_of(registration, self.legs[i], &self.times);
-        write_end(&mut self.ends, i, end);
-    }
-
-    /// Notes that an endpoint takes part in one call more.
-    pub fn leg_comes(&mut self, id: &EndpointId)
-        requires live { IsSome (map.get self.old.live id.now) }
-        requires few { IfSome (map.get self.old.legs id.now) (λ legs. legs ≤ 20000) }
-        ensures { Counts self.old self.new (update self.old.legs id.now (λ legs. legs + 1)) }
-    {
-        let (i, _place) = live_entry(&self.by_identifier, id);
-        let legs = self.legs[i] + 1;
-        self.count_legs(id, legs);
-    }
-
-    /// Notes that an endpoint takes part in one call fewer.
-    pub fn leg_goes(&mut self, id: &EndpointId)
-        requires live { IsSome (map.get self.old.live id.now) }
-        requires some { IfSome (map.get self.old.legs id.now) (λ legs. 1 ≤ legs) }
-        ensures { Counts self.old self.new (update self.old.legs id.now (λ legs. legs - 1)) }
-    {
-        let (i, _place) = live_entry(&self.by_identifier, id);
-        let legs = self.legs[i] - 1;
-        self.count_legs(id, legs);
-    }
-
-    /// Notes that an endpoint takes part in no call.
-    pub fn no_legs(&mut self, id: &EndpointId)
-        requires { IsSome (map.get self.old.live id.now) }
-        ensures { Counts self.old self.new (map.insert self.old.legs id.now 0) }
-    {
-        self.count_legs(id, 0);
-    }
-
-    /// Notes in how many calls an endpoint takes part.
-    fn count_legs(&mut self, id: &EndpointId, legs: usize)
-        requires { IsSome (map.get self.old.live id.now) }
-        ensures { Counts self.old self.new (map.insert self.old.legs id.now legs) }
-    {
-        let (i, place) = live_entry(&self.by_identifier, id);
-        let end = end_of(&self.rows[place], legs, &self.times);
-        self.legs[i] = legs;
-        write_end(&mut self.ends, i, end);
-    }
 }
 
 /// Where the identifier stands in the index, and where its registration does.
-fn entry_of(by_identifier: &IndexMap<EndpointId, usize>, id: &EndpointId) -> Option<(usize, usize)>
+pub(crate) fn entry_of(
+    by_identifier: &IndexMap<EndpointId, usize>,
+    id: &EndpointId,
+) -> Option<(usize, usize)>
     ensures place { option_map (λ at. at.1) result
         ≡ index.get (pointwise nat_eq) by_identifier.now id.now }
     ensures entry { IfSome result (λ at. IsSomeAnd (slice_get by_identifier.now.entries at.0)
@@ -538,7 +445,10 @@ fn entry_of(by_identifier: &IndexMap<EndpointId, usize>, id: &EndpointId) -> Opt
 }
 
 /// The same for an identifier that has an entry.
-fn live_entry(by_identifier: &IndexMap<EndpointId, usize>, id: &EndpointId) -> (usize, usize)
+pub(crate) fn live_entry(
+    by_identifier: &IndexMap<EndpointId, usize>,
+    id: &EndpointId,
+) -> (usize, usize)
     requires { IsSome (index.get (pointwise nat_eq) by_identifier.now id.now) }
     ensures place { index.get (pointwise nat_eq) by_identifier.now id.now ≡ Some result.1 }
     ensures entry { IsSomeAnd (slice_get by_identifier.now.entries result.0)

@@ -1,22 +1,13 @@
 //! A zone in which two endpoints register and one calls the other, with the book of its steps.
 
 use books::{Book, Entry};
-use pools::{FixedPool, PoolSet};
-use ras_core::{Change, Config, ConfigParts, Event, Moment, Networks, Zone};
-use ras_module::{Address, Name, Octets, Source};
+use pools::FixedPool;
+use ras_core::{Change, Event, Moment, Zone};
+use ras_module::{Octets, Source};
 use std::alloc::Global;
 use std::test::Fail;
 use vectors::requests::{ARQ, GRQ, RRQ_101, RRQ_102};
-
-const GATEKEEPER: Address = Address {
-    ip: [10, 0, 0, 1],
-    port: 1719,
-};
-
-pub const ENDPOINT: Source = Address {
-    ip: [10, 0, 0, 5],
-    port: 1719,
-};
+pub use worked_zone::ENDPOINT;
 
 /// A zone of 3,000 units, of which a call may have 2,000, over a pool of 2,500.
 pub fn zone(alloc: Global) -> Result<Zone<FixedPool>, Fail> {
@@ -26,25 +17,7 @@ pub fn zone(alloc: Global) -> Result<Zone<FixedPool>, Fail> {
 /// A zone of so many units, of which a call may have 2,000, with this least grant, over a pool of
 /// 2,500.
 pub fn zone_of(alloc: Global, limit: u64, least_grant: u64) -> Result<Zone<FixedPool>, Fail> {
-    let identifier = Name::new(&[103, 107]).ok_or("a name")?;
-    let mut networks = Vec::new(alloc);
-    networks.push(None)?;
-    let mut parts = ConfigParts::new(identifier, GATEKEEPER, Networks::from_vec(networks));
-    parts.limit = limit;
-    parts.call_limit = 2_000;
-    parts.least_grant = least_grant;
-    let Ok(config) = Config::new(parts) else {
-        return Err(Fail::from("the settings are in their ranges"));
-    };
-    let mut pools = Vec::new(alloc);
-    pools.push(FixedPool::new(2_500))?;
-    let Ok(set) = PoolSet::new(pools) else {
-        return Err(Fail::from("an idle pool"));
-    };
-    match Zone::new(alloc, config, set) {
-        Ok(zone) => Ok(zone),
-        Err(_) => Err(Fail::from("as many pools as networks")),
-    }
+    Ok(worked_zone::zone_of(alloc, limit, least_grant).ok_or("memory for a zone")?)
 }
 
 /// The zone makes a step of this event, which is added to the book.

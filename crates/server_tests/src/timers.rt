@@ -3,6 +3,7 @@
 
 ghost use Rattle.std.specs.Prelude.{◌≤◌, length};
 ghost use Rattle.udp_server.specs.Ends.{IsWithin};
+ghost use Rattle.udp_server.specs.Plans.{IsPlan};
 
 use crate::fixtures::{ENDPOINT, PLAN, discovery, zone};
 use ras_core::{Change, Event, Moment};
@@ -14,12 +15,12 @@ use std::sync::atomic::{AtomicBool, AtomicU64, Ordering};
 use std::thread;
 use std::thread::Threads;
 use std::time::Duration;
-use udp_server::{Datagrams, DeviceFault, Gate, Moments, Open, Received, Stage, serve_zone};
+use udp_server::{Datagrams, DeviceFault, Gate, Moments, Open, Plan, Received, Stage, serve_zone};
 use vectors::requests::{ARQ, GRQ, RRQ_101, RRQ_102};
 use zone_events::Datagram;
 
 /// How many requests there are: two registrations and an admission, and then discoveries.
-const REQUESTS: u64 = 40;
+const REQUESTS: u64 = 120;
 
 /// The number of the worker of the timers: the other one is 0.
 const TIMERS: usize = 1;
@@ -124,9 +125,22 @@ impl<R: Clock> Gate for Late<'_, R> {
     }
 }
 
+/// There is room for the replies to all requests.
+const ROOMY: Plan = Plan { ring: 256, ..PLAN };
+
+/// The same, and nothing is recorded.
+const UNRECORDED: Plan = Plan {
+    chapter: 4_096,
+    latest: 0,
+    receipts: false,
+    ..ROOMY
+};
+
 /// Whether at the end nothing is due any more, and all was sent: a reply to each request, and what
 /// asks the silent endpoint for its state.
-fn is_all_done<R: Threads + Wait + Clock + Sync>(rt: &R, alloc: Global) -> Option<bool> {
+fn is_all_done<R: Threads + Wait + Clock + Sync>(rt: &R, alloc: Global, plan: Plan) -> Option<bool>
+    requires { IsPlan plan }
+{
     let (sent, was_held) = (AtomicU64::new(0), AtomicBool::new(false));
     let caller = |left: u64| Caller {
         rt,
@@ -156,7 +170,7 @@ fn is_all_done<R: Threads + Wait + Clock + Sync>(rt: &R, alloc: Global) -> Optio
         &gate,
         clocks,
         Vec::new(alloc),
-        PLAN,
+        plan,
     )
     .ok()?;
     let is_due = report
@@ -165,12 +179,18 @@ fn is_all_done<R: Threads + Wait + Clock + Sync>(rt: &R, alloc: Global) -> Optio
         .machine()
         .due(Moment::new(AHEAD)?)
         .is_some();
-    Some(!is_due && report.sent == REQUESTS + 1 && report.dropped == 0)
+    Some(!is_due && report.sent == REQUESTS + 1 && report.dropped == 0 && report.turns > REQUESTS)
 }
 
 #[test]
 fn what_is_due_is_done_at_once(rt: HostRuntime) {
-    let passed = is_all_done(&rt, rt.alloc());
+    let passed = is_all_done(&rt, rt.alloc(), ROOMY);
+    assert!(rt; passed == Some(true));
+}
+
+#[test]
+fn what_is_due_is_done_at_once_without_a_record(rt: HostRuntime) {
+    let passed = is_all_done(&rt, rt.alloc(), UNRECORDED);
     assert!(rt; passed == Some(true));
 }
 

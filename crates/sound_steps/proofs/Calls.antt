@@ -28,7 +28,8 @@ use Rattle.zone_tables.specs.declared.change.CallChange.TheVariants.{Leaving}
 use Rattle.zone_tables.specs.declared.unit_request.Purpose.{Purpose}
 use Rattle.zone_tables.specs.declared.unit_request.Purpose.TheVariants as purpose
 use Rattle.zone_tables.specs.declared.unit_request.UnitRequest.{UnitRequest}
-use Rattle.zone_tables.specs.Changes.{IsCallChange, calls_after, pools_after}
+use Rattle.zone_tables.specs.Changes.{IsCallChange, IsJoinable, IsLowerable, IsOpenable}
+use Rattle.zone_tables.specs.Changes.{calls_after, leg_with, pools_after}
 use Rattle.zone_tables.specs.Parts.{IsSoundUsage, Usage, with_usage}
 use Rattle.zone_tables.specs.Pools.{AreWithinLimits, figures_at, pools_after_answer}
 use Rattle.zone_tables.specs.Pools.{pools_after_end}
@@ -42,7 +43,7 @@ use Rattle.sound_steps.proofs.Sizes.{len_put, len_removed, len_updated, len_with
 
 module _ (u : Usage) (sound : IsSoundUsage u) where
   -- a call opens without units
-  opened : (key : CallKey) (pool : ℕ) (leg : Leg) → IsCallChange u (Opening key pool leg)
+  opened : (key : CallKey) (pool : ℕ) (leg : Leg) → IsOpenable u key pool
       → IsSoundUsage (with_usage u (fin.insert u.calls key (new_call pool 0 leg)) u.pools)
   opened key pool leg can = record {
     backed = IsBacked-open u sound.backed key pool leg can;
@@ -55,7 +56,7 @@ module _ (u : Usage) (sound : IsSoundUsage u) where
   }
 
   -- an endpoint joins one
-  joined : (key : CallKey) (leg : Leg) → IsCallChange u (Joining key leg)
+  joined : (key : CallKey) (leg : Leg) → IsJoinable u.calls key leg
       → IsSoundUsage (with_usage u (update u.calls key (with_leg leg)) u.pools)
   joined key leg can = record {
     backed = IsBacked-join u sound.backed key leg can;
@@ -74,7 +75,7 @@ module _ (u : Usage) (sound : IsSoundUsage u) where
 
   -- one gives units back
   lowered : (key : CallKey) (units pool back : ℕ)
-      → IsCallChange u (Lowering key units pool back)
+      → IsLowerable u.calls key units pool back
       → IsSoundUsage (with_usage u (update u.calls key (with_units units))
       (pools_after_return u.pools pool back))
   lowered key units pool back can = record {
@@ -161,19 +162,20 @@ module _ (u : Usage) (sound : IsSoundUsage u) where
       cases (Some call) there = left_there call there
 
   -- whatever change of a call can be made
-  pub usage-after : (change : CallChange) → IsCallChange u change
-      → IsSoundUsage (with_usage u (calls_after change u.calls)
-      (pools_after change u.calls u.pools))
-  usage-after (Opening key pool leg) can = opened key pool leg can
-  usage-after (Joining key leg) can = joined key leg can
-  usage-after (Lowering key units pool back) can = lowered key units pool back can
-  usage-after (Leaving key endpoint) can = usage-left key endpoint
+  pub usage-after : (id : List ℕ) (change : CallChange) → IsCallChange u id change
+      → IsSoundUsage (with_usage u (calls_after id change u.calls)
+      (pools_after id change u.calls u.pools))
+  usage-after id (Opening key pool told) can = opened key pool (leg_with id told) can
+  usage-after id (Joining key told) can = joined key (leg_with id told) can
+  usage-after id (Lowering key units pool back) can = lowered key units pool back can
+  usage-after id (Leaving key) can = usage-left key id
 
   -- units are requested of a pool
-  module _ (q : UnitRequest) (may : IsUnitRequest u q) where
+  module _ (id : List ℕ) (q : UnitRequest) (may : IsUnitRequest u q) where
     granted_each : (units : ℕ) → units ≤ q.units → (p : Purpose) → IsPurpose u q p
-        → EachCall IsCall (granted_calls q p units u.calls)
-    granted_each units few (purpose.Opening leg) can =
+        → EachCall IsCall (granted_calls id q p units u.calls)
+    granted_each units few (purpose.Opening told) can =
+        let leg = leg_with id told in
         EachCall-insert IsCall u.calls q.call (new_call q.pool units leg) sound.each
         (IsCall-open q.pool units leg (omega (arith, few, can.1, (sound.backed).small)))
     granted_each units few (purpose.Raising had) can =
@@ -183,10 +185,10 @@ module _ (u : Usage) (sound : IsSoundUsage u) where
 
     -- and no more of them than there may be
     granted_few : (units : ℕ) → (p : Purpose) → IsPurpose u q p
-        → fin.len (granted_calls q p units u.calls) ≤ u.most
-    granted_few units (purpose.Opening leg) can =
+        → fin.len (granted_calls id q p units u.calls) ≤ u.most
+    granted_few units (purpose.Opening told) can =
         len_within call_key_cmp_total call_key_cmp-IsAntisymmetric u.calls q.call
-        (new_call q.pool units leg) u.most sound.few
+        (new_call q.pool units (leg_with id told)) u.most sound.few
         (λ none. omega (arith, sound.few, can.0.place))
     granted_few units (purpose.Raising had) can =
         omega (
@@ -198,12 +200,12 @@ module _ (u : Usage) (sound : IsSoundUsage u) where
 
     -- what is lent is entered, unless it is less than the least that is of use
     answered_calls : (answer : Lend) → IsAnswer (figures_at u.pools q.pool) q.units answer
-        → EachCall IsCall (calls_after_answer q answer u.calls)
-        × (fin.len (calls_after_answer q answer u.calls) ≤ u.most)
+        → EachCall IsCall (calls_after_answer id q answer u.calls)
+        × (fin.len (calls_after_answer id q answer u.calls) ≤ u.most)
     answered_calls (Lent n) fits = by_test (nat_lt n q.least) where
       by_test : (b : Bool)
-          → EachCall IsCall (calls_with_grant q (if b then None else Some n) u.calls)
-          × (fin.len (calls_with_grant q (if b then None else Some n) u.calls) ≤ u.most)
+          → EachCall IsCall (calls_with_grant id q (if b then None else Some n) u.calls)
+          × (fin.len (calls_with_grant id q (if b then None else Some n) u.calls) ≤ u.most)
       by_test true = (sound.each, sound.few)
       by_test false =
           (granted_each n fits.1 q.purpose may.purpose, granted_few n q.purpose may.purpose)
@@ -213,12 +215,12 @@ module _ (u : Usage) (sound : IsSoundUsage u) where
     -- and it gives one of the answers that it may give
     pub usage-answered : (answer : Lend)
         → IsAnswer (figures_at u.pools q.pool) q.units answer
-        → IsSoundUsage (with_usage u (calls_after_answer q answer u.calls)
+        → IsSoundUsage (with_usage u (calls_after_answer id q answer u.calls)
         (pools_after_answer u.pools (units_requested q) answer))
     usage-answered answer fits =
         let calls = answered_calls answer fits in
         record {
-          backed = IsBacked-answer u sound.backed q may answer fits;
+          backed = IsBacked-answer u sound.backed id q may answer fits;
           each = calls.0;
           few = calls.1;
           most = sound.most;

@@ -1,8 +1,8 @@
 -- What an event calls for in a sound state can be served so that sound tables are left, and
 -- its reply finds a place.
-use Rattle.std.proofs.Common.{◌≡◌, ◌<◌, ◌==◌, ℕ, Bool, true, false, List, refl, sym, ◌∙◌}
+use Rattle.std.proofs.Common.{◌≡◌, ◌<◌, ◌==◌, ℕ, Bool, true, false, List, refl, sym}
 use Rattle.std.proofs.Common.{ap, subst, Some, None, arith}
-use Rattle.std.specs.Prelude.{IfSome, Option, if◌then◌else◌, is_some}
+use Rattle.std.specs.Prelude.{IfSome, IsSome, Option, if◌then◌else◌, is_some}
 use Rattle.std.specs.Option.{IsSomeAnd}
 use Rattle.std.specs.FinMap.{get, len}
 use Rattle.ras_module.specs.declared.request.Request.{Request}
@@ -75,29 +75,53 @@ module _ (s : State) (sound : Sound s) (now : ℕ) where
     placed = placed;
   }
 
-  -- a place is free: a datagram without an entry finds one
+  -- a place is free: the datagram has no entry
   free_place : (key : KeptKey) → machine.place_of s now key ≡ machine.Free
-      → get s.kept key ≡ None → len s.kept < s.tables.config.kept
-  free_place key free absent =
-      by_test (len s.kept == s.tables.config.kept) refl
-      (sym (ap (machine.place_by s now) absent) ∙ free) where
-        by_test : (b : Bool) → (len s.kept == s.tables.config.kept) ≡ b
-            → (if b then machine.Full else machine.Free) ≡ machine.Free
-            → len s.kept < s.tables.config.kept
-        by_test true is place = absurd (cc place)
-        by_test false is place =
-            omega (
-              arith,
-              sound.few_kept,
-              differ (len s.kept) s.tables.config.kept is,
-            )
+      → (get s.kept key ≡ None) × (len s.kept < s.tables.config.kept)
+  free_place key free = by_entry (get s.kept key) refl free where
+    by_repeat : {P : Type 0} (b : Bool) (entry : KeptEntry)
+        → (if b then machine.Answered (reply_in entry.state) else machine.Own) ≡ machine.Free
+        → P
+    by_repeat true entry is = absurd (cc is)
+    by_repeat false entry is = absurd (cc is)
+
+    by_test : (b : Bool) → (len s.kept == s.tables.config.kept) ≡ b
+        → (if b then machine.Full else machine.Free) ≡ machine.Free
+        → len s.kept < s.tables.config.kept
+    by_test true is place = absurd (cc place)
+    by_test false is place =
+        omega (
+          arith,
+          sound.few_kept,
+          differ (len s.kept) s.tables.config.kept is,
+        )
+
+    by_entry : (w : Option KeptEntry) → get s.kept key ≡ w
+        → machine.place_by s now w ≡ machine.Free
+        → (get s.kept key ≡ None) × (len s.kept < s.tables.config.kept)
+    by_entry None is place = (is, by_test (len s.kept == s.tables.config.kept) refl place)
+    by_entry (Some entry) is place = by_repeat (is_repeat s now entry) entry place
+
+  -- the datagram has an entry of its own, which doesn't answer it
+  own_place : (key : KeptKey) → machine.place_of s now key ≡ machine.Own
+      → IsSome (get s.kept key)
+  own_place key own = by_entry (get s.kept key) refl own where
+    by_test : {P : Type 0} (b : Bool) → (if b then machine.Full else machine.Free) ≡ machine.Own
+        → P
+    by_test true is = absurd (cc is)
+    by_test false is = absurd (cc is)
+
+    by_entry : (w : Option KeptEntry) → get s.kept key ≡ w
+        → machine.place_by s now w ≡ machine.Own → IsSome w
+    by_entry None is place = by_test (len s.kept == s.tables.config.kept) place
+    by_entry (Some entry) is place = refl
 
   -- all places are taken, by others than this datagram
   full_place : (key : KeptKey) → machine.place_of s now key ≡ machine.Full
       → (get s.kept key ≡ None) × (len s.kept ≡ s.tables.config.kept)
   full_place key full = by_entry (get s.kept key) refl full where
     by_repeat : {P : Type 0} (b : Bool) (entry : KeptEntry)
-        → (if b then machine.Answered (reply_in entry.state) else machine.Free) ≡ machine.Full
+        → (if b then machine.Answered (reply_in entry.state) else machine.Own) ≡ machine.Full
         → P
     by_repeat true entry is = absurd (cc is)
     by_repeat false entry is = absurd (cc is)
@@ -130,14 +154,18 @@ module _ (s : State) (sound : Sound s) (now : ℕ) where
       → SoundAlong s now (machine.request_case s now key request w place dropped)
   requests key request None place dropped at is = responds (endpoint_of request)
   requests key request (Some plan) (machine.Answered reply) dropped at is = tt
+  requests key request (Some plan) machine.Own dropped at is =
+      serves (machine.anew key) request plan is (λ timely. own_place key at)
   requests key request (Some plan) machine.Free dropped at is =
-      serves (machine.first key None) request plan is
-      (λ timely absent. free_place key at absent)
+      serves (machine.first key None) request plan is (λ timely. free_place key at)
   requests key request (Some plan) machine.Full None at is = tt
   requests key request (Some plan) machine.Full (Some born) at is =
       serves (machine.first key (Some born)) request plan is
-      (λ over. fits_of (record { kept = s.kept; most = s.tables.config.kept; room = 0 }) now key
-      born sound.births (full_place key at).1 (full_place key at).0 over)
+      (λ over. (
+        (full_place key at).0,
+        fits_of (record { kept = s.kept; most = s.tables.config.kept; room = 0 }) now born
+            sound.births (full_place key at).1 over,
+      ))
 
   -- a datagram, by what it is read as
   messages : (key : KeptKey) (dropped : Option ℕ) (m : Message)

@@ -26,9 +26,9 @@ use Rattle.zone_tables.specs.declared.change.EndpointChange.TheVariants.{Additio
 use Rattle.zone_tables.specs.declared.entry.Entry.{Entry}
 use Rattle.zone_tables.specs.Changes.{IsEndpointChange, IsRewritable}
 use Rattle.zone_tables.specs.Changes.{after_endpoint_change}
+use Rattle.zone_tables.specs.Tables.{heard_now, identifier_at}
 use Rattle.zone_tables.specs.Parts.{IsSoundRoll, Roll}
 use Rattle.zone_tables.specs.Soundness.{HaveAliasesApart}
-use Rattle.zone_tables.specs.Tables.{heard_now}
 use Rattle.sound_steps.proofs.Lookups.{was_left, was_or_put}
 use Rattle.sound_steps.proofs.Sizes.{len_removed, len_updated, len_within}
 
@@ -244,9 +244,10 @@ pub roll-after : (roll : Roll) → IsSoundRoll roll → (now : ℕ) (change : En
       live = after_endpoint_change now change roll.live;
       most = roll.most;
     })
-roll-after roll sound now (Renewal id deadline) can =
-    roll-changed roll sound id (with_deadline deadline) (λ r. refl) (λ r. refl) (λ r. refl)
-roll-after roll sound now (Rewriting id e deadline) can =
+roll-after roll sound now (Renewal address deadline) can =
+    roll-changed roll sound (identifier_at roll.live address) (with_deadline deadline) (λ r. refl) (λ r. refl) (λ r. refl)
+roll-after roll sound now (Rewriting e deadline) can =
+    let id = identifier_at roll.live e.call_signal in
     let f = after_rewrite e.ras e.aliases deadline in
     roll-heard (record { live = update roll.live id f; most = roll.most }) (record {
       consistent = consistent-changed roll.live sound.consistent id f (λ r. refl) (λ r. refl);
@@ -260,4 +261,5 @@ roll-after roll sound now (Addition r) can = record {
   few = len_within nat_list_cmp_total exact_bytes roll.live r.identifier r roll.most sound.few
       (λ none. omega (arith, sound.few, can.place));
 }
-roll-after roll sound now (Removal id) can = roll-went roll sound id
+roll-after roll sound now (Removal address) can =
+    roll-went roll sound (identifier_at roll.live address)

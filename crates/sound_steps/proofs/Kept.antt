@@ -1,7 +1,7 @@
 -- The kept replies stay sound as one is put among them, goes, or waits once more.
 use Rattle.std.proofs.Common.{◌≡◌, ◌≤◌, ◌+◌, ℕ, true, sym, ◌∙◌, ap, subst}
 use Rattle.std.proofs.Common.{refl, Some, None, arith}
-use Rattle.std.specs.Prelude.{Option, nat_lt}
+use Rattle.std.specs.Prelude.{IsSome, Option, nat_lt}
 use Rattle.std.specs.Option.{IsSomeAnd}
 use Rattle.std.specs.FinMap as fin
 use Rattle.std.specs.FinMap.{len}
@@ -14,8 +14,8 @@ use Rattle.kept_replies.specs.Kept.{AreBornApart, AreEntries, IsEntry, IsState, 
 use Rattle.kept_replies.specs.Kept.{births, left_in, postponed_in, without, without_birth}
 use Rattle.kept_replies.proofs.KeyOrder.{key_cmp_total, key_cmp-IsAntisymmetric}
 use Rattle.ras_machine.specs.declared.job.Occasion.{Occasion}
-use Rattle.ras_machine.specs.declared.job.Occasion.TheVariants.{First, Again}
-use Rattle.ras_machine.specs.inside.Room.{IsPlaced, MayBeKept}
+use Rattle.ras_machine.specs.declared.job.Occasion.TheVariants.{Again, Anew, First}
+use Rattle.ras_machine.specs.inside.Room.{FitsIn, IsPlaced, MayBeKept}
 use Rattle.ras_machine.specs.Keeping.{after_drop, kept_with, served_again}
 use Rattle.ras_machine.specs.Soundness.{AllWaitInProgress, AreBornBefore, WaitsInProgress}
 use Rattle.ras_machine.proofs.Dropping.{born_dropped, born_kept_with, born_same, get_after_drop}
@@ -67,25 +67,31 @@ module _ (delay most steps : ℕ) (kept : KeptReplies)
           sound.few,
         )
 
-  -- an entry is put, for which another may have gone
-  module _ (key : KeptKey) (dropped : Option ℕ)
-      (placed : IsPlaced (record { kept = kept; most = most; room = 0 }) key (First dropped))
-      (state : KeptState) (is : IsState state) (waits : WaitsInProgress delay state) where
+  -- an entry that is put finds a place, for which another may have gone
+  few_first : (key : KeptKey) (dropped : Option ℕ) (new : KeptEntry)
+      → FitsIn (record { kept = kept; most = most; room = 0 }) dropped
+      → len (fin.insert (after_drop kept dropped) key new) ≤ most
+  few_first key None new fits =
+      len_within key_cmp_total key_cmp-IsAntisymmetric kept key new most sound.few (λ none. fits)
+  few_first key (Some born) new fits =
+      len_within key_cmp_total key_cmp-IsAntisymmetric (without_birth kept born) key new most
+      (omega (arith, fits)) (λ none. fits)
+
+  -- or takes its own
+  few_anew : (key : KeptKey) (new : KeptEntry) → IsSome (fin.get kept key)
+      → len (fin.insert kept key new) ≤ most
+  few_anew key new there =
+      len_within key_cmp_total key_cmp-IsAntisymmetric kept key new most sound.few
+      (λ none. absurd (cc (subst IsSome none there)))
+
+  module _ (key : KeptKey) (dropped : Option ℕ) (state : KeptState) (is : IsState state)
+      (waits : WaitsInProgress delay state) (few_put : len (fin.insert (after_drop kept dropped) key
+      (record { born = steps; state = state })) ≤ most) where
     abbrev new : KeptEntry
     new = record { born = steps; state = state }
 
     abbrev after : KeptReplies
     after = fin.insert (after_drop kept dropped) key new
-
-    -- it finds a place
-    few_put : (dropped : Option ℕ)
-        → IsPlaced (record { kept = kept; most = most; room = 0 }) key (First dropped)
-        → len (fin.insert (after_drop kept dropped) key new) ≤ most
-    few_put None place =
-        len_within key_cmp_total key_cmp-IsAntisymmetric kept key new most sound.few place
-    few_put (Some born) place =
-        len_within key_cmp_total key_cmp-IsAntisymmetric (without_birth kept born) key new most
-        (omega (arith, place.1)) (λ none. place.1)
 
     -- what is kept then is this entry, or was kept before
     put_or_before : (q : KeptKey) (entry : KeptEntry) (P : Type 0) → fin.get after q ≡ Some entry
@@ -108,7 +114,7 @@ module _ (delay most steps : ℕ) (kept : KeptReplies)
     -- so all stays sound
     kept-put : AreSoundKept delay most (steps + 1) after
     kept-put = record {
-      few = few_put dropped placed;
+      few = few_put;
       entries = λ q entry there. put_or_before q entry (IsEntry entry) there
           (λ same put. subst (λ (e : KeptEntry). IsEntry e) put is) (sound.entries q entry);
       births = λ q other entry last at too same.
@@ -203,9 +209,14 @@ module _ (delay most steps : ℕ) (kept : KeptReplies)
       → (state : KeptState) → MayBeKept occasion state → WaitsInProgress delay state
       → AreSoundKept delay most (steps + 1) (kept_with kept key occasion steps state)
   kept-served key (First dropped) placed (Done reply until) may waits =
-      kept-put key dropped placed (Done reply until) tt waits
+      kept-put key dropped (Done reply until) tt waits (few_first key dropped _ placed.1)
   kept-served key (First dropped) placed (Pending request reply retry left) may waits =
-      kept-put key dropped placed (Pending request reply retry left) may.1 waits
+      kept-put key dropped (Pending request reply retry left) may.1 waits
+      (few_first key dropped _ placed.1)
+  kept-served key Anew placed (Done reply until) may waits =
+      kept-put key None (Done reply until) tt waits (few_anew key _ placed)
+  kept-served key Anew placed (Pending request reply retry left) may waits =
+      kept-put key None (Pending request reply retry left) may.1 waits (few_anew key _ placed)
   kept-served key (Again born left) placed (Done reply until) may waits =
       kept-changed key (served_again (Done reply until)) (λ e. refl) (λ e there. tt)
       (λ e was. tt)

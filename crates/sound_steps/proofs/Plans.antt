@@ -1,6 +1,6 @@
 -- Each request leaves sound tables sound, however it is served.
 use Rattle.std.proofs.Common.{◌≡◌, ◌≤◌, ◌<◌, ◌-◌, ◌==◌, ℕ, Bool, true, false, List, []}
-use Rattle.std.proofs.Common.{◌∷◌, length, min, refl, ◌∙◌, ap, Some, None, arith}
+use Rattle.std.proofs.Common.{◌∷◌, length, min, refl, ap, Some, None, arith, subst, sym}
 use Rattle.std.specs.Prelude.{IfSome, IsSome, Option, if◌then◌else◌, nat_le, nat_lt}
 use Rattle.std.specs.FinMap.{get, len}
 use Rattle.ras_module.specs.declared.address.Address.{Address}
@@ -15,7 +15,8 @@ use Rattle.ras_module.specs.declared.request.Request.TheVariants.{Grq, Rrq, Urq,
 use Rattle.ras_module.specs.declared.request.Request.TheVariants.{Brq, Drq, Irr}
 use Rattle.ras_module.specs.Aliases.{without_doubles}
 use Rattle.registrations.specs.declared.registration.Registration.{Registration}
-use Rattle.registrations.specs.Registry.{at_address}
+use Rattle.keyed.specs.Maps.{update}
+use Rattle.registrations.specs.Registry.{Live, after_rewrite, at_address}
 use Rattle.registrations.specs.Agreement.{registered_elsewhere}
 use Rattle.admission.specs.declared.call.Call.{Call}
 use Rattle.admission.specs.declared.leg.Leg.{Leg}
@@ -25,14 +26,13 @@ use Rattle.zone_config.specs.Networks.{pool_of}
 use Rattle.zone_tables.specs.declared.change.CallChange.TheVariants.{Opening, Joining, Lowering}
 use Rattle.zone_tables.specs.declared.change.Change.{Change}
 use Rattle.zone_tables.specs.declared.change.Change.TheVariants.{Endpoint, Calls}
-use Rattle.zone_tables.specs.declared.change.EndpointChange.TheVariants.{Renewal, Rewriting}
-use Rattle.zone_tables.specs.declared.change.EndpointChange.TheVariants.{Addition, Removal}
+use Rattle.zone_tables.specs.declared.change.EndpointChange.TheVariants.{Addition, Rewriting}
 use Rattle.zone_tables.specs.declared.entry.Entry.{Entry}
 use Rattle.zone_tables.specs.declared.unit_request.Purpose.TheVariants as purpose
 use Rattle.zone_tables.specs.Changes.{IsPossible, after_change}
+use Rattle.zone_tables.specs.Tables.{Tables, heard_now, identifier_or_none, with_live}
 use Rattle.zone_tables.specs.Disengaging.{without_leg_of}
 use Rattle.zone_tables.specs.Soundness.{SoundTables}
-use Rattle.zone_tables.specs.Tables.{Tables}
 use Rattle.zone_tables.proofs.Answered.{is_there}
 use Rattle.zone_tables.proofs.ButLent.{counts_same, same_after_change, same_after_end}
 use Rattle.zone_tables.proofs.Departing.{same_after_leave}
@@ -41,7 +41,7 @@ use Rattle.ras_requests.specs.Rrq.{addition, deadline, entering, full_registrati
 use Rattle.ras_requests.specs.Rrq.{keep_alive, named, new_registration, registration}
 use Rattle.ras_requests.specs.Rrq.{unless_held}
 use Rattle.ras_requests.specs.Urq.{departure, leaving}
-use Rattle.ras_requests.specs.Arq.{admission_of, destination, leg_told, making}
+use Rattle.ras_requests.specs.Arq.{admission_of, destination, making}
 use Rattle.ras_requests.specs.Brq.{bandwidth_of, least_units, lowering, resizing}
 use Rattle.ras_requests.specs.Brq.{units_left, wanted}
 use Rattle.ras_requests.specs.Drq.{disengagement_of}
@@ -50,7 +50,7 @@ use Rattle.ras_requests.specs.Requests.{plan_of}
 use Rattle.ras_requests.specs.Standing.{standing, standing_in}
 use Rattle.ras_requests.proofs.Resizing.{RequestsUnits-resizing}
 use Rattle.sound_steps.proofs.Serving.{IsSoundAfter, SoundBy, asks, pool_there}
-use Rattle.sound_steps.proofs.Tables.{tables-after, tables-left}
+use Rattle.sound_steps.proofs.Tables.{tables-after, tables-left, tables-removed, tables-renewed}
 use Rattle.sound_steps.proofs.Tests as tests
 use Rattle.sound_steps.proofs.Tests.{above, at_most, differ, equal}
 
@@ -69,12 +69,19 @@ module _ (z : Tables) (sound : SoundTables z) where
   }
 
   -- a change that can be made
-  changed : (now : ℕ) (change : Change) → IsPossible z change
-      → IsSoundAfter z (after_change now change z)
-  changed now change can = record {
-    sound = tables-after z sound now change can;
-    counts = counts_same z.pools (after_change now change z).pools
-        (same_after_change now change z);
+  changed : (now : ℕ) (who : Option (List ℕ)) (change : Change) → IsPossible z who change
+      → IsSoundAfter z (after_change now who change z)
+  changed now who change can = record {
+    sound = tables-after z sound now who change can;
+    counts = counts_same z.pools (after_change now who change z).pools
+        (same_after_change now who change z);
+  }
+
+  -- other endpoints, and the pools stay
+  relived : (live : Live) → SoundTables (with_live z live) → IsSoundAfter z (with_live z live)
+  relived live is = record {
+    sound = is;
+    counts = counts_same z.pools z.pools (same_after_end z.pools None);
   }
 
   -- an endpoint leaves a call
@@ -87,30 +94,33 @@ module _ (z : Tables) (sound : SoundTables z) where
 
   -- RRQ
   module _ (now : ℕ) (q : RegistrationRequest) where
-    alive : (w : Option Registration) (id : Option (List ℕ)) → named z id ≡ w
-        → SoundBy z (keep_alive z now q w)
-    alive None id is = still
-    alive (Some r) id is =
+    alive : (w : Option Registration) → SoundBy z (keep_alive z now q w)
+    alive None = still
+    alive (Some r) =
         by_test (has_moved r q.ras) _ _ (λ moved. still)
-        (λ stays. changed now (Endpoint (Renewal r.identifier (deadline z now q)))
-        (registered id is, tt)) where
-          registered : (id : Option (List ℕ)) → named z id ≡ Some r
-              → IsSome (get z.live r.identifier)
-          registered None is = absurd (cc is)
-          registered (Some id) is = is_there (get z.live r.identifier) r
-              (ap (get z.live) ((sound.endpoints).own id r is) ∙ is)
+        (λ stays. relived _ (tables-renewed z sound r.identifier (deadline z now q)))
 
     -- a full registration: of an endpoint whose address is known, or of a new one
     enters : (e : Entry) (w : Option Registration) → at_address z.live e.call_signal ≡ w
         → registered_elsewhere z.live e.call_signal e.aliases ≡ []
         → SoundBy z (entering z now q e w)
     enters e (Some r) at none =
-        changed now (Endpoint (Rewriting r.identifier e (deadline z now q)))
-        (record { old = r; found = at; identifier = refl; aliases = none }, tt)
+        let f = after_rewrite e.ras e.aliases (deadline z now q) in
+        subst (λ (w : Option Registration). IsSoundAfter z (with_live z
+        (heard_now now (identifier_or_none w) (update z.live (identifier_or_none w) f)))) at
+        (changed now None (Endpoint (Rewriting e (deadline z now q))) (
+          record {
+            old = r;
+            found = at;
+            identifier = sym (ap identifier_or_none at);
+            aliases = none;
+          },
+          tt,
+        ))
     enters e None at none =
         by_test (len z.live == z.config.endpoints) _ (Naming (addition z now q e)) (λ full. still)
         (λ place id unused.
-        changed now (Endpoint (Addition (new_registration z now q e id))) (
+        changed now None (Endpoint (Addition (new_registration z now q e id))) (
           record {
             identifier = unused;
             address = at;
@@ -142,7 +152,7 @@ module _ (z : Tables) (sound : SoundTables z) where
     registers =
         by_test (is_foreign z q.gatekeeper) _ _ (λ foreign. still)
         (λ own. by_test q.keep_alive _ _
-        (λ keeps. alive (named z q.endpoint) q.endpoint refl)
+        (λ keeps. alive (named z q.endpoint))
         (λ anew. full q.call_signal q.ras (without_doubles q.aliases)))
 
   -- URQ
@@ -150,8 +160,8 @@ module _ (z : Tables) (sound : SoundTables z) where
   departs seq None = still
   departs seq (Some r) =
       by_test (nat_lt 0 (legs_of z.calls r.identifier)) _ _ (λ busy. still)
-      (λ free. changed 0 (Endpoint (Removal r.identifier))
-      (tt, tests.none (legs_of z.calls r.identifier) free))
+      (λ free. relived _ (tables-removed z sound r.identifier
+      (tests.none (legs_of z.calls r.identifier) free)))
 
   -- DRQ
   disengages : (q : DisengageRequest) (w : Option Registration) (leg : Option Leg)
@@ -166,22 +176,24 @@ module _ (z : Tables) (sound : SoundTables z) where
   makes q pool told none registered there =
       by_test (len z.calls == z.config.calls) _ _ (λ full. still)
       (λ place. by_test (wanted z q.asked == 0) _ _
-      (λ nothing. changed 0 (Calls (Opening q.call pool (leg_told q told))) (
-        record {
-          absent = none;
-          place = differ (len z.calls) z.config.calls place;
-          exists = there;
-        },
-        registered,
+      (λ nothing. changed 0 (Some q.endpoint) (Calls (Opening q.call pool told)) (
+        refl,
+        (
+          record {
+            absent = none;
+            place = differ (len z.calls) z.config.calls place;
+            exists = there;
+          },
+          registered,
+        ),
       ))
       (λ some. by_test (units_left z == 0) _ _ (λ empty. still)
-      (λ left. asks z sound (record {
-        seq = q.seq;
+      (λ left. asks z sound (Arq q) (record {
         call = q.call;
         pool = pool;
         units = min (wanted z q.asked) (units_left z);
         least = least_units z (wanted z q.asked);
-        purpose = purpose.Opening (leg_told q told);
+        purpose = purpose.Opening told;
       })
       (record {
         some = one_at_least (wanted z q.asked) (units_left z) some left;
@@ -220,14 +232,17 @@ module _ (z : Tables) (sound : SoundTables z) where
     by_leg None none None = still
     by_leg None none (Some told) =
         by_test (length call.legs == 1) _ _
-        (λ one. changed 0 (Calls (Joining q.call (leg_told q told))) (
-          record {
-            call = call;
-            there = is;
-            one = equal (length call.legs) 1 one;
-            other = none;
-          },
-          is_there (get z.live q.endpoint) r live,
+        (λ one. changed 0 (Some q.endpoint) (Calls (Joining q.call told)) (
+          refl,
+          (
+            record {
+              call = call;
+              there = is;
+              one = equal (length call.legs) 1 one;
+              other = none;
+            },
+            is_there (get z.live q.endpoint) r live,
+          ),
         ))
         (λ two. still)
 
@@ -236,9 +251,11 @@ module _ (z : Tables) (sound : SoundTables z) where
       → wanted z q.asked ≤ call.units
       → IsSoundAfter z (lowering z q call (wanted z q.asked)).tables
   lowers q call is few =
-      changed 0 (Calls (Lowering q.call (wanted z q.asked) call.pool
-      (call.units - wanted z q.asked)))
-      (record { call = call; there = is; pool_is = refl; back_is = omega (arith, few) }, tt)
+      changed 0 (Some q.endpoint) (Calls (Lowering q.call (wanted z q.asked) call.pool
+      (call.units - wanted z q.asked))) (
+        refl,
+        (record { call = call; there = is; pool_is = refl; back_is = omega (arith, few) }, tt),
+      )
 
   -- a call gives units back, or its pool is asked for more
   resizes : (q : BandwidthRequest) (call : Call) → get z.calls q.call ≡ Some call
@@ -250,8 +267,7 @@ module _ (z : Tables) (sound : SoundTables z) where
       (λ left. (let wants : call.units < wanted z q.asked =
       above (wanted z q.asked) call.units more in
       let has : 0 < units_left z = omega (arith, differ (units_left z) 0 left) in
-      asks z sound (record {
-        seq = q.seq;
+      asks z sound (Brq q) (record {
         call = q.call;
         pool = call.pool;
         units = min (wanted z q.asked - call.units) (units_left z);

@@ -6,6 +6,7 @@ use Rattle.std.specs.FinMap.{get}
 use Rattle.std.specs.List.{position}
 use Rattle.std.specs.Option.{unwrap_or}
 use Rattle.std.proofs.lemmas.List.Quantifiers.{position-Some}
+use Rattle.ras_module.specs.declared.request.Request.{Request}
 use Rattle.pools.specs.declared.interface.Figures.{Figures}
 use Rattle.pools.specs.declared.interface.Lend.{Lend}
 use Rattle.pools.specs.Account.{IsAnswer}
@@ -19,10 +20,10 @@ use Rattle.zone_tables.specs.Soundness.{CountsOneMore, SoundTables}
 use Rattle.zone_tables.specs.Tables.{Tables, heard_now, with_live}
 use Rattle.zone_tables.specs.UnitRequests.{IsUnitRequest, calls_with_grant, leg_of_purpose}
 use Rattle.zone_tables.specs.UnitRequests.{units_requested}
-use Rattle.ras_requests.specs.Conclusions.{granted_by, refused_by}
+use Rattle.ras_requests.specs.Conclusions.{asker_of, granted_by, refused_by}
 use Rattle.ras_requests.specs.Plans.{Plan, Served, Settled, Naming, Asking, hearing}
 use Rattle.ras_machine.specs.declared.job.Occasion.{Occasion}
-use Rattle.ras_machine.specs.declared.job.Occasion.TheVariants.{First, Again}
+use Rattle.ras_machine.specs.declared.job.Occasion.TheVariants.{Again, Anew, First}
 use Rattle.ras_machine.specs.Keeping.{granted, plan_at}
 use Rattle.sound_steps.proofs.Tables.{tables-answered, tables-heard}
 
@@ -51,22 +52,28 @@ SoundBy z (Naming named) =
 SoundBy z (Asking ask lent refused) = IsSoundAsk z ask lent refused
 
 -- units that may be requested
-module _ (z : Tables) (sound : SoundTables z) (q : UnitRequest)
+module _ (z : Tables) (sound : SoundTables z) (request : Request) (q : UnitRequest)
     (may : IsUnitRequest (usage_of z) q)
-    (registered : IfSome (leg_of_purpose q.purpose) (IsRegistered z.live)) where
+    (registered : IfSome (leg_of_purpose (asker_of request) q.purpose) (IsRegistered z.live)) where
   granted_so : (pools : List Figures) (grant : Option ℕ)
-      → SoundTables (record z { calls = calls_with_grant q grant z.calls; pools = pools })
-      → SoundTables (with_pools (granted (granted_by z q) (refused_by z q) grant) pools)
+      → SoundTables (record z {
+        calls = calls_with_grant (asker_of request) q grant z.calls;
+        pools = pools;
+      })
+      → SoundTables (with_pools
+      (granted (granted_by z request q) (refused_by z request q) grant) pools)
   granted_so pools None is = is
   granted_so pools (Some units) is = is
 
   -- whatever the pool answers, the tables are sound
-  pub asks : SoundBy z (Asking (units_requested q) (granted_by z q) (refused_by z q))
+  pub asks : SoundBy z
+      (Asking (units_requested q) (granted_by z request q) (refused_by z request q))
   asks = record {
     exists = may.pool;
     sound = λ answer fits.
         granted_so (pools_after_answer z.pools (units_requested q) answer)
-        (grant_of q.least answer) (tables-answered z sound q may registered answer fits);
+        (grant_of q.least answer)
+        (tables-answered z sound (asker_of request) q may registered answer fits);
   }
 
 -- that the endpoint of a request was heard keeps the tables sound
@@ -117,6 +124,7 @@ heard_too z now (Some id) (Asking ask lent refused) is = heard_ask z now id ask 
 pub sound_at : (z : Tables) (occasion : Occasion) (now : ℕ) (endpoint : Option (List ℕ))
     (plan : Plan) → SoundBy z plan → SoundBy z (plan_at occasion now endpoint plan)
 sound_at z (First dropped) now endpoint plan is = heard_too z now endpoint plan is
+sound_at z Anew now endpoint plan is = heard_too z now endpoint plan is
 sound_at z (Again born left) now endpoint plan is = is
 
 -- some pool serves each address, and is there

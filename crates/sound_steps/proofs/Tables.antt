@@ -2,6 +2,7 @@
 use Rattle.std.proofs.Common.{◌≡◌, ℕ, List, [], ◌∷◌, length, refl, sym, ◌∙◌, ap, subst}
 use Rattle.std.proofs.Common.{Some, None, arith}
 use Rattle.std.specs.Prelude.{IfSome, Option, option_and_then}
+use Rattle.std.specs.Option.{unwrap_or}
 use Rattle.std.specs.List.{fold}
 use Rattle.std.specs.FinMap as fin
 use Rattle.std.proofs.lemmas.List.{length-set}
@@ -10,10 +11,10 @@ use Rattle.keyed.proofs.Maps.{remove_absent}
 use Rattle.ras_module.specs.declared.call_key.CallKey.{CallKey}
 use Rattle.ras_module.proofs.CallKeyOrder.{call_key_cmp_total, call_key_cmp-IsAntisymmetric}
 use Rattle.registrations.specs.declared.registration.Registration.{Registration}
-use Rattle.registrations.specs.Registry.{Live, after_ask, after_calm}
+use Rattle.registrations.specs.Registry.{Live, after_ask, after_calm, with_deadline}
 use Rattle.admission.specs.declared.call.Call.{Call}
 use Rattle.admission.specs.Calls.{OpenCalls, after_leave, freed_by_leave, put_or_remove}
-use Rattle.admission.specs.Calls.{rest_of_call}
+use Rattle.admission.specs.Calls.{legs_of, rest_of_call}
 use Rattle.admission.proofs.Soundness.{EachLeg-leave}
 use Rattle.pools.specs.declared.interface.Figures.{Figures}
 use Rattle.pools.specs.declared.interface.Lend.{Lend}
@@ -37,7 +38,7 @@ use Rattle.zone_tables.proofs.Backing.{length-after_end}
 use Rattle.zone_tables.proofs.ButLent.{counts_same, same_after_end, same_through}
 use Rattle.zone_tables.proofs.Departing.{endpoints_stay, legs_left, over_all, same_after_leave}
 use Rattle.zone_tables.proofs.Legs.{legs-answer, legs-calls, legs-endpoint, legs-heard}
-use Rattle.zone_tables.proofs.Legs.{legs-remove, legs-update, length-pools_after}
+use Rattle.zone_tables.proofs.Legs.{legs-remove, legs-update, legs_without, length-pools_after}
 use Rattle.sound_steps.proofs.Calls.{usage-after, usage-answered, usage-left}
 use Rattle.sound_steps.proofs.Endpoints.{roll-after, roll-changed, roll-heard, roll-went}
 
@@ -110,18 +111,19 @@ module _ (z : Tables) (sound : SoundTables z) where
   }
 
   -- a change that can be made
-  pub tables-after : (now : ℕ) (change : Change) → IsPossible z change
-      → SoundTables (after_change now change z)
-  tables-after now Nothing can = sound
-  tables-after now (Endpoint change) can =
+  pub tables-after : (now : ℕ) (who : Option (List ℕ)) (change : Change) → IsPossible z who change
+      → SoundTables (after_change now who change z)
+  tables-after now who Nothing can = sound
+  tables-after now who (Endpoint change) can =
       with_endpoints (after_endpoint_change now change z.live)
       (roll-after (roll_of z) (roll-sound z sound) now change can.0)
       (legs-endpoint z.live z.calls now change sound.legs can.1)
-  tables-after now (Calls change) can =
-      with_usages (calls_after change z.calls) (pools_after change z.calls z.pools)
-      (usage-after (usage_of z) (usage-sound z sound) change can.0)
-      (legs-calls z.live (usage_of z) change sound.legs can.0 can.1)
-      (length-pools_after change z.calls z.pools)
+  tables-after now who (Calls change) can =
+      let id = unwrap_or who [] in
+      with_usages (calls_after id change z.calls) (pools_after id change z.calls z.pools)
+      (usage-after (usage_of z) (usage-sound z sound) id change can.1.0)
+      (legs-calls z.live (usage_of z) id change sound.legs can.1.0 can.1.1)
+      (length-pools_after id change z.calls z.pools)
 
   -- an endpoint was heard
   pub tables-heard : (now : ℕ) (id : List ℕ) → SoundTables (with_live z (heard_now now id z.live))
@@ -146,23 +148,36 @@ module _ (z : Tables) (sound : SoundTables z) where
       → SoundTables (with_live z (update z.live id (after_ask now)))
   tables-asked now id = tables-changed id (after_ask now) (λ r. refl) (λ r. refl) (λ r. refl)
 
+  -- its time to live is granted anew
+  pub tables-renewed : (id : List ℕ) (deadline : ℕ)
+      → SoundTables (with_live z (update z.live id (with_deadline deadline)))
+  tables-renewed id deadline =
+      tables-changed id (with_deadline deadline) (λ r. refl) (λ r. refl) (λ r. refl)
+
+  -- one that is in no call goes
+  pub tables-removed : (id : List ℕ) → legs_of z.calls id ≡ 0
+      → SoundTables (with_live z (fin.remove z.live id))
+  tables-removed id zero =
+      with_endpoints (fin.remove z.live id) (roll-went (roll_of z) (roll-sound z sound) id)
+      (legs_without z.live z.calls id sound.legs zero)
+
   -- its tries are counted from 0 again
   pub tables-calm : (id : List ℕ) → SoundTables (with_live z (update z.live id after_calm))
   tables-calm id = tables-changed id after_calm (λ r. refl) (λ r. refl) (λ r. refl)
 
   -- a pool gave an answer that it may give
-  pub tables-answered : (q : UnitRequest) → IsUnitRequest (usage_of z) q
-      → IfSome (leg_of_purpose q.purpose) (IsRegistered z.live) → (answer : Lend)
+  pub tables-answered : (id : List ℕ) (q : UnitRequest) → IsUnitRequest (usage_of z) q
+      → IfSome (leg_of_purpose id q.purpose) (IsRegistered z.live) → (answer : Lend)
       → IsAnswer (figures_at z.pools q.pool) q.units answer
       → SoundTables (record z {
-        calls = calls_after_answer q answer z.calls;
+        calls = calls_after_answer id q answer z.calls;
         pools = pools_after_answer z.pools (units_requested q) answer;
       })
-  tables-answered q may registered answer fits =
-      with_usages (calls_after_answer q answer z.calls)
+  tables-answered id q may registered answer fits =
+      with_usages (calls_after_answer id q answer z.calls)
       (pools_after_answer z.pools (units_requested q) answer)
-      (usage-answered (usage_of z) (usage-sound z sound) q may answer fits)
-      (legs-answer z.live z.calls q answer sound.legs registered)
+      (usage-answered (usage_of z) (usage-sound z sound) id q may answer fits)
+      (legs-answer z.live z.calls id q answer sound.legs registered)
       (length-set z.pools q.pool (figures_after_least (figures_at z.pools q.pool) q.least answer))
 
   -- an endpoint left a call, if there is such a call and it had a leg

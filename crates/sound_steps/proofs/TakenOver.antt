@@ -1,17 +1,16 @@
 -- A fresh pool that takes over the loans of another one leaves a sound state.
 use Rattle.std.proofs.Common.{◌≡◌, ◌≢◌, ◌<◌, ◌≤◌, ◌+◌, ◌^◌, ◌==◌, All, ℕ, Bool, true, false, ap}
 use Rattle.std.proofs.Common.{arith}
-use Rattle.std.proofs.Common.{List, get_or, length, refl, set, subst, sym, ◌∙◌}
-use Rattle.std.specs.Prelude.{max}
+use Rattle.std.proofs.Common.{List, length, refl, set, subst, sym, ◌∙◌}
 use Rattle.std.proofs.lemmas.Bool.Decides.{Decides-eqb}
 use Rattle.std.proofs.lemmas.List.{length-set}
 use Rattle.std.proofs.lemmas.List.Elements.{All-set}
-use Rattle.admission.specs.Calls.{EachCall, in_use_of}
+use Rattle.admission.specs.Calls.{EachCall}
 use Rattle.pools.specs.declared.interface.Figures.{Figures}
 use Rattle.zone_events.specs.declared.change.PoolChange.{PoolChange}
 use Rattle.zone_events.specs.declared.outcome.Outcome.{Outcome}
 use Rattle.zone_tables.specs.Pools.{MayReplace, figures_at}
-use Rattle.zone_tables.specs.Soundness.{HasCounts, IsLentTo, SoundTables}
+use Rattle.zone_tables.specs.Soundness.{HasCounts, SoundTables}
 use Rattle.zone_tables.proofs.OnePool.{figures_elsewhere, figures_here}
 use Rattle.ras_machine.specs.Replacing.{Replaces, replaced}
 use Rattle.ras_machine.specs.Soundness.{Sound}

@@ -28,7 +28,7 @@ use Rattle.ras_machine.specs.declared.course.Course as code
 use Rattle.ras_machine.specs.declared.course.Course.TheVariants as course
 use Rattle.ras_machine.specs.declared.course.Task as code_task
 use Rattle.ras_machine.specs.declared.job.Occasion.{Occasion}
-use Rattle.ras_machine.specs.declared.job.Occasion.TheVariants.{First, Again}
+use Rattle.ras_machine.specs.declared.job.Occasion.TheVariants.{Again, Anew, First}
 use Rattle.ras_machine.specs.State.{State}
 use Rattle.ras_machine.specs.Keeping.{Task, plan_at}
 use Rattle.ras_machine.specs.Machine.{Choices, Course, Ignoring, Hearing, Repeating, Serving, Doing}
@@ -121,11 +121,13 @@ module _ (s : State) (now : ℕ) where
         → IsSomeAnd outcome.given (IsUnusedIn s)
     occasion_given task endpoint named (First dropped) may is =
         naming_given task _ outcome.given may is
+    occasion_given task endpoint named Anew may is =
+        naming_given task _ outcome.given may is
     occasion_given task endpoint named (Again born left) may is =
         naming_given task _ outcome.given may is
 
     concluded_given : (task : code_task.Task) (plan : Plan) (concluded : Conclusion)
-        → Concludes s.tables now plan concluded
+        → Concludes s.tables now task.request plan concluded
         → IsAllowed s now (serving task.job now task.request plan) (choices_of outcome)
         → course_ending s now (serving task.job now task.request plan) (choices_of outcome)
         ≡ Some (outcome, after)

@@ -225,7 +225,7 @@ fn one_alias(alloc: Global) -> Option<ReplyAliases> {
     let alias = digits(&[49, 50])?;
     let mut list = AliasList::new(alloc);
     list.push(alias).ok()?;
-    ReplyAliases::new(list).ok()
+    ReplyAliases::new(list).ok()?
 }
 
 /// Whether an endpoint gets another RAS address, an alias and a deadline, and no other address.

@@ -26,7 +26,7 @@ pub fn digits(text: &[u16]) -> Option<Alias> {
 }
 
 pub fn no_alias(alloc: Global) -> Option<ReplyAliases> {
-    ReplyAliases::new(AliasList::new(alloc)).ok()
+    ReplyAliases::new(AliasList::new(alloc)).ok()?
 }
 
 pub fn seq(number: u16) -> RequestSeqNum {

@@ -9,6 +9,7 @@ use ras_module::{
     ReplyAliases, Request, TimeToLive,
 };
 use std::alloc::{AllocError, Global};
+use std::hash::{BuildHasher, BuildHasherDefault, FoldHasher};
 use std::test::Fail;
 
 const SOURCE: Address = Address {
@@ -412,4 +413,51 @@ fn count_of_list(kept: &Kept) -> Result<usize, Fail> {
         Err(_) => kept.list()?,
     };
     Ok(list.as_slice().len())
+}
+
+/// What a table hashes this datagram to.
+fn hash_of(key: &KeptKey) -> u64 {
+    BuildHasherDefault::<FoldHasher>::new().hash_one(key)
+}
+
+#[test]
+fn datagrams_of_one_source_are_hashed_apart(rt: HostRuntime) -> Result<(), Fail> {
+    let first = hash_of(&key(rt.alloc(), 1)?);
+    let second = hash_of(&key(rt.alloc(), 2)?);
+    let first_again = hash_of(&key(rt.alloc(), 1)?);
+    assert!(rt; first != second);
+    assert_eq!(rt; first, first_again);
+    Ok(())
+}
+
+// A reply to the datagram of one octet is entered without a search, if nothing is kept for it.
+fn add(alloc: Global, kept: &mut Kept, octet: u8, until: u64) -> Result<(), Fail> {
+    let datagram = key(alloc, octet)?;
+    let reply = kept_reply(alloc, &confirm(u16::from(octet)))?;
+    let born = u64::from(octet);
+    if kept.is_full() || kept.find(&datagram).is_some() || !kept.is_free(&datagram, born) {
+        return Err(Fail::from("it can't be kept"));
+    }
+    kept.make_room()?;
+    let state = KeptState::Done { reply, until };
+    kept.add(datagram, KeptEntry { born, state });
+    Ok(())
+}
+
+// Two entries are added, and there is room for a third one whether one is over or not.
+fn are_added(alloc: Global, kept: &mut Kept) -> Result<bool, Fail> {
+    add(alloc, kept, 1, 10)?;
+    add(alloc, kept, 2, 20)?;
+    let has_room = kept.make_room() == Ok(());
+    let are_found = is_confirm(kept, 1, 1)? && is_confirm(kept, 2, 2)?;
+    Ok(has_room && are_found && kept.is_busy(9) && kept.over(10) == Some(1))
+}
+
+#[test]
+fn entries_are_added_without_a_search(rt: HostRuntime) -> Result<(), Fail> {
+    let mut kept = Kept::new(rt.alloc(), 2);
+    let are_added = are_added(rt.alloc(), &mut kept);
+    drop(kept);
+    assert!(rt; are_added?);
+    Ok(())
 }

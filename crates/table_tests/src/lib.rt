@@ -19,4 +19,8 @@ mod held_aliases;
 #[cfg(test)]
 mod kept;
 #[cfg(test)]
+mod limits;
+#[cfg(test)]
+mod quiet;
+#[cfg(test)]
 mod rows;

@@ -9,6 +9,10 @@ IsWithin (Datagram source octets) = octets ≤ 4097
 IsWithin Quiet = Unit {0}
 IsWithin Stopped = Unit {0}
 
--- the count after one failed call more: at the greatest number it stays there
+-- the greatest number that a count has: it stays there
+abbrev pub most_count : ℕ
+most_count = 18446744073709551615
+
+-- the count after one failed call more
 abbrev pub fault_count : ℕ → ℕ
-fault_count before = min (before + 1) 18446744073709551615
+fault_count before = min (before + 1) most_count

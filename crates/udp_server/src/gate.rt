@@ -1,13 +1,14 @@
 //! Places where a worker can be watched, or held.
 
-/// How far a worker is with one event. It holds no lock at any of these.
+/// How far a worker is with one event, or with turns that it makes one after the other. It holds no
+/// lock at any of these.
 #[derive(Clone, Copy, PartialEq, Eq, Debug)]
 pub enum Stage {
-    /// The event is prepared, and its step is next.
+    /// The event is prepared, and its step is next; or the turns are.
     BeforeApply,
-    /// The step was made, and its reply is to be handed to the sender.
+    /// The step was made, or the turns were, and what they send is to be handed to the sender.
     AfterApply,
-    /// The reply, if there is one, was handed to the sender, or found no place.
+    /// Each reply, if there is any, was handed to the sender, or found no place.
     AfterPost,
 }
 

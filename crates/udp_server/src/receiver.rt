@@ -23,6 +23,17 @@ struct Receiver<N: Datagrams> {
     failed_in_a_row: u64,
 }
 
+/// What a receive came to.
+#[derive(Drop)]
+enum Next {
+    /// A datagram came: its step is next.
+    Event(Event),
+    /// Nothing came that makes a step.
+    Nothing,
+    /// Nothing more is received: the end has stopped, or too many receives in a row have failed.
+    End,
+}
+
 /// Receives datagrams and makes a step for each, until the end has stopped, too many receives in a
 /// row have failed, or no step may be made any more.
 pub(crate) fn work<
@@ -48,16 +59,22 @@ pub(crate) fn work<
     };
     if shared.board.may_begin(shared.rt) {
         for _ in shared.rt.forever() {
-            if !goes_on(shared, &mut receiver, &mut worker) {
-                break;
+            match receive_next(shared, &mut receiver, &mut worker) {
+                Next::Event(event) => {
+                    if let StepResult::Closed = worker.step(shared, event) {
+                        break;
+                    }
+                }
+                Next::Nothing => {}
+                Next::End => break,
             }
         }
     }
     worker.end(shared, Vec::new(shared.alloc))
 }
 
-/// Waits for a datagram, and makes its step. Whether the worker goes on.
-fn goes_on<
+/// Waits for a datagram.
+fn receive_next<
     P: Pool,
     D: Hall,
     T: Ledger,
@@ -71,28 +88,32 @@ fn goes_on<
     shared: &Shared<'_, P, D, T, U, V, R, G>,
     receiver: &mut Receiver<N>,
     worker: &mut Worker<D, T, U, V, C>,
-) -> bool {
+) -> Next {
     match receiver.end.receive(&mut receiver.buffer) {
-        Ok(Received::Stopped) => false,
+        Ok(Received::Stopped) => Next::End,
         Ok(Received::Quiet) => {
             receiver.failed_in_a_row = 0;
-            true
+            Next::Nothing
         }
         Ok(Received::Datagram(source, length)) => {
             receiver.failed_in_a_row = 0;
             let moment = worker.clock.now();
             match event_of(shared.alloc, source, &receiver.buffer[..length], moment) {
-                Ok(event) => !matches!(worker.step(shared, event), StepResult::Closed),
+                Ok(event) => Next::Event(event),
                 Err(AllocError) => {
                     worker.counts.refuse();
-                    true
+                    Next::Nothing
                 }
             }
         }
         Err(DeviceFault) => {
             worker.counts.faults = worker.counts.faults.saturating_add(1);
             receiver.failed_in_a_row = receiver.failed_in_a_row.saturating_add(1);
-            receiver.failed_in_a_row < shared.plan.faults
+            if receiver.failed_in_a_row < shared.plan.faults {
+                Next::Nothing
+            } else {
+                Next::End
+            }
         }
     }
 }

@@ -179,6 +179,7 @@ fn report_of<P: Pool, D: Hall, T: Ledger, U: Ledger, V: Ledger>(
     }
 }
 
+/// The same, with what all workers left together: the report takes over what they counted and kept.
 fn report_with<P: Pool, D: Hall, T: Ledger, U: Ledger, V: Ledger>(
     lock: ZoneLock<P, D, T, U, V>,
     joint: JointRecord<D, T, U, V>,
@@ -188,6 +189,14 @@ fn report_with<P: Pool, D: Hall, T: Ledger, U: Ledger, V: Ledger>(
     ensures served { IfOk result (λ r. IsServed D.opened r.finished r.datagrams r.turns
         r.changes) }
     ensures counts { result ≢ Err ServeFault.WrongCounts }
+    ensures sent { IfOk result (λ r. r.sent ≡ sent.replies) }
+    ensures send_faults { IfOk result (λ r. r.send_faults ≡ sent.faults) }
+    ensures dropped { IfOk result (λ r. r.dropped ≡ joint.counts.dropped) }
+    ensures refused { IfOk result (λ r. r.refused ≡ joint.counts.refused) }
+    ensures receive_faults { IfOk result (λ r. r.receive_faults ≡ joint.counts.faults) }
+    ensures chapters { IfOk result (λ r. r.chapters ≡ joint.chapters) }
+    ensures receipts { IfOk result (λ r. r.receipts ≡ joint.receipts) }
+    ensures boxes { IfOk result (λ r. r.boxes ≡ boxes) }
 {
     let JointRecord {
         seats,

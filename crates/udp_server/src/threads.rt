@@ -1,5 +1,6 @@
 //! The threads of a server: they begin together, and are joined.
 
+ghost use Rattle.std.specs.Prelude.{◌≡◌, ◌≤◌, ◌<◌, ◌+◌, IfSome, vec_capacity, vec_len};
 ghost use Rattle.std.specs.Thread.{IsSend};
 
 use crate::datagrams::Datagrams;
@@ -64,22 +65,19 @@ pub(crate) fn run<
     inlets: Vec<Inlet>,
     sender: N,
 ) -> Result<CrewRecord<P, D, T, U, V>, AllocError> {
-    let room = crew.workers.len();
-    let handles = Vec::with_capacity(shared.alloc, room)?;
-    let workers = Vec::with_capacity(shared.alloc, room.saturating_add(1))?;
     let record = thread::scope(
         thread::scope_env(),
         shared.rt,
         |scope| -> Option<CrewRecord<P, D, T, U, V>>
             requires { IsSend P.row × IsSend D.row × IsSend T.row × IsSend U.row × IsSend N.row
                 × IsSend C.row }
-        { run_in(scope, shared, crew, inlets, sender, handles, workers) },
+        { run_in(scope, shared, crew, inlets, sender) },
     );
     record.ok_or(AllocError)
 }
 
-/// Runs the threads in a scope. None if one of them can't be made; those that were made then end
-/// without having begun. The lists have room for what is put there.
+/// Runs the threads in a scope. None if one of them can't be made, or if there is no memory for
+/// what they leave; those that were made then end without having begun.
 fn run_in<
     's,
     E,
@@ -98,8 +96,6 @@ fn run_in<
     crew: Crew<P, D, T, U, V, N, C>,
     inlets: Vec<Inlet>,
     sender: N,
-    handles: Vec<JoinHandle<WorkerRecord<D, T, U, V>>>,
-    records: Vec<WorkerRecord<D, T, U, V>>,
 ) -> Option<CrewRecord<P, D, T, U, V>> {
     let Crew {
         receivers,
@@ -107,19 +103,17 @@ fn run_in<
         expiry,
         orders,
     } = crew;
-    let others = workers.len();
-    let (mut handles, mut records) = (handles, records);
-    for (end, worker) in receivers.into_iter().zip(workers) {
-        match start_worker(scope, shared, end, worker) {
-            Some(handle) => {
-                let _ = handles.push(handle);
-            }
-            None => {
-                shared.board.cancel(shared.rt);
-                return None;
-            }
-        }
-    }
+    let Some(room) = receivers.len().checked_add(1) else {
+        return None;
+    };
+    let Ok(records) = Vec::with_capacity(shared.alloc, room) else {
+        return None;
+    };
+    let Some(handles) = start_workers(scope, shared, receivers, workers) else {
+        shared.board.cancel(shared.rt);
+        return None;
+    };
+    let others = handles.len();
     let Some(last) = start_expiry(scope, shared, others, expiry, orders) else {
         shared.board.cancel(shared.rt);
         return None;
@@ -127,16 +121,66 @@ fn run_in<
     shared.board.start(shared.rt);
     let all = others.saturating_add(1);
     let sent = send_all(shared.rt, shared.board, all, inlets, sender);
-    for handle in handles {
-        let _ = records.push(handle.join(shared.rt));
-    }
+    let mut records = join_all(shared.rt, handles, records);
     let ExpiryRecord { worker, boxes } = last.join(shared.rt);
-    let _ = records.push(worker);
+    records.push_reserved(worker);
     Some(CrewRecord {
         workers: records,
         boxes,
         sent,
     })
+}
+
+/// Starts a thread for each receiving end. None if one of them can't be made.
+fn start_workers<
+    's,
+    E,
+    P: Pool + Send + 's,
+    D: Hall + Send + Sync + 's,
+    T: Ledger + Send + Sync + 's,
+    U: Ledger + Send + Sync + 's,
+    V: Ledger + Send + Sync + 's,
+    R: Threads + Wait + Clock + Sync + 's,
+    N: Datagrams + Send + 's,
+    G: Gate + Sync + 's,
+    C: Moments + Send + 's,
+>(
+    scope: &'s Scope<'s, E>,
+    shared: &'s Shared<'s, P, D, T, U, V, R, G>,
+    receivers: Vec<N>,
+    workers: Vec<Worker<D, T, U, V, C>>,
+) -> Option<Vec<JoinHandle<WorkerRecord<D, T, U, V>>>>
+    ensures { IfSome result (λ handles. vec_len handles ≤ vec_len receivers) }
+{
+    let Ok(mut handles) = Vec::with_capacity(shared.alloc, receivers.len()) else {
+        return None;
+    };
+    let mut workers = workers.into_iter();
+    for end in receivers {
+        let Some(worker) = workers.next() else {
+            break;
+        };
+        handles.push_reserved(start_worker(scope, shared, end, worker)?);
+    }
+    Some(handles)
+}
+
+/// What the threads leave, behind the records that are there, for which there is room, and for one
+/// more.
+fn join_all<X: Drop, R: Threads + Wait>(
+    rt: &R,
+    handles: Vec<JoinHandle<X>>,
+    records: Vec<X>,
+) -> Vec<X>
+    requires { vec_len records + vec_len handles < vec_capacity records }
+    ensures len { vec_len result ≡ vec_len records + vec_len handles }
+    ensures room { vec_len result < vec_capacity result }
+{
+    let mut records = records;
+    for handle in handles {
+        records.push_reserved(handle.join(rt));
+    }
+    records
 }
 
 /// Starts the thread of a receiving end. None if no thread can be made.

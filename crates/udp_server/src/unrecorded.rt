@@ -1,6 +1,7 @@
 //! Steps of a worker of which nothing is recorded.
 
 ghost use Rattle.std.specs.Prelude.{◌≡◌};
+ghost use Rattle.zone_lock.specs.Held.{IsClosed};
 
 use crate::gate::{Gate, Stage};
 use crate::moments::Moments;
@@ -10,16 +11,25 @@ use ras_core::{Event, StepFault, prepare};
 use std::sync::Wait;
 use std::sync::ledger::Ledger;
 use zone_events::{Datagram, Note};
-use zone_lock::Hall;
+use zone_lock::{Hall, TurnsEnd};
+
+/// How many turns are made at most before the lock is free again: a request waits for them.
+const MOST_AT_ONCE: usize = 50;
 
 impl<D: Hall, T: Ledger, U: Ledger, V: Ledger, C: Moments> Worker<D, T, U, V, C> {
-    /// Makes the step of an event, and hands its reply to the sender. The worker keeps its outcome
-    /// until the next step, and nothing else tells of it.
-    pub(crate) fn step_unrecorded<P: Pool, R: Wait, G: Gate>(
+    /// Makes the step of an event, as the plan wants it, and hands its reply to the sender. If
+    /// nothing is recorded, the worker keeps its outcome until the next step, and nothing else
+    /// tells of it.
+    pub(crate) fn step<P: Pool, R: Wait, G: Gate>(
         &mut self,
         shared: &Shared<'_, P, D, T, U, V, R, G>,
         event: Event,
-    ) -> StepResult {
+    ) -> StepResult
+        ensures { result ≡ StepResult.Closed → IsClosed D.opened }
+    {
+        if shared.plan.is_recorded() {
+            return self.step_recorded(shared, event);
+        }
         let Ok(prepared) = prepare(shared.alloc, event) else {
             self.counts.refuse();
             return StepResult::Refused;
@@ -50,5 +60,37 @@ impl<D: Hall, T: Ledger, U: Ledger, V: Ledger, C: Moments> Worker<D, T, U, V, C>
         ensures { result ≡ self.old.outcome.output }
     {
         self.outcome.output.take()
+    }
+
+    /// Makes turns one after the other while it holds the lock, and hands their replies to the
+    /// sender, in order. Nothing is recorded of them. Why it makes no further one; a want of memory
+    /// is counted. What `replies` has is let go; only its memory is used.
+    pub(crate) fn turns<P: Pool, R: Wait, G: Gate>(
+        &mut self,
+        shared: &Shared<'_, P, D, T, U, V, R, G>,
+        replies: &mut Vec<Datagram>,
+    ) -> TurnsEnd
+        ensures { result ≡ TurnsEnd.Refused StepFault.Closed → IsClosed D.opened }
+    {
+        replies.clear();
+        if replies.reserve(MOST_AT_ONCE).is_err() {
+            self.counts.refuse();
+            return TurnsEnd::Refused(StepFault::Memory);
+        }
+        let moment = self.clock.now();
+        shared.gate.pass(self.number, Stage::BeforeApply);
+        let (seat, outcome) = (&mut self.seat, &mut self.outcome);
+        let end = shared
+            .lock
+            .turns(shared.rt, seat, moment, MOST_AT_ONCE, outcome, replies);
+        if end == TurnsEnd::Refused(StepFault::Memory) {
+            self.counts.refuse();
+        }
+        shared.gate.pass(self.number, Stage::AfterApply);
+        for datagram in replies.drain(..) {
+            self.post(shared, datagram);
+        }
+        shared.gate.pass(self.number, Stage::AfterPost);
+        end
     }
 }

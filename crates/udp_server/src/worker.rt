@@ -3,7 +3,8 @@
 ghost use Rattle.std.specs.Prelude.{◌≡◌, ◌<◌, ◌+◌, min, IfOk, vec_capacity, vec_len};
 ghost use Rattle.std.specs.Option.{ForSome};
 ghost use Rattle.ras_machine.specs.Steps.{HasFewOctets};
-ghost use Rattle.udp_server.specs.Ends.{fault_count};
+ghost use Rattle.zone_lock.specs.Held.{IsClosed};
+ghost use Rattle.udp_server.specs.Ends.{fault_count, most_count};
 ghost use Rattle.udp_server.specs.Rooms.{IsRoom};
 
 use crate::board::Board;
@@ -64,9 +65,9 @@ impl Counts {
 
     /// What both count together.
     pub(crate) fn and(self, more: Counts) -> Counts
-        ensures dropped { result.dropped ≡ min (self.dropped + more.dropped) 18446744073709551615 }
-        ensures refused { result.refused ≡ min (self.refused + more.refused) 18446744073709551615 }
-        ensures faults { result.faults ≡ min (self.faults + more.faults) 18446744073709551615 }
+        ensures dropped { result.dropped ≡ min (self.dropped + more.dropped) most_count }
+        ensures refused { result.refused ≡ min (self.refused + more.refused) most_count }
+        ensures faults { result.faults ≡ min (self.faults + more.faults) most_count }
     {
         Counts {
             dropped: self.dropped.saturating_add(more.dropped),
@@ -123,26 +124,15 @@ pub(crate) enum StepResult {
 }
 
 impl<D: Hall, T: Ledger, U: Ledger, V: Ledger, C: Moments> Worker<D, T, U, V, C> {
-    /// Makes the step of an event, as the plan wants it, and hands its reply to the sender.
-    pub(crate) fn step<P: Pool, R: Wait, G: Gate>(
-        &mut self,
-        shared: &Shared<'_, P, D, T, U, V, R, G>,
-        event: Event,
-    ) -> StepResult {
-        if shared.plan.is_recorded() {
-            self.step_recorded(shared, event)
-        } else {
-            self.step_unrecorded(shared, event)
-        }
-    }
-
     /// Makes the step of an event, which is an entry of the history, and hands its reply to the
     /// sender. What is needed of memory is there before the step.
-    fn step_recorded<P: Pool, R: Wait, G: Gate>(
+    pub(crate) fn step_recorded<P: Pool, R: Wait, G: Gate>(
         &mut self,
         shared: &Shared<'_, P, D, T, U, V, R, G>,
         event: Event,
-    ) -> StepResult {
+    ) -> StepResult
+        ensures { result ≡ StepResult.Closed → IsClosed D.opened }
+    {
         match self.ready(shared, event) {
             Ok((prepared, buffer)) => self.apply(shared, prepared, buffer),
             Err(AllocError) => {
@@ -181,6 +171,7 @@ impl<D: Hall, T: Ledger, U: Ledger, V: Ledger, C: Moments> Worker<D, T, U, V, C>
         buffer: Option<Vec<u8>>,
     ) -> StepResult
         requires { ForSome buffer (λ buffer. IsRoom buffer self.old.receipts) }
+        ensures { result ≡ StepResult.Closed → IsClosed D.opened }
     {
         shared.gate.pass(self.number, Stage::BeforeApply);
         let receipt = match shared.lock.apply(shared.rt, &mut self.seat, prepared) {

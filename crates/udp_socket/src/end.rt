@@ -1,12 +1,14 @@
 //! Ends of a socket.
 
-ghost use Rattle.std.specs.Prelude.{◌≡◌};
-ghost use Rattle.udp_server.specs.Ends.{fault_count};
+ghost use Rattle.std.specs.Prelude.{◌≡◌, ◌≤◌, ◌↔◌, if◌then◌else◌, IfOk, IsOk, IsOkAnd, IsTrue};
+ghost use Rattle.std.specs.Prelude.{None, OnErr, OnOk, Some};
+ghost use Rattle.udp_server.specs.Ends.{IsWithin, fault_count};
+ghost use Rattle.udp_socket.specs.Ends.{is_quiet, one_fewer, received_by};
 
 use crate::addresses::{ras_address, system_address};
 use crate::stop::Stop;
-use std::io::ErrorKind;
-use std::net::UdpSocket;
+use std::io::{self, ErrorKind};
+use std::net::{SocketAddr, UdpSocket};
 use udp_server::{Datagrams, DeviceFault, Received};
 use zone_events::Datagram;
 
@@ -35,7 +37,10 @@ impl<'a, S: Stop> SocketEnd<'a, S> {
 
     /// Whether nothing more is to be received. Else one more receive is counted.
     fn has_stopped(&mut self) -> bool
-        ensures { self.new.faults ≡ self.old.faults }
+        ensures faults { self.new.faults ≡ self.old.faults }
+        ensures left { self.new.receives
+            ≡ (if result then self.old.receives else one_fewer self.old.receives) }
+        ensures none_left { self.old.receives ≡ Some 0 → IsTrue result }
     {
         if self.stop.is_over() {
             return true;
@@ -50,6 +55,40 @@ impl<'a, S: Stop> SocketEnd<'a, S> {
         }
     }
 
+    /// What a receive answers, by what the system's call gave.
+    fn after_receive(
+        &mut self,
+        answer: io::Result<(usize, SocketAddr)>,
+    ) -> Result<Received, DeviceFault>
+        requires { IfOk answer (λ came. came.0 ≤ 4097) }
+        ensures received { IfOk result (λ received. received_by answer ≡ Some received) }
+        ensures failed { OnErr result (received_by answer ≡ None) }
+        ensures within { IfOk result IsWithin }
+        ensures ok { OnOk result (self.new.faults ≡ self.old.faults) }
+        ensures err { OnErr result (self.new.faults ≡ fault_count self.old.faults) }
+    {
+        match answer {
+            Ok((octets, from)) => match ras_address(from) {
+                Some(source) => Ok(Received::Datagram(source, octets)),
+                None => Ok(Received::Quiet),
+            },
+            Err(error) if is_quiet(error.kind()) => Ok(Received::Quiet),
+            Err(_) => Err(self.fault()),
+        }
+    }
+
+    /// What a send of so many octets answers, by what the system's call gave.
+    fn after_send(&mut self, answer: io::Result<usize>, octets: usize) -> Result<(), DeviceFault>
+        ensures sent { IsOk result ↔ IsOkAnd answer (λ sent. sent ≡ octets) }
+        ensures ok { OnOk result (self.new.faults ≡ self.old.faults) }
+        ensures err { OnErr result (self.new.faults ≡ fault_count self.old.faults) }
+    {
+        match answer {
+            Ok(sent) if sent == octets => Ok(()),
+            _ => Err(self.fault()),
+        }
+    }
+
     fn fault(&mut self) -> DeviceFault
         ensures { self.new.faults ≡ fault_count self.old.faults }
     {
@@ -60,7 +99,9 @@ impl<'a, S: Stop> SocketEnd<'a, S> {
 
 /// Whether a receive failed only because nothing came, or because the program was stopped and
 /// goes on.
-fn is_quiet(kind: ErrorKind) -> bool {
+fn is_quiet(kind: ErrorKind) -> bool
+    ensures { result ≡ is_quiet kind }
+{
     matches!(
         kind,
         ErrorKind::WouldBlock | ErrorKind::TimedOut | ErrorKind::Interrupted
@@ -74,22 +115,14 @@ impl<S: Stop> Datagrams for SocketEnd<'_, S> {
         if self.has_stopped() {
             return Ok(Received::Stopped);
         }
-        match self.socket.recv_from(buffer) {
-            Ok((octets, from)) => match ras_address(from) {
-                Some(source) => Ok(Received::Datagram(source, octets)),
-                None => Ok(Received::Quiet),
-            },
-            Err(error) if is_quiet(error.kind()) => Ok(Received::Quiet),
-            Err(_) => Err(self.fault()),
-        }
+        let answer = self.socket.recv_from(buffer);
+        self.after_receive(answer)
     }
 
     fn send(&mut self, datagram: &Datagram) -> Result<(), DeviceFault> {
         let octets = datagram.bytes.as_slice();
-        match self.socket.send_to(octets, system_address(datagram.to)) {
-            Ok(sent) if sent == octets.len() => Ok(()),
-            _ => Err(self.fault()),
-        }
+        let answer = self.socket.send_to(octets, system_address(datagram.to));
+        self.after_send(answer, octets.len())
     }
 
     fn failures(&self) -> u64 {

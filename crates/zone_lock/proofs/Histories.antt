@@ -5,13 +5,10 @@ use Rattle.std.specs.Prelude.{Option, None, Some}
 use Rattle.std.proofs.Common.{length-append}
 use Rattle.std.proofs.lemmas.List.Sums.{sum_by-append}
 use Rattle.admission.specs.Calls.{in_use}
-use Rattle.zone_events.specs.declared.change.Change.{Change}
-use Rattle.zone_events.specs.declared.change.Change.TheVariants.{Event, PoolChange}
-use Rattle.zone_events.specs.declared.outcome.Outcome.{Outcome}
 use Rattle.ras_machine.specs.State.{State}
 use Rattle.ras_core.specs.Running.{Running}
 use Rattle.ras_core.proofs.Changing.{sound_after, step_of}
-use Rattle.ras_core.specs.Runs.{ChangeStep, RunningChange}
+use Rattle.ras_core.specs.Runs.{RunningChange}
 use Rattle.books.specs.declared.book.Entry.{Entry}
 use Rattle.books.specs.declared.totals.Totals.{Totals}
 use Rattle.books.specs.Books.{BookRun}

@@ -1,7 +1,7 @@
 -- A history that is one step longer, whose entry is kept or not.
 use Rattle.std.proofs.Common.{◌≡◌, ◌≢◌, ◌≤◌, ◌<◌, ◌+◌, ◌-◌, ◌^◌, ℕ, List, [], ◌∷◌, ◌++◌}
 use Rattle.std.proofs.Common.{length, length-append, refl, sym, ◌∙◌, ap, subst, arith}
-use Rattle.std.specs.Prelude.{Option, None, Some, Result, Ok, Err, OnOk}
+use Rattle.std.specs.Prelude.{Option, None, Some, Result, Ok, Err, OnOk, is_some, false}
 use Rattle.std.proofs.lemmas.List.{append-nil, append_assoc}
 use Rattle.admission.specs.Calls.{in_use}
 use Rattle.zone_events.specs.declared.change.Change.{Change}
@@ -13,13 +13,18 @@ use Rattle.ras_core.proofs.Changing.{step_of}
 use Rattle.books.proofs.Spending.{step_is_fair}
 use Rattle.books.specs.declared.book.Entry.{Entry}
 use Rattle.books.specs.declared.totals.Totals.{Totals}
-use Rattle.books.specs.Totals.{changes_in, changes_of, datagrams_in, datagrams_of, lent_of}
-use Rattle.books.specs.Totals.{turns_in, turns_of, units_lent}
+use Rattle.books.specs.Totals.{changes_in, datagrams_in}
+use Rattle.books.specs.Totals.{turns_in, units_lent}
 use Rattle.zone_lock.specs.Held.{AreCarriedOn, Held, IsEntered, IsInside, IsKept, IsMadeUnderLock}
-use Rattle.zone_lock.specs.Held.{IsUnrecorded, entry_by}
+use Rattle.zone_lock.specs.Held.{entry_by}
 use Rattle.zone_lock.specs.Seats.{Seated}
 use Rattle.zone_lock.proofs.Histories.{backed_all, cut_so, inside_cut, inside_more, kept_more}
 use Rattle.zone_lock.proofs.Histories.{longer, past_cut, past_kept}
+
+-- no copy of a state is kept if none is there
+pub none_if : (base : Option State) → is_some base ≡ false → base ≡ None
+none_if None is = refl
+none_if (Some state) is = absurd (cc is)
 
 -- what is held after one entry more, by its parts
 pub longer_by : (old new : Held) (entry : Entry) → new.first ≡ old.first

@@ -1,4 +1,5 @@
 pub mod Seats
 pub mod Held
+pub mod Turns
 pub mod Listings
 pub mod Faults

@@ -14,6 +14,7 @@ mod order;
 mod replacing;
 mod seat;
 mod stepping;
+mod turns;
 
 pub use cutting::{CutFault, Discarded, cut_locked, discard_locked};
 pub use ending::finish_locked;
@@ -23,3 +24,4 @@ pub use locked::{Locked, apply_locked, list_locked};
 pub use replacing::replace_locked;
 pub use seat::{Hall, Seat};
 pub use stepping::step_locked;
+pub use turns::{TurnsEnd, turns_locked};

@@ -14,6 +14,7 @@ ghost use Rattle.zone_lock.specs.Held.{IsWithoutBase, entry_by, receipt_at};
 ghost use Rattle.zone_lock.specs.Faults.{open_fault_number};
 ghost use Rattle.zone_lock.specs.Listings.{IsListingUnderLock};
 ghost use Rattle.zone_lock.specs.Seats.{IsSeatCount, seated, seated_after};
+ghost use Rattle.zone_lock.specs.Turns.{AreTurnsUnderLock};
 
 use crate::cutting::{CutFault, Discarded, cut_locked, discard_locked};
 use crate::ending::finish_locked;
@@ -24,9 +25,10 @@ use crate::order::Order;
 use crate::replacing::replace_locked;
 use crate::seat::{Hall, Seat};
 use crate::stepping::step_locked;
+use crate::turns::{TurnsEnd, turns_locked};
 use books::{Chapter, Entry, Finished, Receipt, SharedSnapshot, Totals};
 use pools::{Pool, ReplaceFault};
-use ras_core::{Change, Moment, Outcome, Prepared, StepFault, Zone};
+use ras_core::{Change, Datagram, Moment, Outcome, Prepared, StepFault, Zone};
 use std::alloc::{AllocError, Global};
 use std::sync::ledger::{Blank, Ledger, Share};
 use std::sync::{Mutex, Wait};
@@ -200,6 +202,35 @@ impl<P: Pool, D: Hall, T: Ledger, U: Ledger, V: Ledger> ZoneLock<P, D, T, U, V> 
         ensures err { OnErr result (seat.new ≡ seat.old) }
     {
         step_locked(&mut *self.inner.lock(rt), seat, prepared, outcome)
+    }
+
+    /// Waits for the lock and makes turns at this moment, at most so many before it is free again,
+    /// as `turns_locked` does. What they send is put into `replies` in order, which has none yet,
+    /// and room for all. Each is one step, as `step` makes it. What stands in place of the outcome
+    /// afterwards means nothing.
+    pub fn turns<R: Wait>(
+        &self,
+        rt: &R,
+        seat: &mut Seat<D, T, U, V>,
+        moment: Moment,
+        most: usize,
+        outcome: &mut Outcome,
+        replies: &mut Vec<Datagram>,
+    ) -> TurnsEnd
+        requires empty { replies.old.items ≡ [] }
+        requires room { most ≤ vec_capacity replies.old }
+        ensures made { AreTurnsUnderLock D.opened seat.old moment most replies.new.items result
+            seat.new }
+        ensures closed { result ≡ TurnsEnd.Refused StepFault.Closed → IsClosed D.opened }
+    {
+        turns_locked(
+            &mut *self.inner.lock(rt),
+            seat,
+            moment,
+            most,
+            outcome,
+            replies,
+        )
     }
 
     /// Waits for the lock and puts a fresh pool in the place of the zone's pool with this number,

@@ -1,6 +1,6 @@
 //! A step of which nothing is recorded unless somebody keeps chapters.
 
-ghost use Rattle.std.specs.Prelude.{◌≡◌, ◌↔◌, Err, None, OnErr, OnOk};
+ghost use Rattle.std.specs.Prelude.{◌≡◌, ◌≢◌, ◌↔◌, Err, None, OnErr, OnOk};
 ghost use Rattle.ras_machine.specs.Machine.{most_steps};
 ghost use Rattle.ras_core.specs.Runs.{RunningStep};
 ghost use Rattle.zone_lock.specs.Held.{IsEntered, IsKept, entry_by};
@@ -39,22 +39,30 @@ pub fn step_locked<P: Pool, D: Hall, T: Ledger, U: Ledger, V: Ledger>(
     ensures before { IsKept D.opened locked.old }
     ensures kept { IsKept D.opened locked.new }
 {
-    if locked.base.is_none() {
-        return step_unrecorded(locked, seat, prepared, outcome);
+    if locked.base.is_some() {
+        return step_recorded(locked, seat, prepared, outcome);
     }
-    let receipt = apply_locked(locked, seat, prepared)?;
-    *outcome = outcome_of(receipt);
+    locked.ledgers.audit(seat);
+    let kind = StepKind::of_prepared(&prepared);
+    locked.zone.step_into(prepared, outcome)?;
+    locked.so_far = locked.so_far.with_step(kind, outcome.answer);
+    locked.so_far.returned = locked.opened_units as u128 + locked.so_far.lent
+        - locked.zone.in_use() as u128;
+    locked.carried = locked.so_far;
+    locked.ledgers.count(seat, kind, outcome.answer);
+    locked.first = locked.first + locked.entries.len() + 1;
+    locked.entries.clear();
     Ok(())
 }
 
-/// The step of a zone if no chapter of its history can be cut.
-fn step_unrecorded<P: Pool, D: Hall, T: Ledger, U: Ledger, V: Ledger>(
+/// The step of a zone of whose history a chapter can be cut: it is recorded.
+fn step_recorded<P: Pool, D: Hall, T: Ledger, U: Ledger, V: Ledger>(
     locked: &mut Locked<P, D, T, U, V>,
     seat: &mut Seat<D, T, U, V>,
     prepared: Prepared,
     outcome: &mut Outcome,
 ) -> Result<(), StepFault>
-    requires { locked.old.base ≡ None }
+    requires { locked.old.base ≢ None }
     ensures step { OnOk result
         (RunningStep locked.old.zone prepared outcome.new locked.new.zone) }
     ensures entered { OnOk result (IsEntered D.opened locked.old
@@ -69,16 +77,9 @@ fn step_unrecorded<P: Pool, D: Hall, T: Ledger, U: Ledger, V: Ledger>(
     ensures before { IsKept D.opened locked.old }
     ensures kept { IsKept D.opened locked.new }
 {
-    locked.ledgers.audit(seat);
-    let kind = StepKind::of_prepared(&prepared);
-    locked.zone.step_into(prepared, outcome)?;
-    locked.so_far = locked.so_far.with_step(kind, outcome.answer);
-    locked.so_far.returned = locked.opened_units as u128 + locked.so_far.lent
-        - locked.zone.in_use() as u128;
-    locked.carried = locked.so_far;
-    locked.ledgers.count(seat, kind, outcome.answer);
-    locked.first = locked.first + locked.entries.len() + 1;
-    locked.entries.clear();
+    let _ = &locked.zone;
+    let receipt = apply_locked(locked, seat, prepared)?;
+    *outcome = outcome_of(receipt);
     Ok(())
 }
 

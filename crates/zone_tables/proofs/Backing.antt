@@ -38,7 +38,7 @@ use Rattle.zone_tables.specs.Parts.{Lending, Usage, IsBacked, IsSoundUsage, with
 use Rattle.zone_tables.specs.UnitRequests.{IsEnterable, IsGrantable, IsPurpose}
 use Rattle.zone_tables.specs.UnitRequests.{IsUnitRequest, calls_after_answer, calls_with_grant}
 use Rattle.zone_tables.specs.UnitRequests.{granted_calls, units_requested}
-use Rattle.zone_tables.specs.Changes.{IsOpenable, IsJoinable, IsLowerable}
+use Rattle.zone_tables.specs.Changes.{IsOpenable, IsJoinable, IsLowerable, leg_with}
 use Rattle.zone_tables.specs.Soundness.{HasCounts}
 use Rattle.zone_tables.proofs.Answered.{if_ok, is_there}
 use Rattle.zone_tables.proofs.Lending.{lent-same, lent-opened, lent-opened_empty, lent-joined}
@@ -152,118 +152,119 @@ module _ (u : Usage) (b : IsBacked u) (key : CallKey) where
       by_others false last =
           omega (arith, in_use-ended u.calls key call endpoint there last, b.limit)
 
-module _ (u : Usage) (b : IsBacked u) (q : UnitRequest) (may : IsUnitRequest u q) where
-  lent_for : (n : ℕ) → IsAnswer (figures_at u.pools q.pool) q.units (Lent n) → (p : Purpose)
-      → IsPurpose u q p
-      → IsBacked (with_usage u (granted_calls q p n u.calls)
-      (slice_set u.pools q.pool (figures_after_answer (figures_at u.pools q.pool) (Lent n))))
-  lent_for n fits (Opening leg) can = record {
-    small = b.small;
-    lent = lent-opened u.pools u.calls q.call b.lent q.pool n leg can.0.absent may.pool;
-    pools = kept_length (fin.insert u.calls q.call (new_call q.pool n leg)) u.pools q.pool
-        (figures_after_answer (figures_at u.pools q.pool) (Lent n))
-        (EachCall-insert (λ call. call.pool < length u.pools) u.calls q.call
-        (new_call q.pool n leg) b.pools may.pool);
-    call_limit = EachCall-insert (λ call. call.units ≤ u.call_limit) u.calls q.call
-        (new_call q.pool n leg) b.call_limit (omega (arith, fits.1, can.1));
-    limit = omega (arith, in_use-open u.calls q.call q.pool n leg can.0.absent, fits.1, may.limit);
-  }
-  lent_for n fits (Raising had) can =
-      subst (λ h. IsBacked (with_usage u (update u.calls q.call (with_units (h + n)))
-      (slice_set u.pools q.pool (figures_after_answer (figures_at u.pools q.pool) (Lent n)))))
-      can.units_are
-      (subst (λ p. IsBacked (with_usage u (update u.calls q.call (with_units (can.call.units + n)))
-      (slice_set u.pools p (figures_after_answer (figures_at u.pools p) (Lent n)))))
-      can.pool_is (record {
-        small = b.small;
-        lent = lent-raised u.pools u.calls q.call b.lent can.call can.there
-            (b.pools q.call can.call can.there) n;
-        pools = kept_length (update u.calls q.call (with_units (can.call.units + n))) u.pools
-            can.call.pool (figures_after_answer (figures_at u.pools can.call.pool) (Lent n))
-            (EachCall-update (λ call. call.pool < length u.pools) u.calls q.call b.pools
-            (with_units (can.call.units + n)) (λ call there. b.pools q.call call there));
-        call_limit = EachCall-update (λ call. call.units ≤ u.call_limit) u.calls q.call b.call_limit
-            (with_units (can.call.units + n))
-            (λ call there. omega (arith, can.units_are, can.limit, fits.1));
-        limit = omega (
-          arith,
-          in_use-set_units u.calls q.call can.call (can.call.units + n) can.there,
-          fits.1,
-          may.limit,
-        );
-      }))
-
-  -- what is asked of the pool
-  asked_small : (p : Purpose) → IsPurpose u q p → q.units < 2 ^ 32
-  asked_small (Opening leg) can = omega (arith, can.1, b.small)
-  asked_small (Raising had) can = omega (arith, can.limit, b.small)
-
-  pub may_request : All (HasCounts (2 ^ 63)) u.pools → MayBeAsked u.pools q.pool q.units
-  may_request counts =
-      let here = counts q.pool (opening_account 0).figures may.pool in
-      record {
-        exists = may.pool;
-        at_least_one = may.some;
-        at_most_bandwidth = asked_small q.purpose may.purpose;
-        refusals_below = here.refusals;
-        waits_below = here.waits;
-      }
-
-  -- what is lent may be entered
-  grantable : (t : CallTable) → t.calls ≡ u.calls → t.most ≡ u.most → 0 < t.room → (n : ℕ)
-      → n ≤ q.units → (p : Purpose) → IsPurpose u q p → IsGrantable t q p n
-  grantable t calls most room n few (Opening leg) can = (
-    ap (λ (cs : OpenCalls). fin.get cs q.call) calls ∙ can.0.absent,
-    (λ full. can.0.place (ap fin.len (sym calls) ∙ (full ∙ most))),
-    room,
-    omega (arith, can.1, b.small, few),
-  )
-  grantable t calls most room n few (Raising had) can = (
-    is_there (fin.get t.calls q.call) can.call
-        (ap (λ (cs : OpenCalls). fin.get cs q.call) calls ∙ can.there),
-    omega (arith, can.limit, b.small, few),
-  )
-
-  pub enterable : (t : CallTable) → t.calls ≡ u.calls → t.most ≡ u.most → 0 < t.room
-      → (f : Figures) (answer : Lend) → IsAnswer f q.units answer → IsEnterable t q answer
-  enterable t calls most room f (Lent n) fits =
-      grantable t calls most room n fits.1 q.purpose may.purpose
-  enterable t calls most room f Refused fits = tt
-  enterable t calls most room f Wait fits = tt
-
-  pub IsBacked-answer : (answer : Lend) → IsAnswer (figures_at u.pools q.pool) q.units answer
-      → IsBacked (with_usage u (calls_after_answer q answer u.calls)
-      (pools_after_answer u.pools (units_requested q) answer))
-  IsBacked-answer (Lent n) fits = by_test (nat_lt n q.least) where
-    by_test : (b : Bool)
-        → IsBacked (with_usage u (calls_with_grant q (if b then None else Some n) u.calls)
-        (slice_set u.pools q.pool (if b
-        then figures_at u.pools q.pool
-        else figures_after_answer (figures_at u.pools q.pool) (Lent n))))
-    by_test true = record {
+module _ (u : Usage) (b : IsBacked u) (id : List ℕ) (q : UnitRequest) (may : IsUnitRequest u q)
+  where
+    lent_for : (n : ℕ) → IsAnswer (figures_at u.pools q.pool) q.units (Lent n) → (p : Purpose)
+        → IsPurpose u q p
+        → IsBacked (with_usage u (granted_calls id q p n u.calls)
+        (slice_set u.pools q.pool (figures_after_answer (figures_at u.pools q.pool) (Lent n))))
+    lent_for n fits (Opening told) can = let leg = leg_with id told in record {
       small = b.small;
-      lent = lent-same u.pools u.calls q.call b.lent q.pool may.pool;
-      pools = kept_length u.calls u.pools q.pool (figures_at u.pools q.pool) b.pools;
+      lent = lent-opened u.pools u.calls q.call b.lent q.pool n leg can.0.absent may.pool;
+      pools = kept_length (fin.insert u.calls q.call (new_call q.pool n leg)) u.pools q.pool
+          (figures_after_answer (figures_at u.pools q.pool) (Lent n))
+          (EachCall-insert (λ call. call.pool < length u.pools) u.calls q.call
+          (new_call q.pool n leg) b.pools may.pool);
+      call_limit = EachCall-insert (λ call. call.units ≤ u.call_limit) u.calls q.call
+          (new_call q.pool n leg) b.call_limit (omega (arith, fits.1, can.1));
+      limit = omega (arith, in_use-open u.calls q.call q.pool n leg can.0.absent, fits.1, may.limit);
+    }
+    lent_for n fits (Raising had) can =
+        subst (λ h. IsBacked (with_usage u (update u.calls q.call (with_units (h + n)))
+        (slice_set u.pools q.pool (figures_after_answer (figures_at u.pools q.pool) (Lent n)))))
+        can.units_are
+        (subst (λ p. IsBacked (with_usage u (update u.calls q.call (with_units (can.call.units + n)))
+        (slice_set u.pools p (figures_after_answer (figures_at u.pools p) (Lent n)))))
+        can.pool_is (record {
+          small = b.small;
+          lent = lent-raised u.pools u.calls q.call b.lent can.call can.there
+              (b.pools q.call can.call can.there) n;
+          pools = kept_length (update u.calls q.call (with_units (can.call.units + n))) u.pools
+              can.call.pool (figures_after_answer (figures_at u.pools can.call.pool) (Lent n))
+              (EachCall-update (λ call. call.pool < length u.pools) u.calls q.call b.pools
+              (with_units (can.call.units + n)) (λ call there. b.pools q.call call there));
+          call_limit = EachCall-update (λ call. call.units ≤ u.call_limit) u.calls q.call b.call_limit
+              (with_units (can.call.units + n))
+              (λ call there. omega (arith, can.units_are, can.limit, fits.1));
+          limit = omega (
+            arith,
+            in_use-set_units u.calls q.call can.call (can.call.units + n) can.there,
+            fits.1,
+            may.limit,
+          );
+        }))
+
+    -- what is asked of the pool
+    asked_small : (p : Purpose) → IsPurpose u q p → q.units < 2 ^ 32
+    asked_small (Opening told) can = omega (arith, can.1, b.small)
+    asked_small (Raising had) can = omega (arith, can.limit, b.small)
+
+    pub may_request : All (HasCounts (2 ^ 63)) u.pools → MayBeAsked u.pools q.pool q.units
+    may_request counts =
+        let here = counts q.pool (opening_account 0).figures may.pool in
+        record {
+          exists = may.pool;
+          at_least_one = may.some;
+          at_most_bandwidth = asked_small q.purpose may.purpose;
+          refusals_below = here.refusals;
+          waits_below = here.waits;
+        }
+
+    -- what is lent may be entered
+    grantable : (t : CallTable) → t.calls ≡ u.calls → t.most ≡ u.most → 0 < t.room → (n : ℕ)
+        → n ≤ q.units → (p : Purpose) → IsPurpose u q p → IsGrantable t q p n
+    grantable t calls most room n few (Opening told) can = (
+      ap (λ (cs : OpenCalls). fin.get cs q.call) calls ∙ can.0.absent,
+      (λ full. can.0.place (ap fin.len (sym calls) ∙ (full ∙ most))),
+      room,
+      omega (arith, can.1, b.small, few),
+    )
+    grantable t calls most room n few (Raising had) can = (
+      is_there (fin.get t.calls q.call) can.call
+          (ap (λ (cs : OpenCalls). fin.get cs q.call) calls ∙ can.there),
+      omega (arith, can.limit, b.small, few),
+    )
+
+    pub enterable : (t : CallTable) → t.calls ≡ u.calls → t.most ≡ u.most → 0 < t.room
+        → (f : Figures) (answer : Lend) → IsAnswer f q.units answer → IsEnterable t q answer
+    enterable t calls most room f (Lent n) fits =
+        grantable t calls most room n fits.1 q.purpose may.purpose
+    enterable t calls most room f Refused fits = tt
+    enterable t calls most room f Wait fits = tt
+
+    pub IsBacked-answer : (answer : Lend) → IsAnswer (figures_at u.pools q.pool) q.units answer
+        → IsBacked (with_usage u (calls_after_answer id q answer u.calls)
+        (pools_after_answer u.pools (units_requested q) answer))
+    IsBacked-answer (Lent n) fits = by_test (nat_lt n q.least) where
+      by_test : (b : Bool)
+          → IsBacked (with_usage u (calls_with_grant id q (if b then None else Some n) u.calls)
+          (slice_set u.pools q.pool (if b
+          then figures_at u.pools q.pool
+          else figures_after_answer (figures_at u.pools q.pool) (Lent n))))
+      by_test true = record {
+        small = b.small;
+        lent = lent-same u.pools u.calls q.call b.lent q.pool may.pool;
+        pools = kept_length u.calls u.pools q.pool (figures_at u.pools q.pool) b.pools;
+        call_limit = b.call_limit;
+        limit = b.limit;
+      }
+      by_test false = lent_for n fits q.purpose may.purpose
+    IsBacked-answer Refused fits = record {
+      small = b.small;
+      lent = lent-refused u.pools u.calls q.call b.lent q.pool may.pool;
+      pools = kept_length u.calls u.pools q.pool
+          (figures_after_answer (figures_at u.pools q.pool) Refused) b.pools;
       call_limit = b.call_limit;
       limit = b.limit;
     }
-    by_test false = lent_for n fits q.purpose may.purpose
-  IsBacked-answer Refused fits = record {
-    small = b.small;
-    lent = lent-refused u.pools u.calls q.call b.lent q.pool may.pool;
-    pools = kept_length u.calls u.pools q.pool
-        (figures_after_answer (figures_at u.pools q.pool) Refused) b.pools;
-    call_limit = b.call_limit;
-    limit = b.limit;
-  }
-  IsBacked-answer Wait fits = record {
-    small = b.small;
-    lent = lent-waiting u.pools u.calls q.call b.lent q.pool may.pool;
-    pools = kept_length u.calls u.pools q.pool
-        (figures_after_answer (figures_at u.pools q.pool) Wait) b.pools;
-    call_limit = b.call_limit;
-    limit = b.limit;
-  }
+    IsBacked-answer Wait fits = record {
+      small = b.small;
+      lent = lent-waiting u.pools u.calls q.call b.lent q.pool may.pool;
+      pools = kept_length u.calls u.pools q.pool
+          (figures_after_answer (figures_at u.pools q.pool) Wait) b.pools;
+      call_limit = b.call_limit;
+      limit = b.limit;
+    }
 
 -- the same calls and pools are backed
 pub IsBacked-is : (u : Usage) (calls : OpenCalls) (pools : List Figures) (most : ℕ) → IsBacked u

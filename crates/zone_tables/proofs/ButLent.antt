@@ -1,6 +1,7 @@
 -- Pools to which units may come back. Nothing else of them changes.
 use Rattle.std.proofs.Common.{◌<◌, ◌+◌, ℕ, List, length, refl, sym, ◌∙◌, subst, Some, None, arith}
-use Rattle.std.specs.Prelude.{Option}
+use Rattle.std.specs.Prelude.{Option, []}
+use Rattle.std.specs.Option.{unwrap_or}
 use Rattle.std.proofs.lemmas.List.{get_or_default, length-set}
 use Rattle.keyed.proofs.Decide.{by_place}
 use Rattle.pools.specs.declared.interface.Figures.{Figures}
@@ -55,16 +56,16 @@ same_through a b c f g = record {
       };
 }
 
-pub same_after_change : (now : ℕ) (change : Change) (z : Tables)
-    → AreSameButLent z.pools (after_change now change z).pools
-same_after_change now Nothing z = same_after_end z.pools None
-same_after_change now (Endpoint change) z = same_after_end z.pools None
-same_after_change now (Calls (Opening key pool leg)) z = same_after_end z.pools None
-same_after_change now (Calls (Joining key leg)) z = same_after_end z.pools None
-same_after_change now (Calls (Lowering key units pool back)) z =
+pub same_after_change : (now : ℕ) (who : Option (List ℕ)) (change : Change) (z : Tables)
+    → AreSameButLent z.pools (after_change now who change z).pools
+same_after_change now who Nothing z = same_after_end z.pools None
+same_after_change now who (Endpoint change) z = same_after_end z.pools None
+same_after_change now who (Calls (Opening key pool told)) z = same_after_end z.pools None
+same_after_change now who (Calls (Joining key told)) z = same_after_end z.pools None
+same_after_change now who (Calls (Lowering key units pool back)) z =
     same_after_end z.pools (Some (pool, back))
-same_after_change now (Calls (Leaving key endpoint)) z =
-    same_after_end z.pools (freed_by_leave z.calls key endpoint)
+same_after_change now who (Calls (Leaving key)) z =
+    same_after_end z.pools (freed_by_leave z.calls key (unwrap_or who []))
 
 -- so they counted nothing more
 pub counts_same : (old new : List Figures) → AreSameButLent old new → CountsOneMore old new

@@ -39,6 +39,8 @@ use Rattle.zone_tables.specs.UnitRequests.{granted_calls, leg_of_purpose}
 use Rattle.zone_tables.specs.Pools.{grant_of}
 use Rattle.zone_tables.specs.Changes.{IsCallChange, IsEndpointChange, IsRegistered}
 use Rattle.zone_tables.specs.Changes.{after_endpoint_change, calls_after, leg_added}
+use Rattle.zone_tables.specs.Tables.{identifier_at}
+use Rattle.zone_tables.specs.Changes.{leg_with}
 use Rattle.zone_tables.specs.Leaving.{IsOther}
 use Rattle.zone_tables.specs.Parts.{IsSoundUsage, Roll, Roster, Usage}
 use Rattle.zone_tables.specs.Soundness.{HaveEndpoints}
@@ -239,78 +241,78 @@ count_or_none live calls legs counted have id =
 
 -- a change of the calls moves the legs that it names
 module _ (live : Live) (u : Usage) (legs : LegCounts) (counted : AreCounted live u.calls legs) where
-  pub counted_change : (change : CallChange) → IsCallChange u change
-      → AreCounted live (calls_after change u.calls) (legs_after_move (move_of change) legs)
-  counted_change (Opening key pool leg) can = comes live u.calls legs counted _ leg.endpoint
-      (λ q. legs_of-open u.calls key q pool 0 leg can.absent)
-  counted_change (Joining key leg) can = comes live u.calls legs counted _ leg.endpoint
-      (λ q. legs_of-join u.calls key q can.call leg can.there can.other)
-  counted_change (Lowering key units pool back) can = counted_same live u.calls legs counted _
+  pub counted_change : (id : List ℕ) (change : CallChange) → IsCallChange u id change
+      → AreCounted live (calls_after id change u.calls) (legs_after_move id (move_of change) legs)
+  counted_change id (Opening key pool told) can = comes live u.calls legs counted _ id
+      (λ q. legs_of-open u.calls key q pool 0 (leg_with id told) can.absent)
+  counted_change id (Joining key told) can = comes live u.calls legs counted _ id
+      (λ q. legs_of-join u.calls key q can.call (leg_with id told) can.there can.other)
+  counted_change id (Lowering key units pool back) can = counted_same live u.calls legs counted _
       (λ q. legs_of-set_units u.calls key q can.call units can.there)
-  counted_change (Leaving key endpoint) can =
-      let call = has_its_leg u.calls key endpoint can in
-      goes live u.calls legs counted _ endpoint
-      (λ q. legs_of-leave u.calls key q call.0 endpoint call.1 call.2)
+  counted_change id (Leaving key) can =
+      let call = has_its_leg u.calls key id can in
+      goes live u.calls legs counted _ id
+      (λ q. legs_of-leave u.calls key q call.0 id call.1 call.2)
 
   few_legs : IsSoundUsage u → (id : List ℕ) → legs_of u.calls id ≤ 20000
   few_legs sound id = omega (arith, legs_of-few u.calls id, sound.few, sound.most)
 
-  pub IsMove-change : IsSoundUsage u → HaveEndpoints live u.calls → (change : CallChange)
-      → IsCallChange u change → IfSome (leg_added change) (IsRegistered live)
-      → IsMove live legs (move_of change)
-  IsMove-change sound have (Opening key pool leg) can there = (
+  pub IsMove-change : IsSoundUsage u → HaveEndpoints live u.calls → (id : List ℕ)
+      (change : CallChange) → IsCallChange u id change
+      → IfSome (leg_added id change) (IsRegistered live) → IsMove live legs id (move_of change)
+  IsMove-change sound have id (Opening key pool told) can there = (
     there,
-    count_is live u.calls legs counted leg.endpoint (λ n. n ≤ 20000) (few_legs sound leg.endpoint),
+    count_is live u.calls legs counted id (λ n. n ≤ 20000) (few_legs sound id),
   )
-  IsMove-change sound have (Joining key leg) can there = (
+  IsMove-change sound have id (Joining key told) can there = (
     there,
-    count_is live u.calls legs counted leg.endpoint (λ n. n ≤ 20000) (few_legs sound leg.endpoint),
+    count_is live u.calls legs counted id (λ n. n ≤ 20000) (few_legs sound id),
   )
-  IsMove-change sound have (Lowering key units pool back) can there = tt
-  IsMove-change sound have (Leaving key endpoint) can there =
-      let call = has_its_leg u.calls key endpoint can in
-      let some : 1 ≤ legs_of u.calls endpoint = omega (
+  IsMove-change sound have id (Lowering key units pool back) can there = tt
+  IsMove-change sound have id (Leaving key) can there =
+      let call = has_its_leg u.calls key id can in
+      let some : 1 ≤ legs_of u.calls id = omega (
         arith,
-        legs_of-leave u.calls key endpoint call.0 endpoint call.1 call.2,
-        one_if_this endpoint,
+        legs_of-leave u.calls key id call.0 id call.1 call.2,
+        one_if_this id,
       ) in (
-        is_registered live u.calls endpoint have some,
-        count_is live u.calls legs counted endpoint (λ n. 1 ≤ n) some,
+        is_registered live u.calls id have some,
+        count_is live u.calls legs counted id (λ n. 1 ≤ n) some,
       )
 
   -- a pool's answer moves the leg with which a call opens
-  pub counted_answer : (q : UnitRequest) (answer : Lend) → IsPurpose u q q.purpose
-      → AreCounted live (calls_after_answer q answer u.calls)
-      (legs_after_move (move_of_answer q answer) legs)
-  counted_answer q answer can = by_grant (grant_of q.least answer) where
+  pub counted_answer : (id : List ℕ) (q : UnitRequest) (answer : Lend)
+      → IsPurpose u q q.purpose
+      → AreCounted live (calls_after_answer id q answer u.calls)
+      (legs_after_move id (move_of_answer q answer) legs)
+  counted_answer id q answer can = by_grant (grant_of q.least answer) where
     by_purpose : (units : ℕ) (p : Purpose) → IsPurpose u q p
-        → AreCounted live (granted_calls q p units u.calls)
-        (legs_after_move (move_of_purpose p) legs)
-    by_purpose units (purpose.Opening leg) can =
-        comes live u.calls legs counted _ leg.endpoint
-        (λ x. legs_of-open u.calls q.call x q.pool units leg can.0.absent)
+        → AreCounted live (granted_calls id q p units u.calls)
+        (legs_after_move id (move_of_purpose p) legs)
+    by_purpose units (purpose.Opening told) can =
+        comes live u.calls legs counted _ id
+        (λ x. legs_of-open u.calls q.call x q.pool units (leg_with id told) can.0.absent)
     by_purpose units (purpose.Raising had) can = counted_same live u.calls legs counted _
         (λ x. legs_of-set_units u.calls q.call x can.call (had + units) can.there)
 
-    by_grant : (grant : Option ℕ) → AreCounted live (calls_with_grant q grant u.calls)
-        (legs_after_move (move_with_grant q.purpose grant) legs)
+    by_grant : (grant : Option ℕ) → AreCounted live (calls_with_grant id q grant u.calls)
+        (legs_after_move id (move_with_grant q.purpose grant) legs)
     by_grant None = counted
     by_grant (Some units) = by_purpose units q.purpose can
 
-  pub IsMove-answer : IsSoundUsage u → (q : UnitRequest) (answer : Lend)
-      → IfSome (leg_of_purpose q.purpose) (IsRegistered live)
-      → IsMove live legs (move_of_answer q answer)
-  IsMove-answer sound q answer there = by_grant (grant_of q.least answer) where
-    by_purpose : (p : Purpose) → IfSome (leg_of_purpose p) (IsRegistered live)
-        → IsMove live legs (move_of_purpose p)
-    by_purpose (purpose.Opening leg) there = (
+  pub IsMove-answer : IsSoundUsage u → (id : List ℕ) (q : UnitRequest) (answer : Lend)
+      → IfSome (leg_of_purpose id q.purpose) (IsRegistered live)
+      → IsMove live legs id (move_of_answer q answer)
+  IsMove-answer sound id q answer there = by_grant (grant_of q.least answer) where
+    by_purpose : (p : Purpose) → IfSome (leg_of_purpose id p) (IsRegistered live)
+        → IsMove live legs id (move_of_purpose p)
+    by_purpose (purpose.Opening told) there = (
       there,
-      count_is live u.calls legs counted leg.endpoint (λ n. n ≤ 20000)
-          (few_legs sound leg.endpoint),
+      count_is live u.calls legs counted id (λ n. n ≤ 20000) (few_legs sound id),
     )
     by_purpose (purpose.Raising had) there = tt
 
-    by_grant : (grant : Option ℕ) → IsMove live legs (move_with_grant q.purpose grant)
+    by_grant : (grant : Option ℕ) → IsMove live legs id (move_with_grant q.purpose grant)
     by_grant None = tt
     by_grant (Some units) = by_purpose q.purpose there
 
@@ -319,18 +321,20 @@ pub counted_endpoint : (roll : Roll) (calls : OpenCalls) (legs : LegCounts) (now
     (change : EndpointChange) → AreCounted roll.live calls legs → HaveEndpoints roll.live calls
     → IsEndpointChange roll change
     → AreCounted (after_endpoint_change now change roll.live) calls
-    (legs_after_change change legs)
-counted_endpoint roll calls legs now (Renewal id deadline) counted have can =
-    counted_update roll.live calls legs counted id (with_deadline deadline)
-counted_endpoint roll calls legs now (Rewriting id e deadline) counted have can =
+    (legs_after_change roll.live change legs)
+counted_endpoint roll calls legs now (Renewal address deadline) counted have can =
+    counted_update roll.live calls legs counted (identifier_at roll.live address)
+    (with_deadline deadline)
+counted_endpoint roll calls legs now (Rewriting e deadline) counted have can =
+    let id = identifier_at roll.live e.call_signal in
     let written = after_rewrite e.ras e.aliases deadline in
     counted_update (update roll.live id written) calls legs
     (counted_update roll.live calls legs counted id written) id (after_hear now)
 counted_endpoint roll calls legs now (Addition r) counted have can =
     counted_insert roll.live calls legs counted r.identifier r
     (unregistered roll.live calls r.identifier have can.identifier)
-counted_endpoint roll calls legs now (Removal id) counted have can =
-    counted_remove roll.live calls legs counted id
+counted_endpoint roll calls legs now (Removal address) counted have can =
+    counted_remove roll.live calls legs counted (identifier_at roll.live address)
 
 -- the same, whether it was made or not
 pub counted_result : {F : Type 0} (result : Result (Unit {0}) F) (old new : Roster)
@@ -338,7 +342,8 @@ pub counted_result : {F : Type 0} (result : Result (Unit {0}) F) (old new : Rost
     → AreCounted old.roll.live calls old.legs → HaveEndpoints old.roll.live calls
     → IsEndpointChange old.roll change
     → OnOk result (new.roll.live ≡ after_endpoint_change now change old.roll.live)
-    → OnOk result (new.legs ≡ legs_after_change change old.legs) → OnErr result (new ≡ old)
+    → OnOk result (new.legs ≡ legs_after_change old.roll.live change old.legs)
+    → OnErr result (new ≡ old)
     → AreCounted new.roll.live calls new.legs
 counted_result (Ok done) old new calls now change counted have can live legs err =
     subst (λ (l : Live). AreCounted l calls new.legs) (sym live)

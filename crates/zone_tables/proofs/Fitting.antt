@@ -1,6 +1,6 @@
 -- How many aliases a reply has.
 use Rattle.std.proofs.Common.{◌≡◌, ◌≤◌, Bool, true, false, cond, List, [], ◌∷◌, length, refl, arith}
-use Rattle.std.specs.Prelude.{Result, Ok, Err, IsOk, MatchResult, ◌<◌, filter}
+use Rattle.std.specs.Prelude.{Option, Some, None, IsSome, MatchOption, ◌<◌, filter}
 use Rattle.ras_module.specs.declared.alias.Alias.{Alias}
 
 pub length-filter : (p : Alias → Bool) (xs : List Alias) → length (filter p xs) ≤ length xs
@@ -12,8 +12,8 @@ length-filter p (x ∷ xs) = cases (p x) (length-filter p xs) where
   cases false h = omega arith
 
 -- no more than 32 aliases go into a reply
-pub fits : (r : Result (List Alias) (List Alias)) (list : List Alias)
-    → MatchResult r (λ few. (few ≡ list) × (length list ≤ 32)) (λ many. (many ≡ list)
-    × (32 < length list)) → length list ≤ 32 → IsOk r
-fits (Ok few) list h bound = refl
-fits (Err many) list h bound = absurd (omega (arith, h.1))
+pub fits : (o : Option (List Alias)) (list : List Alias)
+    → MatchOption o (32 < length list) (λ few. (few ≡ list) × (length list ≤ 32))
+    → length list ≤ 32 → IsSome o
+fits None list h bound = absurd (omega (arith, h))
+fits (Some few) list h bound = refl

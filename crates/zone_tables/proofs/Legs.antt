@@ -26,15 +26,15 @@ use Rattle.zone_tables.specs.declared.unit_request.UnitRequest.{UnitRequest}
 use Rattle.zone_tables.specs.declared.unit_request.Purpose.{Purpose}
 use Rattle.zone_tables.specs.declared.unit_request.Purpose.TheVariants as purpose
 use Rattle.pools.specs.declared.interface.Lend.{Lend}
-use Rattle.zone_tables.specs.Tables.{heard_now}
+use Rattle.zone_tables.specs.Tables.{heard_now, identifier_at}
 use Rattle.zone_tables.specs.Pools.{figures_after_return, figures_at}
 use Rattle.zone_config.specs.declared.config.ConfigParts.{ConfigParts}
 use Rattle.zone_tables.specs.Parts.{AreParts, Roll, Roster, Usage, with_usage}
 use Rattle.zone_tables.specs.Leaving.{IsOther}
 use Rattle.zone_tables.specs.Soundness.{HaveEndpoints}
 use Rattle.zone_tables.specs.Changes.{IsCallChange, IsFree, IsRegistered}
-use Rattle.zone_tables.specs.Changes.{after_endpoint_change}
-use Rattle.zone_tables.specs.Changes.{calls_after, leg_added, pools_after}
+use Rattle.zone_tables.specs.Changes.{after_endpoint_change, calls_after, leg_added}
+use Rattle.zone_tables.specs.Changes.{leg_with, pools_after}
 use Rattle.zone_tables.specs.UnitRequests.{calls_after_answer, calls_with_grant, granted_calls}
 use Rattle.zone_tables.specs.UnitRequests.{leg_of_purpose}
 use Rattle.zone_tables.specs.Pools.{grant_of}
@@ -71,7 +71,7 @@ Stays-insert live id r q has =
     (λ differ. subst (λ w. IsSome w) (sym (c.others q differ)) has)
 
 -- an endpoint that is in no call goes
-legs_without : (live : Live) (calls : OpenCalls) (id : List ℕ) → HaveEndpoints live calls
+pub legs_without : (live : Live) (calls : OpenCalls) (id : List ℕ) → HaveEndpoints live calls
     → legs_of calls id ≡ 0 → HaveEndpoints (fin.remove live id) calls
 legs_without live calls id have zero key call there k d below =
     let c = Changed-remove nat_list_cmp_total exact_bytes live id in
@@ -101,23 +101,26 @@ legs-heard live calls now id have =
     legs_stay live (heard_now now id live) calls have (Stays-update live id (after_hear now))
 
 pub legs-endpoint : (live : Live) (calls : OpenCalls) (now : ℕ) (change : EndpointChange)
-    → HaveEndpoints live calls → IsFree calls change
+    → HaveEndpoints live calls → IsFree live calls change
     → HaveEndpoints (after_endpoint_change now change live) calls
-legs-endpoint live calls now (Renewal id deadline) have free =
+legs-endpoint live calls now (Renewal address deadline) have free =
+    let id = identifier_at live address in
     legs_stay live (update live id (with_deadline deadline)) calls have
     (Stays-update live id (with_deadline deadline))
-legs-endpoint live calls now (Rewriting id e deadline) have free =
+legs-endpoint live calls now (Rewriting e deadline) have free =
+    let id = identifier_at live e.call_signal in
     legs-heard (update live id (after_rewrite e.ras e.aliases deadline)) calls now id
     (legs_stay live (update live id (after_rewrite e.ras e.aliases deadline)) calls have
     (Stays-update live id (after_rewrite e.ras e.aliases deadline)))
 legs-endpoint live calls now (Addition r) have free =
     legs_stay live (fin.insert live r.identifier r) calls have (Stays-insert live r.identifier r)
-legs-endpoint live calls now (Removal id) have free = legs_without live calls id have free
+legs-endpoint live calls now (Removal address) have free =
+    legs_without live calls (identifier_at live address) have free
 
 -- what a change of the endpoints leaves, whether it was made or not
 pub legs-endpoint_result : {F : Type 0} (result : Result (Unit {0}) F) (old new : Roster)
     (calls : OpenCalls) (now : ℕ) (change : EndpointChange) → HaveEndpoints old.roll.live calls
-    → IsFree calls change
+    → IsFree old.roll.live calls change
     → OnOk result (new.roll.live ≡ after_endpoint_change now change old.roll.live)
     → OnErr result (new ≡ old) → HaveEndpoints new.roll.live calls
 legs-endpoint_result (Ok done) old new calls now change have free ok err =
@@ -126,43 +129,44 @@ legs-endpoint_result (Ok done) old new calls now change have free ok err =
 legs-endpoint_result (Err fault) old new calls now change have free ok err =
     subst (λ (e : Roster). HaveEndpoints e.roll.live calls) (sym err) have
 
-pub legs-calls : (live : Live) (u : Usage) (change : CallChange) → HaveEndpoints live u.calls
-    → IsCallChange u change → IfSome (leg_added change) (IsRegistered live)
-    → HaveEndpoints live (calls_after change u.calls)
-legs-calls live u (Opening key pool leg) have can is =
-    EachLeg-open (IsRegistered live) u.calls key have pool 0 leg is
-legs-calls live u (Joining key leg) have can is =
-    EachLeg-join (IsRegistered live) u.calls key have leg is
-legs-calls live u (Lowering key units pool back) have can is =
+pub legs-calls : (live : Live) (u : Usage) (id : List ℕ) (change : CallChange)
+    → HaveEndpoints live u.calls → IsCallChange u id change
+    → IfSome (leg_added id change) (IsRegistered live)
+    → HaveEndpoints live (calls_after id change u.calls)
+legs-calls live u id (Opening key pool told) have can is =
+    EachLeg-open (IsRegistered live) u.calls key have pool 0 (leg_with id told) is
+legs-calls live u id (Joining key told) have can is =
+    EachLeg-join (IsRegistered live) u.calls key have (leg_with id told) is
+legs-calls live u id (Lowering key units pool back) have can is =
     EachLeg-set_units (IsRegistered live) u.calls key have units
-legs-calls live u (Leaving key endpoint) have can is =
-    let call = call_with_leg u.calls key endpoint can in
-    EachLeg-leave (IsRegistered live) u.calls key have call.0 endpoint call.1
+legs-calls live u id (Leaving key) have can is =
+    let call = call_with_leg u.calls key id can in
+    EachLeg-leave (IsRegistered live) u.calls key have call.0 id call.1
 
-pub legs-answer : (live : Live) (calls : OpenCalls) (q : UnitRequest) (answer : Lend)
-    → HaveEndpoints live calls → IfSome (leg_of_purpose q.purpose) (IsRegistered live)
-    → HaveEndpoints live (calls_after_answer q answer calls)
-legs-answer live calls q answer have is = by_grant (grant_of q.least answer) where
-  by_purpose : (units : ℕ) (p : Purpose) → IfSome (leg_of_purpose p) (IsRegistered live)
-      → HaveEndpoints live (granted_calls q p units calls)
-  by_purpose units (purpose.Opening leg) is =
-      EachLeg-open (IsRegistered live) calls q.call have q.pool units leg is
+pub legs-answer : (live : Live) (calls : OpenCalls) (id : List ℕ) (q : UnitRequest) (answer : Lend)
+    → HaveEndpoints live calls → IfSome (leg_of_purpose id q.purpose) (IsRegistered live)
+    → HaveEndpoints live (calls_after_answer id q answer calls)
+legs-answer live calls id q answer have is = by_grant (grant_of q.least answer) where
+  by_purpose : (units : ℕ) (p : Purpose) → IfSome (leg_of_purpose id p) (IsRegistered live)
+      → HaveEndpoints live (granted_calls id q p units calls)
+  by_purpose units (purpose.Opening told) is =
+      EachLeg-open (IsRegistered live) calls q.call have q.pool units (leg_with id told) is
   by_purpose units (purpose.Raising had) is =
       EachLeg-set_units (IsRegistered live) calls q.call have (had + units)
 
-  by_grant : (grant : Option ℕ) → HaveEndpoints live (calls_with_grant q grant calls)
+  by_grant : (grant : Option ℕ) → HaveEndpoints live (calls_with_grant id q grant calls)
   by_grant None = have
   by_grant (Some units) = by_purpose units q.purpose is
 
 -- the number of pools stays
-pub length-pools_after : (change : CallChange) (calls : OpenCalls) (pools : List Figures)
-    → length (pools_after change calls pools) ≡ length pools
-length-pools_after (Opening key pool leg) calls pools = refl
-length-pools_after (Joining key leg) calls pools = refl
-length-pools_after (Lowering key units pool back) calls pools =
+pub length-pools_after : (id : List ℕ) (change : CallChange) (calls : OpenCalls)
+    (pools : List Figures) → length (pools_after id change calls pools) ≡ length pools
+length-pools_after id (Opening key pool told) calls pools = refl
+length-pools_after id (Joining key told) calls pools = refl
+length-pools_after id (Lowering key units pool back) calls pools =
     length-set pools pool (figures_after_return (figures_at pools pool) back)
-length-pools_after (Leaving key endpoint) calls pools =
-    length-after_end pools (freed_by_leave calls key endpoint)
+length-pools_after id (Leaving key) calls pools =
+    length-after_end pools (freed_by_leave calls key id)
 
 -- the parts of a zone fit together if its endpoints change and each leg's endpoint is registered
 pub AreParts-live : (config : ConfigParts) (old new : Roll) (u : Usage) → AreParts config old u
@@ -210,15 +214,15 @@ module _ (config : ConfigParts) (roll : Roll) (old : Usage) (parts : AreParts co
   }
 
   pub AreParts-change : {F : Type 0} (result : Result (Unit {0}) F)
-      (new : Usage) (change : CallChange)
-      → IsCallChange old change → IfSome (leg_added change) (IsRegistered roll.live)
-      → OnOk result (new ≡ with_usage old (calls_after change old.calls)
-      (pools_after change old.calls old.pools))
+      (new : Usage) (id : List ℕ) (change : CallChange)
+      → IsCallChange old id change → IfSome (leg_added id change) (IsRegistered roll.live)
+      → OnOk result (new ≡ with_usage old (calls_after id change old.calls)
+      (pools_after id change old.calls old.pools))
       → OnErr result (new ≡ old) → AreParts config roll new
-  AreParts-change (Ok done) new change can is ok err =
+  AreParts-change (Ok done) new id change can is ok err =
       subst (AreParts config roll) (sym ok)
-      (AreParts-calls (calls_after change old.calls) (pools_after change old.calls old.pools)
-      (length-pools_after change old.calls old.pools)
-      (legs-calls roll.live old change parts.legs can is))
-  AreParts-change (Err fault) new change can is ok err =
+      (AreParts-calls (calls_after id change old.calls) (pools_after id change old.calls old.pools)
+      (length-pools_after id change old.calls old.pools)
+      (legs-calls roll.live old id change parts.legs can is))
+  AreParts-change (Err fault) new id change can is ok err =
       subst (AreParts config roll) (sym err) parts

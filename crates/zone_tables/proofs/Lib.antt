@@ -14,3 +14,4 @@ pub mod SoundParts
 pub mod Deciding
 pub mod Counting
 pub mod Ending
+pub mod Addressed

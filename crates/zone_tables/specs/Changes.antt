@@ -1,8 +1,10 @@
 -- What a request may change in the tables of a zone, and when that change can be made.
 use Rattle.std.specs.Prelude.{◌≡◌, ◌≢◌, ◌+◌, ◌<◌, ℕ, List, [], length, Option, None, Some, IsSome}
 use Rattle.std.specs.Prelude.{IfSome}
+use Rattle.std.specs.Option.{unwrap_or}
 use Rattle.std.specs.FinMap.{get, insert, remove, len}
 use Rattle.keyed.specs.Maps.{update}
+use Rattle.ras_module.specs.declared.address.Address.{Address}
 use Rattle.ras_module.specs.declared.call_key.CallKey.{CallKey}
 use Rattle.registrations.specs.declared.registration.Registration.{Registration}
 use Rattle.registrations.specs.Registry.{Live, at_address, with_deadline, after_rewrite}
@@ -22,39 +24,48 @@ use Rattle.zone_tables.specs.declared.change.Change.{Change}
 use Rattle.zone_tables.specs.declared.change.Change.TheVariants.{Nothing, Endpoint, Calls}
 use Rattle.zone_tables.specs.declared.entry.Entry.{Entry}
 use Rattle.pools.specs.declared.interface.Figures.{Figures}
-use Rattle.zone_tables.specs.Tables.{Tables, with_live, heard_now}
+use Rattle.zone_tables.specs.Tables.{Tables, heard_now, identifier_at, with_live}
 use Rattle.zone_tables.specs.Parts.{Roll, Usage, usage_of}
 use Rattle.zone_tables.specs.Pools.{pools_after_return, pools_after_end}
 
+-- the endpoint at an address is granted a new time to live, registers anew, is a new one, or goes
 abbrev pub after_endpoint_change : ℕ → EndpointChange → Live → Live
-after_endpoint_change now (Renewal id deadline) live = update live id (with_deadline deadline)
-after_endpoint_change now (Rewriting id e deadline) live =
-    heard_now now id (update live id (after_rewrite e.ras e.aliases deadline))
+after_endpoint_change now (Renewal address deadline) live =
+    update live (identifier_at live address) (with_deadline deadline)
+after_endpoint_change now (Rewriting e deadline) live =
+    heard_now now (identifier_at live e.call_signal) (update live (identifier_at live e.call_signal)
+    (after_rewrite e.ras e.aliases deadline))
 after_endpoint_change now (Addition r) live = insert live r.identifier r
-after_endpoint_change now (Removal id) live = remove live id
+after_endpoint_change now (Removal address) live = remove live (identifier_at live address)
 
--- the calls after a change: one opens without units, a second endpoint joins one, one keeps fewer
--- units, or an endpoint leaves one
-abbrev pub calls_after : CallChange → OpenCalls → OpenCalls
-calls_after (Opening key pool leg) calls = insert calls key (new_call pool 0 leg)
-calls_after (Joining key leg) calls = update calls key (with_leg leg)
-calls_after (Lowering key units pool back) calls = update calls key (with_units units)
-calls_after (Leaving key endpoint) calls = after_leave calls key endpoint
+-- the leg of the endpoint for which a call is changed, which is told this address
+abbrev pub leg_with : List ℕ → Address → Leg
+leg_with id told = record { endpoint = id; told = told }
+
+-- the calls after a change for an endpoint: it opens one without units, joins one, keeps fewer
+-- units for one, or leaves one
+abbrev pub calls_after : List ℕ → CallChange → OpenCalls → OpenCalls
+calls_after id (Opening key pool told) calls =
+    insert calls key (new_call pool 0 (leg_with id told))
+calls_after id (Joining key told) calls = update calls key (with_leg (leg_with id told))
+calls_after id (Lowering key units pool back) calls = update calls key (with_units units)
+calls_after id (Leaving key) calls = after_leave calls key id
 
 -- the pools after it: what is no longer used goes back
-abbrev pub pools_after : CallChange → OpenCalls → List Figures → List Figures
-pools_after (Opening key pool leg) calls pools = pools
-pools_after (Joining key leg) calls pools = pools
-pools_after (Lowering key units pool back) calls pools = pools_after_return pools pool back
-pools_after (Leaving key endpoint) calls pools =
-    pools_after_end pools (freed_by_leave calls key endpoint)
+abbrev pub pools_after : List ℕ → CallChange → OpenCalls → List Figures → List Figures
+pools_after id (Opening key pool told) calls pools = pools
+pools_after id (Joining key told) calls pools = pools
+pools_after id (Lowering key units pool back) calls pools = pools_after_return pools pool back
+pools_after id (Leaving key) calls pools =
+    pools_after_end pools (freed_by_leave calls key id)
 
-abbrev pub after_change : ℕ → Change → Tables → Tables
-after_change now Nothing z = z
-after_change now (Endpoint change) z = with_live z (after_endpoint_change now change z.live)
-after_change now (Calls change) z = record z {
-  calls = calls_after change z.calls;
-  pools = pools_after change z.calls z.pools;
+-- the tables after what a request changes: who asks is the endpoint that it names
+abbrev pub after_change : ℕ → Option (List ℕ) → Change → Tables → Tables
+after_change now who Nothing z = z
+after_change now who (Endpoint change) z = with_live z (after_endpoint_change now change z.live)
+after_change now who (Calls change) z = record z {
+  calls = calls_after (unwrap_or who []) change z.calls;
+  pools = pools_after (unwrap_or who []) change z.calls z.pools;
 }
 
 -- a registration may be added: its identifier and its address are free, nobody holds its aliases,
@@ -73,10 +84,11 @@ pub record IsRewritable (roll : Roll) (id : List ℕ) (e : Entry) : Type 0 where
   pub aliases : registered_elsewhere roll.live e.call_signal e.aliases ≡ []
 
 abbrev pub IsEndpointChange : Roll → EndpointChange → Type 0
-IsEndpointChange roll (Renewal id deadline) = IsSome (get roll.live id)
-IsEndpointChange roll (Rewriting id e deadline) = IsRewritable roll id e
+IsEndpointChange roll (Renewal address deadline) = IsSome (at_address roll.live address)
+IsEndpointChange roll (Rewriting e deadline) =
+    IsRewritable roll (identifier_at roll.live e.call_signal) e
 IsEndpointChange roll (Addition r) = IsAddable roll r
-IsEndpointChange roll (Removal id) = Unit {0}
+IsEndpointChange roll (Removal address) = IsSome (at_address roll.live address)
 
 -- a call may be opened: there is none under its key, and there are a place and a pool for it
 pub record IsOpenable (u : Usage) (key : CallKey) (pool : ℕ) : Type 0 where
@@ -98,38 +110,60 @@ pub record IsLowerable (calls : OpenCalls) (key : CallKey) (units pool back : �
   pub pool_is : call.pool ≡ pool
   pub back_is : call.units ≡ units + back
 
-abbrev pub IsCallChange : Usage → CallChange → Type 0
-IsCallChange u (Opening key pool leg) = IsOpenable u key pool
-IsCallChange u (Joining key leg) = IsJoinable u.calls key leg
-IsCallChange u (Lowering key units pool back) = IsLowerable u.calls key units pool back
-IsCallChange u (Leaving key endpoint) = IsSome (leg_at u.calls key endpoint)
+abbrev pub IsCallChange : Usage → List ℕ → CallChange → Type 0
+IsCallChange u id (Opening key pool told) = IsOpenable u key pool
+IsCallChange u id (Joining key told) = IsJoinable u.calls key (leg_with id told)
+IsCallChange u id (Lowering key units pool back) = IsLowerable u.calls key units pool back
+IsCallChange u id (Leaving key) = IsSome (leg_at u.calls key id)
 
--- the endpoint whose leg a change adds
-abbrev pub leg_added : CallChange → Option Leg
-leg_added (Opening key pool leg) = Some leg
-leg_added (Joining key leg) = Some leg
-leg_added (Lowering key units pool back) = None
-leg_added (Leaving key endpoint) = None
+-- the leg that a change adds
+abbrev pub leg_added : List ℕ → CallChange → Option Leg
+leg_added id (Opening key pool told) = Some (leg_with id told)
+leg_added id (Joining key told) = Some (leg_with id told)
+leg_added id (Lowering key units pool back) = None
+leg_added id (Leaving key) = None
 
 abbrev pub IsRegistered : Live → Leg → Type 0
 IsRegistered live leg = IsSome (get live leg.endpoint)
 
 -- an endpoint that is removed takes part in no call
-abbrev pub IsFree : OpenCalls → EndpointChange → Type 0
-IsFree calls (Renewal id deadline) = Unit {0}
-IsFree calls (Rewriting id e deadline) = Unit {0}
-IsFree calls (Addition r) = Unit {0}
-IsFree calls (Removal id) = legs_of calls id ≡ 0
+abbrev pub IsFree : Live → OpenCalls → EndpointChange → Type 0
+IsFree live calls (Renewal address deadline) = Unit {0}
+IsFree live calls (Rewriting e deadline) = Unit {0}
+IsFree live calls (Addition r) = Unit {0}
+IsFree live calls (Removal address) = legs_of calls (identifier_at live address) ≡ 0
 
 abbrev pub roll_of : Tables → Roll
 roll_of z = record { live = z.live; most = z.config.endpoints }
 
--- A change can be made to the endpoints or to the calls, and each leg's endpoint stays registered.
-abbrev pub IsPossible : Tables → Change → Type 0
-IsPossible z Nothing = Unit {0}
-IsPossible z (Endpoint change) = IsEndpointChange (roll_of z) change × IsFree z.calls change
-IsPossible z (Calls change) =
-    IsCallChange (usage_of z) change × IfSome (leg_added change) (IsRegistered z.live)
+-- a change of the calls can be made for an endpoint, and each leg's endpoint stays registered
+abbrev pub IsPossibleFor : Tables → List ℕ → CallChange → Type 0
+IsPossibleFor z id change =
+    IsCallChange (usage_of z) id change × IfSome (leg_added id change) (IsRegistered z.live)
+
+-- A change can be made to the endpoints, or for whoever asks to the calls.
+abbrev pub IsPossible : Tables → Option (List ℕ) → Change → Type 0
+IsPossible z who Nothing = Unit {0}
+IsPossible z who (Endpoint change) =
+    IsEndpointChange (roll_of z) change × IsFree z.live z.calls change
+IsPossible z who (Calls change) = IsSome who × IsPossibleFor z (unwrap_or who []) change
+
+-- only a call that opens may need memory among the calls
+abbrev pub OpensCall : CallChange → Type 0
+OpensCall (Opening key pool told) = Unit {0}
+OpensCall other = ⊥
+
+-- and only a registration in full among the endpoints: its aliases are entered
+abbrev pub RegistersInFull : EndpointChange → Type 0
+RegistersInFull (Rewriting e deadline) = Unit {0}
+RegistersInFull (Addition r) = Unit {0}
+RegistersInFull other = ⊥
+
+-- so a change for which memory may be asked
+abbrev pub TakesMemory : Change → Type 0
+TakesMemory Nothing = ⊥
+TakesMemory (Endpoint change) = RegistersInFull change
+TakesMemory (Calls change) = OpensCall change
 
 -- the tables after an endpoint was heard
 abbrev pub heard : Tables → ℕ → Option (List ℕ) → Tables

@@ -1,8 +1,10 @@
 -- What the tables of a zone have.
-use Rattle.std.specs.Prelude.{ℕ, List}
+use Rattle.std.specs.Prelude.{ℕ, List, [], Option, Some, None}
 use Rattle.std.specs.FinMap.{empty}
 use Rattle.keyed.specs.Maps.{update}
-use Rattle.registrations.specs.Registry.{Live, after_hear}
+use Rattle.ras_module.specs.declared.address.Address.{Address}
+use Rattle.registrations.specs.declared.registration.Registration.{Registration}
+use Rattle.registrations.specs.Registry.{Live, after_hear, at_address}
 use Rattle.admission.specs.Calls.{OpenCalls}
 use Rattle.pools.specs.declared.interface.Figures.{Figures}
 use Rattle.zone_config.specs.declared.config.ConfigParts.{ConfigParts}
@@ -35,3 +37,12 @@ with_calls z calls = record z { calls = calls }
 -- the endpoint was heard now, if it is registered
 abbrev pub heard_now : ℕ → List ℕ → Live → Live
 heard_now now id live = update live id (after_hear now)
+
+-- the identifier of an endpoint, if there is one
+abbrev pub identifier_or_none : Option Registration → List ℕ
+identifier_or_none None = []
+identifier_or_none (Some r) = r.identifier
+
+-- that of the endpoint with this call signal address
+abbrev pub identifier_at : Live → Address → List ℕ
+identifier_at live address = identifier_or_none (at_address live address)

@@ -4,7 +4,6 @@ ghost use Rattle.std.specs.Prelude.{◌↔◌};
 ghost use Rattle.zone_tables.specs.Parts.{HaveSame};
 ghost use Rattle.std.specs.Prelude.{◌≡◌, ◌<◌, ◌≤◌, ◌^◌, ℕ, All, Some};
 ghost use Rattle.std.specs.Prelude.{IfOk, IsSome, IsTrue, OnErr, OnOk};
-ghost use Rattle.std.specs.Option.{option_copied};
 ghost use Rattle.std.specs.FinMap as fin;
 ghost use Rattle.keyed.specs.Maps.{update};
 ghost use Rattle.admission.specs.Calls.{IsConsistent, after_leave, freed_by_leave, in_use, leg_at};
@@ -14,6 +13,7 @@ ghost use Rattle.zone_tables.specs.Pools.{IsIdle, MayReplace, figures_at};
 ghost use Rattle.zone_tables.specs.Pools.{pools_after_answer, pools_after_end, pools_after_return};
 ghost use Rattle.zone_tables.specs.Pools.{pools_after_replacing};
 ghost use Rattle.zone_tables.specs.Changes.{IsCallChange, IsJoinable, IsLowerable, IsOpenable};
+ghost use Rattle.zone_tables.specs.Changes.{OpensCall, leg_with};
 ghost use Rattle.zone_tables.specs.UnitRequests.{IsEnterable, IsUnitRequest};
 ghost use Rattle.zone_tables.specs.UnitRequests.{units_requested, calls_after_answer};
 ghost use Rattle.zone_tables.specs.Changes.{calls_after, pools_after};
@@ -26,9 +26,9 @@ use crate::change::CallChange;
 use crate::lender::Lender;
 use crate::pool_figures::PoolFigures;
 use crate::unit_request::{Purpose, UnitRequest};
-use admission::{Call, CallList, Calls, Leg};
+use admission::{Calls, Leg};
 use pools::{Figures, Lend};
-use ras_module::{CallKey, EndpointId};
+use ras_module::{Address, CallKey, EndpointId};
 use std::alloc::{AllocError, Global};
 use std::marker::Model;
 use zone_config::Config;
@@ -113,25 +113,6 @@ impl Bandwidth {
         self.calls.is_same(&other.calls) && self.pools.is_same(&other.pools)
     }
 
-    /// How many calls are open.
-    pub fn len(&self) -> usize
-        ensures { result ≡ fin.len self.now.usage.calls }
-    {
-        self.calls.len()
-    }
-
-    pub fn get(&self, key: &CallKey) -> Option<&Call>
-        ensures { option_copied result ≡ fin.get self.now.usage.calls key.now }
-    {
-        self.calls.get(key)
-    }
-
-    pub fn leg(&self, key: &CallKey, endpoint: &EndpointId) -> Option<&Leg>
-        ensures { option_copied result ≡ leg_at self.now.usage.calls key.now endpoint.now }
-    {
-        self.calls.leg(key, endpoint)
-    }
-
     /// The table of the calls.
     pub fn table(&self) -> &Calls
         ensures { result.now.calls ≡ self.now.usage.calls }
@@ -146,21 +127,6 @@ impl Bandwidth {
         &self.pools
     }
 
-    /// The units of all calls.
-    pub fn in_use(&self) -> u64
-        ensures sum { result ≡ in_use self.now.usage.calls }
-        ensures few { result ≤ self.now.usage.limit }
-    {
-        self.calls.total()
-    }
-
-    /// Copies of the calls, by rising key.
-    pub fn list(&self) -> Result<CallList, AllocError>
-        ensures { IfOk result (λ list. list ≡ fin.entries self.now.usage.calls) }
-    {
-        self.calls.list()
-    }
-
     /// Makes room for this many more calls.
     pub fn reserve(&mut self, more: usize) -> Result<(), AllocError>
         ensures usage { self.new.usage ≡ self.old.usage }
@@ -169,20 +135,22 @@ impl Bandwidth {
         self.calls.reserve(more)
     }
 
-    /// Makes a change for which no pool is asked. All that may take memory comes first.
-    pub fn apply(&mut self, change: CallChange) -> Result<(), AllocError>
-        requires { IsCallChange self.old.usage change }
+    /// Makes a change for an endpoint, for which no pool is asked. Memory is asked for only if a
+    /// call opens, and before anything changes.
+    pub fn apply(&mut self, endpoint: &EndpointId, change: CallChange) -> Result<(), AllocError>
+        requires { IsCallChange self.old.usage endpoint.now change }
         ensures ok { OnOk result (self.new.usage ≡ with_usage self.old.usage
-            (calls_after change self.old.usage.calls)
-            (pools_after change self.old.usage.calls self.old.usage.pools)) }
+            (calls_after endpoint.now change self.old.usage.calls)
+            (pools_after endpoint.now change self.old.usage.calls self.old.usage.pools)) }
         ensures sound { OnOk result (IsSoundUsage self.new.usage) }
         ensures err { OnErr result (self.new.usage ≡ self.old.usage) }
+        ensures memory { OnErr result (OpensCall change) }
     {
         match change {
-            CallChange::Opening(key, pool, leg) => self.open(key, pool, leg.into_inner())?,
-            CallChange::Joining(key, leg) => self.join(key, leg.into_inner()),
+            CallChange::Opening(key, pool, told) => self.open(key, pool, leg(endpoint, told))?,
+            CallChange::Joining(key, told) => self.join(key, leg(endpoint, told)),
             CallChange::Lowering(key, units, pool, back) => self.lower(&key, units, pool, back),
-            CallChange::Leaving(key, endpoint) => self.leave(&key, endpoint.get()),
+            CallChange::Leaving(key) => self.leave(&key, endpoint),
         }
         let _ = &self.calls;
         Ok(())
@@ -257,9 +225,14 @@ impl Bandwidth {
         self.pools.replace(pool, offered);
     }
 
-    /// Requests units of a pool, once, for a call. If enough units are lent, the call opens with
-    /// them, or gets them if it is open. This takes no memory.
-    pub fn request_units<L: Lender>(&mut self, request: &UnitRequest, lender: &mut L) -> Lend
+    /// Requests units of a pool, once, for a call of an endpoint. If enough units are lent, the call
+    /// opens with them, or gets them if it is open. This takes no memory.
+    pub fn request_units<L: Lender>(
+        &mut self,
+        endpoint: &EndpointId,
+        request: &UnitRequest,
+        lender: &mut L,
+    ) -> Lend
         requires figures { L.lends_for lender.old self.old.usage.pools }
         requires room { 0 < self.old.room }
         requires may { IsUnitRequest self.old.usage request.now }
@@ -267,7 +240,7 @@ impl Bandwidth {
         ensures answer { IsAnswer (figures_at self.old.usage.pools request.now.pool)
             request.now.units result }
         ensures usage { self.new.usage ≡ with_usage self.old.usage
-            (calls_after_answer request.now result self.old.usage.calls)
+            (calls_after_answer endpoint.now request.now result self.old.usage.calls)
             (pools_after_answer self.old.usage.pools (units_requested request.now) result) }
         ensures lends { L.lends lender.old self.old.usage.pools (units_requested request.now) result
             lender.new }
@@ -277,29 +250,41 @@ impl Bandwidth {
         let least = u64::from(request.least);
         let answer = lender.ask(&self.pools, request.pool, units, least);
         self.pools.note_answer(request.pool, units, least, answer);
-        enter(&mut self.calls, request, answer);
+        enter(&mut self.calls, endpoint, request, answer);
         answer
     }
 }
 
-/// Enters a pool's answer into the calls. If the request gets units by it, a call opens with them,
-/// or gets them if it is open.
-fn enter(calls: &mut Calls, request: &UnitRequest, answer: Lend)
+/// The leg of an endpoint that is told this address.
+fn leg(endpoint: &EndpointId, told: Address) -> Leg
+    ensures { result ≡ leg_with endpoint.now told }
+{
+    Leg {
+        endpoint: *endpoint,
+        told,
+    }
+}
+
+/// Enters a pool's answer into the calls. If the request of an endpoint gets units by it, a call
+/// opens with them, or gets them if it is open.
+fn enter(calls: &mut Calls, endpoint: &EndpointId, request: &UnitRequest, answer: Lend)
     requires { IsEnterable calls.old request.now answer }
-    ensures calls { calls.new.calls ≡ calls_after_answer request.now answer calls.old.calls }
+    ensures calls { calls.new.calls
+        ≡ calls_after_answer endpoint.now request.now answer calls.old.calls }
     ensures most { calls.new.most ≡ calls.old.most }
     ensures sound { IsConsistent calls.old → IsConsistent calls.new }
 {
     let Some(units) = request.grant(answer) else {
         return;
     };
-    match &request.purpose {
-        Purpose::Opening(leg) => {
-            let opened = calls.open(request.call, request.pool, units as u32, *leg.get());
+    match request.purpose {
+        Purpose::Opening(told) => {
+            let leg = leg(endpoint, told);
+            let opened = calls.open(request.call, request.pool, units as u32, leg);
             opened.unwrap();
         }
         Purpose::Raising(had) => {
-            let raised = calls.set_units(&request.call, *had + units as u32);
+            let raised = calls.set_units(&request.call, had + units as u32);
             raised.unwrap();
         }
     }

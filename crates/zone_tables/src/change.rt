@@ -4,54 +4,57 @@ ghost use Rattle.std.specs.Prelude.{◌≡◌};
 ghost use Rattle.zone_tables.specs.inside.Counted.{move_of};
 
 use crate::entry::Entry;
-use admission::Leg;
-use ras_module::{Boxed, CallKey, EndpointId};
+use ras_module::{Address, Boxed, CallKey};
 use registrations::Registration;
 
-/// What a request changes among the endpoints.
+/// What a request changes among the endpoints. Which endpoint it is, its call signal address tells:
+/// no two share one, and an identifier would need memory of its own. Moments are in milliseconds.
 #[derive(Drop)]
 pub enum EndpointChange {
-    /// The endpoint's time to live ends at this moment, in milliseconds.
-    Renewal(Boxed<EndpointId>, u64),
-    /// The endpoint registers this instead, until this moment in milliseconds.
-    Rewriting(Boxed<EndpointId>, Entry, u64),
+    /// The time to live of the endpoint at this address ends at this moment.
+    Renewal(Address, u64),
+    /// The endpoint at the entry's call signal address registers the entry, until this moment.
+    Rewriting(Entry, u64),
+    /// An endpoint registers for the first time.
     Addition(Boxed<Registration>),
-    Removal(Boxed<EndpointId>),
+    /// The endpoint at this address goes.
+    Removal(Address),
 }
 
-/// What a request changes among the calls without asking a pool. Units are of 100 bit/s.
-#[derive(Drop)]
+/// What a request changes among the calls, for the endpoint that it names, without asking a pool.
+/// Units are of 100 bit/s.
+#[derive(Clone, Copy)]
 pub enum CallChange {
-    /// A call of this pool opens without units, with its first leg.
-    Opening(CallKey, usize, Boxed<Leg>),
-    /// The second endpoint joins a call.
-    Joining(CallKey, Boxed<Leg>),
+    /// The endpoint opens a call of this pool without units, and is told this address.
+    Opening(CallKey, usize, Address),
+    /// It joins a call as the second one, and is told this address.
+    Joining(CallKey, Address),
     /// The units that a call keeps, its pool, and the units that the pool gets back.
     Lowering(CallKey, u32, usize, u32),
-    /// An endpoint leaves a call.
-    Leaving(CallKey, Boxed<EndpointId>),
+    /// It leaves a call.
+    Leaving(CallKey),
 }
 
 impl CallChange {
-    /// Who has one leg more after it, or one leg fewer.
+    /// Whether the endpoint has one leg more after it, or one leg fewer.
     pub(crate) fn movement(&self) -> Move
         ensures { result ≡ move_of self.now }
     {
         match self {
-            CallChange::Opening(_, _, leg) => Move::Comes(leg.get().endpoint),
-            CallChange::Joining(_, leg) => Move::Comes(leg.get().endpoint),
-            CallChange::Lowering(_, _, _, _) => Move::Nobody,
-            CallChange::Leaving(_, endpoint) => Move::Goes(*endpoint.get()),
+            CallChange::Opening(_, _, _) => Move::Comes,
+            CallChange::Joining(_, _) => Move::Comes,
+            CallChange::Lowering(_, _, _, _) => Move::Stays,
+            CallChange::Leaving(_) => Move::Goes,
         }
     }
 }
 
-/// The endpoint that takes part in one call more, or in one fewer.
+/// Whether an endpoint takes part in one call more, or in one fewer.
 #[derive(Clone, Copy)]
 pub(crate) enum Move {
-    Comes(EndpointId),
-    Goes(EndpointId),
-    Nobody,
+    Comes,
+    Goes,
+    Stays,
 }
 
 /// What a request changes.

@@ -5,13 +5,13 @@ ghost use Rattle.std.specs.Prelude.{◌≡◌, ◌≤◌, ◌<◌, [], IsSome, I
 ghost use Rattle.std.specs.Option.{option_copied, IsSomeAnd};
 ghost use Rattle.std.specs.FinMap as map;
 ghost use Rattle.keyed.specs.Maps.{update};
-ghost use Rattle.registrations.specs.Registry.{at_address, IsConsistent, IsListOf, IsUnused};
-ghost use Rattle.registrations.specs.Registry.{after_ask, after_calm, with_deadline};
+ghost use Rattle.registrations.specs.Registry.{after_ask, after_calm, after_rewrite, at_address};
+ghost use Rattle.registrations.specs.Registry.{with_deadline};
 ghost use Rattle.aliases.specs.Held.{Becomes, without_holder};
 ghost use Rattle.registrations.specs.Agreement.{Agree, registered_elsewhere};
-ghost use Rattle.zone_tables.specs.Tables.{heard_now};
+ghost use Rattle.zone_tables.specs.Tables.{heard_now, identifier_at};
 ghost use Rattle.zone_tables.specs.Translation.{registered_with, translation};
-ghost use Rattle.zone_tables.specs.Changes.{IsAddable, IsEndpointChange};
+ghost use Rattle.zone_tables.specs.Changes.{IsAddable, IsEndpointChange, RegistersInFull};
 ghost use Rattle.zone_tables.specs.Changes.{IsRewritable, after_endpoint_change};
 ghost use Rattle.zone_tables.specs.Parts.{IsSoundRoll};
 ghost use Rattle.zone_tables.specs.inside.Counted.{IsMove, legs_after_change, legs_after_move};
@@ -20,7 +20,7 @@ use crate::change::{EndpointChange, Move};
 use crate::entry::Entry;
 use aliases::AliasTable;
 use ras_module::{Address, Alias, AliasList, EndpointId};
-use registrations::{Registration, RegistrationList, Registrations, Times};
+use registrations::{Registration, Registrations, Times};
 use std::alloc::{AllocError, Global};
 use std::marker::Model;
 use zone_config::Moment;
@@ -86,27 +86,6 @@ impl Endpoints {
         self.registrations.is_same(&other.registrations)
     }
 
-    /// How many endpoints are registered.
-    pub fn len(&self) -> usize
-        ensures { result ≡ map.len self.now.roll.live }
-    {
-        self.registrations.len()
-    }
-
-    pub fn get(&self, id: &EndpointId) -> Option<&Registration>
-        ensures found { option_copied result ≡ map.get self.now.roll.live id.now }
-        ensures sound { IsConsistent self.now.roll.live }
-    {
-        self.registrations.get(id)
-    }
-
-    pub fn by_address(&self, address: Address) -> Option<&Registration>
-        ensures found { option_copied result ≡ at_address self.now.roll.live address }
-        ensures sound { IsConsistent self.now.roll.live }
-    {
-        self.registrations.by_address(address)
-    }
-
     /// Those of these aliases that endpoints with another call signal address hold.
     pub fn conflicts(&self, aliases: &[Alias], address: Address) -> Result<AliasList, AllocError>
         ensures { IfOk result (λ held.
@@ -136,20 +115,6 @@ impl Endpoints {
         self.registrations.get(self.aliases.holder(alias)?)
     }
 
-    /// An identifier that no endpoint has, and that is not taken: any such one.
-    pub fn unused(&self, taken: &[EndpointId]) -> EndpointId
-        ensures { IsUnused self.now.roll.live taken.now result }
-    {
-        self.registrations.unused(taken)
-    }
-
-    /// Copies, by rising identifier.
-    pub fn list(&self) -> Result<RegistrationList, AllocError>
-        ensures { IfOk result (IsListOf self.now.roll.live) }
-    {
-        self.registrations.list()
-    }
-
     /// The table of the registrations.
     pub fn table(&self) -> &Registrations
         ensures live { result.now.live ≡ self.now.roll.live }
@@ -159,24 +124,17 @@ impl Endpoints {
         &self.registrations
     }
 
-    /// In how many calls an endpoint has a leg. None if it isn't registered.
-    pub fn legs(&self, id: &EndpointId) -> Option<usize>
-        ensures { result ≡ map.get self.now.legs id.now }
-    {
-        self.registrations.legs(id)
-    }
-
     /// Counts the leg of an endpoint that took part in one call more, or in one fewer.
-    pub fn count(&mut self, movement: &Move)
-        requires { IsMove self.old.roll.live self.old.legs movement.now }
+    pub fn count(&mut self, endpoint: &EndpointId, movement: Move)
+        requires { IsMove self.old.roll.live self.old.legs endpoint.now movement }
         ensures { self.new ≡ record self.old {
-          legs = legs_after_move movement.now self.old.legs;
+          legs = legs_after_move endpoint.now movement self.old.legs;
         } }
     {
         match movement {
-            Move::Comes(id) => self.registrations.leg_comes(id),
-            Move::Goes(id) => self.registrations.leg_goes(id),
-            Move::Nobody => {}
+            Move::Comes => self.registrations.leg_comes(endpoint),
+            Move::Goes => self.registrations.leg_goes(endpoint),
+            Move::Stays => {}
         }
     }
 
@@ -229,24 +187,43 @@ impl Endpoints {
         }
     }
 
-    /// Makes a change. All that may take memory comes first.
+    /// The identifier of the endpoint at this call signal address.
+    fn identifier_at(&self, address: Address) -> EndpointId
+        requires { IsSome (at_address self.now.roll.live address) }
+        ensures id { result ≡ identifier_at self.now.roll.live address }
+        ensures live { IsSome (map.get self.now.roll.live result) }
+    {
+        self.registrations.by_address(address).unwrap().identifier
+    }
+
+    /// Makes a change. Memory is asked for only if an endpoint registers in full, and before
+    /// anything changes.
     pub fn apply(&mut self, now: Moment, change: EndpointChange) -> Result<(), AllocError>
         requires { IsEndpointChange self.old.roll change }
         ensures live { OnOk result (self.new.roll.live
             ≡ after_endpoint_change now change self.old.roll.live) }
         ensures most { self.new.roll.most ≡ self.old.roll.most }
-        ensures legs { OnOk result (self.new.legs ≡ legs_after_change change self.old.legs) }
+        ensures legs { OnOk result
+            (self.new.legs ≡ legs_after_change self.old.roll.live change self.old.legs) }
         ensures times { self.new.times ≡ self.old.times }
         ensures sound { OnOk result (IsSoundRoll self.new.roll) }
         ensures err { OnErr result (self.new ≡ self.old) }
+        ensures memory { OnErr result (RegistersInFull change) }
     {
         match change {
-            EndpointChange::Renewal(id, deadline) => self.renew(id.get(), deadline),
-            EndpointChange::Rewriting(id, entry, deadline) => {
-                self.rewrite(now, id.get(), entry, deadline)?
+            EndpointChange::Renewal(address, deadline) => {
+                let id = self.identifier_at(address);
+                self.renew(&id, deadline);
+            }
+            EndpointChange::Rewriting(entry, deadline) => {
+                let id = self.identifier_at(entry.call_signal);
+                self.rewrite(now, &id, entry, deadline)?;
             }
             EndpointChange::Addition(registration) => self.add(registration.into_inner())?,
-            EndpointChange::Removal(id) => self.remove(id.get()),
+            EndpointChange::Removal(address) => {
+                let id = self.identifier_at(address);
+                self.remove(&id);
+            }
         }
         let _ = &self.registrations;
         Ok(())
@@ -272,8 +249,8 @@ impl Endpoints {
     ) -> Result<(), AllocError>
         requires { IsRewritable self.old.roll endpoint.now entry }
         ensures live { OnOk result (self.new.roll.live
-            ≡ after_endpoint_change now (EndpointChange.Rewriting endpoint.now entry deadline)
-            self.old.roll.live) }
+            ≡ heard_now now endpoint.now (update self.old.roll.live endpoint.now
+            (after_rewrite entry.ras entry.aliases deadline))) }
         ensures most { self.new.roll.most ≡ self.old.roll.most }
         ensures legs { self.new.legs ≡ self.old.legs }
         ensures times { self.new.times ≡ self.old.times }

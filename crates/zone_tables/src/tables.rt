@@ -2,15 +2,14 @@
 
 ghost use Rattle.std.specs.Prelude.{◌↔◌};
 ghost use Rattle.std.specs.Prelude.{◌≡◌, ◌<◌, ◌≤◌, ◌^◌, All, IfOk, IfSome, IsTrue};
-ghost use Rattle.std.specs.Prelude.{MatchOption, OnErr, OnOk, Some, length, map, ℕ};
+ghost use Rattle.std.specs.Prelude.{MatchOption, None, OnErr, OnOk, Some, length, map, ℕ};
 ghost use Rattle.std.specs.Option.{IsSomeAnd, option_copied};
 ghost use Rattle.std.specs.FinMap as fin;
 ghost use Rattle.keyed.specs.Maps.{update};
-ghost use Rattle.registrations.specs.Registry.{at_address, IsConsistent};
-ghost use Rattle.registrations.specs.Registry.{IsListOf, IsUnused, after_ask};
+ghost use Rattle.registrations.specs.Registry.{after_ask};
 ghost use Rattle.registrations.specs.Agreement.{registered_elsewhere};
 ghost use Rattle.zone_tables.specs.Translation.{translation};
-ghost use Rattle.admission.specs.Calls.{EachLeg, in_use, leg_at, legs_of};
+ghost use Rattle.admission.specs.Calls.{EachLeg, legs_of};
 ghost use Rattle.zone_tables.specs.Leaving.{AreSameButLent, IsOther};
 ghost use Rattle.pools.specs.Account.{IsAnswer};
 ghost use Rattle.zone_tables.specs.Tables.{empty_tables, with_live};
@@ -18,7 +17,8 @@ ghost use Rattle.zone_tables.specs.Disengaging.{without_endpoint, without_legs_o
 ghost use Rattle.zone_tables.specs.Pools.{IsIdle, MayReplace, figures_at};
 ghost use Rattle.zone_tables.specs.Pools.{pools_after_answer, pools_after_replacing};
 ghost use Rattle.zone_tables.specs.Parts.{usage_of};
-ghost use Rattle.zone_tables.specs.Changes.{IsPossible, IsRegistered};
+ghost use Rattle.zone_tables.specs.Changes.{IsPossible, IsPossibleFor, IsRegistered, OpensCall};
+ghost use Rattle.zone_tables.specs.Changes.{RegistersInFull, TakesMemory};
 ghost use Rattle.zone_tables.specs.UnitRequests.{IsUnitRequest};
 ghost use Rattle.zone_tables.specs.UnitRequests.{units_requested};
 ghost use Rattle.zone_tables.specs.UnitRequests.{calls_after_answer, leg_of_purpose};
@@ -33,11 +33,11 @@ use crate::endpoints::Endpoints;
 use crate::lender::Lender;
 use crate::pool_figures::PoolFigures;
 use crate::unit_request::UnitRequest;
-use admission::{Call, CallList, Calls, Leg};
+use admission::Calls;
 use expiry::{Times, item_in_call};
 use pools::{Figures, Lend};
-use ras_module::{Address, Alias, CallKey, EndpointId, ReplyAliases};
-use registrations::{Registration, RegistrationList, Registrations};
+use ras_module::{Address, Alias, EndpointId, ReplyAliases};
+use registrations::Registrations;
 use std::alloc::{AllocError, Global};
 use std::marker::Model;
 use zone_config::{Config, Moment};
@@ -128,14 +128,6 @@ impl ZoneTables {
         self.bandwidth.pools()
     }
 
-    /// How many endpoints are registered.
-    pub fn len(&self) -> usize
-        ensures len { result ≡ fin.len self.now.live }
-        ensures sound { SoundTables self.now }
-    {
-        self.endpoints.len()
-    }
-
     /// The settings.
     pub fn config(&self) -> &Config
         ensures same { result.now ≡ self.now.config }
@@ -154,41 +146,20 @@ impl ZoneTables {
         times_of(&self.config)
     }
 
-    /// The table of the registrations.
+    /// The registered endpoints.
     pub fn registrations(&self) -> &Registrations
-        ensures { result.now.live ≡ self.now.live }
+        ensures live { result.now.live ≡ self.now.live }
+        ensures sound { SoundTables self.now }
+        ensures asks { self.now.config.asks ≤ 16 }
     {
         self.endpoints.table()
     }
 
-    /// The table of the calls.
-    pub fn calls_table(&self) -> &Calls
+    /// The open calls.
+    pub fn calls(&self) -> &Calls
         ensures { result.now.calls ≡ self.now.calls }
     {
         self.bandwidth.table()
-    }
-
-    /// An identifier that no endpoint has, and that is not taken: any such one.
-    pub fn unused(&self, taken: &[EndpointId]) -> EndpointId
-        ensures { IsUnused self.now.live taken.now result }
-    {
-        self.endpoints.unused(taken)
-    }
-
-    /// The endpoint that is registered under this identifier.
-    pub fn get(&self, id: &EndpointId) -> Option<&Registration>
-        ensures found { option_copied result ≡ fin.get self.now.live id.now }
-        ensures sound { IsConsistent self.now.live }
-        ensures asks { self.now.config.asks ≤ 16 }
-    {
-        self.endpoints.get(id)
-    }
-
-    /// The endpoint that is registered with this call signal address.
-    pub fn by_address(&self, address: Address) -> Option<&Registration>
-        ensures { option_copied result ≡ at_address self.now.live address }
-    {
-        self.endpoints.by_address(address)
     }
 
     /// Those of these aliases that endpoints with another call signal address hold.
@@ -201,7 +172,7 @@ impl ZoneTables {
             held ≡ registered_elsewhere self.now.live address aliases.now) }
     {
         let held = self.endpoints.conflicts(aliases.as_slice(), address)?;
-        Ok(ReplyAliases::new(held).unwrap())
+        Ok(ReplyAliases::new(held)?.unwrap())
     }
 
     /// The call signal address of the endpoint with the first of these aliases that is registered.
@@ -212,91 +183,61 @@ impl ZoneTables {
         self.endpoints.translate(aliases, other)
     }
 
-    /// How many calls are open.
-    pub fn calls_len(&self) -> usize
-        ensures { result ≡ fin.len self.now.calls }
-    {
-        self.bandwidth.len()
-    }
-
-    /// The call with this key.
-    pub fn call(&self, key: &CallKey) -> Option<&Call>
-        ensures { option_copied result ≡ fin.get self.now.calls key.now }
-    {
-        self.bandwidth.get(key)
-    }
-
-    /// The leg of an endpoint in the call with this key.
-    pub fn leg(&self, key: &CallKey, endpoint: &EndpointId) -> Option<&Leg>
-        ensures { option_copied result ≡ leg_at self.now.calls key.now endpoint.now }
-    {
-        self.bandwidth.leg(key, endpoint)
-    }
-
     /// In how many calls an endpoint has a leg.
     pub fn legs_of(&self, endpoint: &EndpointId) -> usize
         ensures { result ≡ legs_of self.now.calls endpoint.now }
     {
-        self.endpoints.legs(endpoint).unwrap_or(0)
+        self.endpoints.table().legs(endpoint).unwrap_or(0)
     }
 
-    /// Copies of the registrations, by rising identifier.
-    pub fn list(&self) -> Result<RegistrationList, AllocError>
-        ensures { IfOk result (IsListOf self.now.live) }
-    {
-        self.endpoints.list()
-    }
-
-    /// Copies of the calls, by rising key.
-    pub fn calls(&self) -> Result<CallList, AllocError>
-        ensures { IfOk result (λ list. list ≡ fin.entries self.now.calls) }
-    {
-        self.bandwidth.list()
-    }
-
-    /// The units of all calls.
-    pub fn in_use(&self) -> u64
-        ensures { result ≡ in_use self.now.calls }
-    {
-        self.bandwidth.in_use()
-    }
-
-    /// Makes a change. All that may take memory comes first.
-    pub fn apply(&mut self, now: Moment, change: Change) -> Result<(), AllocError>
-        requires { IsPossible self.old change }
-        ensures ok { OnOk result (self.new ≡ after_change now change self.old) }
+    /// Makes a change of a request that names this endpoint, if it names one. Memory is asked for
+    /// only if something is entered for the first time, or an endpoint registers anew, and before
+    /// anything changes.
+    pub fn apply(
+        &mut self,
+        now: Moment,
+        who: Option<&EndpointId>,
+        change: Change,
+    ) -> Result<(), AllocError>
+        requires { IsPossible self.old (option_copied who) change }
+        ensures ok { OnOk result
+            (self.new ≡ after_change now (option_copied who.entry) change self.old) }
         ensures sound { SoundTables self.new }
         ensures err { OnErr result (self.new ≡ self.old) }
+        ensures memory { OnErr result (TakesMemory change) }
     {
         let _ = &self.config;
         match change {
             Change::Nothing => Ok(()),
             Change::Endpoint(change) => self.change_endpoints(now, change),
-            Change::Calls(change) => self.change_calls(change),
+            Change::Calls(change) => self.change_calls(who.unwrap(), change),
         }
     }
 
     fn change_endpoints(&mut self, now: Moment, change: EndpointChange) -> Result<(), AllocError>
-        requires { IsPossible self.old (Change.Endpoint change) }
-        ensures ok { OnOk result (self.new ≡ after_change now (Change.Endpoint change) self.old) }
+        requires { IsPossible self.old None (Change.Endpoint change) }
+        ensures ok { OnOk result
+            (self.new ≡ after_change now None (Change.Endpoint change) self.old) }
         ensures sound { SoundTables self.new }
         ensures err { OnErr result (self.new ≡ self.old) }
+        ensures memory { OnErr result (RegistersInFull change) }
     {
         let _ = &self.config;
         self.endpoints.apply(now, change)?;
         Ok(())
     }
 
-    fn change_calls(&mut self, change: CallChange) -> Result<(), AllocError>
-        requires { IsPossible self.old (Change.Calls change) }
-        ensures ok { (now : ℕ)
-            → OnOk result (self.new ≡ after_change now (Change.Calls change) self.old) }
+    fn change_calls(&mut self, endpoint: &EndpointId, change: CallChange) -> Result<(), AllocError>
+        requires { IsPossibleFor self.old endpoint.now change }
+        ensures ok { (now : ℕ) → OnOk result
+            (self.new ≡ after_change now (Some endpoint.now) (Change.Calls change) self.old) }
         ensures sound { SoundTables self.new }
         ensures err { OnErr result (self.new ≡ self.old) }
+        ensures memory { OnErr result (OpensCall change) }
     {
         let movement = change.movement();
-        self.bandwidth.apply(change)?;
-        self.endpoints.count(&movement);
+        self.bandwidth.apply(endpoint, change)?;
+        self.endpoints.count(endpoint, movement);
         Ok(())
     }
 
@@ -309,21 +250,23 @@ impl ZoneTables {
         self.endpoints.hear(now, id);
     }
 
-    /// Requests units of a pool, once, for a call. If enough units are lent, the call opens with
-    /// them, or gets them if it is open. The memory is there before the pool is asked.
+    /// Requests units of a pool, once, for a call of an endpoint. If enough units are lent, the call
+    /// opens with them, or gets them if it is open. The memory is there before the pool is asked.
     pub fn request_units<L: Lender>(
         &mut self,
+        endpoint: &EndpointId,
         request: &UnitRequest,
         lender: &mut L,
     ) -> Result<Lend, AllocError>
         requires figures { L.lends_for lender.old self.old.pools }
         requires may { IsUnitRequest (usage_of self.old) request.now }
-        requires leg { IfSome (leg_of_purpose request.now.purpose) (IsRegistered self.old.live) }
+        requires leg { IfSome (leg_of_purpose endpoint.now request.now.purpose)
+            (IsRegistered self.old.live) }
         requires counts { All (HasCounts (2 ^ 63)) self.old.pools }
         ensures answer { IfOk result (IsAnswer (figures_at self.old.pools request.now.pool)
             request.now.units) }
         ensures tables { IfOk result (λ answer. self.new ≡ record self.old {
-          calls = calls_after_answer request.now answer self.old.calls;
+          calls = calls_after_answer endpoint.now request.now answer self.old.calls;
           pools = pools_after_answer self.old.pools (units_requested request.now) answer;
         }) }
         ensures lends { IfOk result (λ answer. L.lends lender.old self.old.pools
@@ -334,8 +277,8 @@ impl ZoneTables {
     {
         let _ = &self.config;
         self.bandwidth.reserve(1)?;
-        let answer = self.bandwidth.request_units(request, lender);
-        self.endpoints.count(&request.movement(answer));
+        let answer = self.bandwidth.request_units(endpoint, request, lender);
+        self.endpoints.count(endpoint, request.movement(answer));
         Ok(answer)
     }
 
@@ -359,7 +302,7 @@ impl ZoneTables {
         ensures gone { EachLeg (IsOther id.now) self.new.calls }
     {
         let _ = &self.config;
-        let legs = self.endpoints.legs(id).unwrap_or(0);
+        let legs = self.endpoints.table().legs(id).unwrap_or(0);
         self.bandwidth.leave_all(id, legs);
         self.endpoints.no_legs(id);
     }

@@ -1,5 +1,6 @@
 -- How often kept RegistrationConfirms tell each identifier.
-use Rattle.std.specs.Prelude.{◌≡◌, ℕ, Bool, cond, nat_eq, List, Option, Some, None, IsTrue}
+use Rattle.std.specs.Prelude.{◌≡◌, ◌≤◌, ◌<◌, ◌+◌, ◌^◌, ℕ, Bool, cond, nat_eq, List, Option}
+use Rattle.std.specs.Prelude.{Some, None, IsTrue, length}
 use Rattle.std.specs.List.{count_by}
 use Rattle.std.specs.Map.{lookup, values_of}
 use Rattle.std.specs.Cmp.Lexicographic.{pointwise}
@@ -7,10 +8,12 @@ use Rattle.kept_replies.specs.inside.Stored.{is_identifier, is_named_by}
 use Rattle.kept_replies.specs.declared.key.KeptKey.{KeptKey}
 use Rattle.kept_replies.specs.declared.entry.KeptEntry.{KeptEntry}
 
--- identifiers with how often each is told, and whether this holds of all identifiers
+-- identifiers with how often each is told, whether this holds of all identifiers, and how many
+-- more can be told so that no memory is taken
 pub record ToldTable : Type 0 where
   pub counts : List (List ℕ × ℕ)
   pub is_whole : Bool
+  pub room : ℕ
 
 abbrev pub same_id : List ℕ → List ℕ → Bool
 same_id a b = pointwise nat_eq a b
@@ -22,6 +25,10 @@ count_of (Some n) = n
 -- how often an identifier is told, as the table has it
 abbrev pub times : ToldTable → List ℕ → ℕ
 times t id = count_of (lookup (same_id id) t.counts)
+
+-- an identifier is short enough to be counted, and its count can rise
+abbrev pub MayRise : ToldTable → List ℕ → Type 0
+MayRise t id = (length id ≤ 20) × (times t id + 1 < 2 ^ 64)
 
 -- how often one reply tells it
 abbrev pub once : Option (List ℕ) → List ℕ → ℕ

@@ -1,5 +1,5 @@
 -- Where the reply to a datagram finds a place among the kept ones.
-use Rattle.std.specs.Prelude.{ℕ, ◌≡◌, ◌<◌, ◌≤◌, Option, None, Some, IsTrue}
+use Rattle.std.specs.Prelude.{ℕ, ◌≡◌, ◌<◌, ◌≤◌, Option, None, Some, IsSome, IsTrue}
 use Rattle.std.specs.Option.{IsSomeAnd}
 use Rattle.std.specs.FinMap.{get, len}
 use Rattle.ras_module.specs.declared.reply.Reply.{Reply}
@@ -7,27 +7,25 @@ use Rattle.ras_module.specs.declared.reply.Reply.TheVariants.{Rip}
 use Rattle.kept_replies.specs.declared.entry.KeptState.{KeptState}
 use Rattle.kept_replies.specs.declared.entry.KeptState.TheVariants.{Done, Pending}
 use Rattle.kept_replies.specs.declared.key.KeptKey.{KeptKey}
-use Rattle.kept_replies.specs.Kept.{KeptTable, IsBusy, left_in, without_birth}
+use Rattle.kept_replies.specs.Kept.{KeptTable, left_in, without_birth}
 use Rattle.ras_machine.specs.declared.job.Occasion.{Occasion}
-use Rattle.ras_machine.specs.declared.job.Occasion.TheVariants.{First, Again}
+use Rattle.ras_machine.specs.declared.job.Occasion.TheVariants.{Again, Anew, First}
 use Rattle.ras_machine.specs.Keeping.{may_wait}
 
 -- it has an entry, or there is memory for one
 abbrev pub HasRoom : KeptTable → KeptKey → Type 0
 HasRoom t key = get t.kept key ≡ None → 0 < t.room
 
--- it has an entry, or there is a place for one, or one that is over can be dropped for it
-abbrev pub HasPlaceIn : KeptTable → ℕ → KeptKey → Type 0
-HasPlaceIn t now key = get t.kept key ≡ None → IsBusy t now → ⊥
+-- there is a place for one more entry, once this one is dropped
+abbrev pub FitsIn : KeptTable → Option ℕ → Type 0
+FitsIn t None = len t.kept < t.most
+FitsIn t (Some born) = len (without_birth t.kept born) < t.most
 
--- once this entry is dropped, it has an entry, or there is a place for one
-abbrev pub FitsIn : KeptTable → KeptKey → Option ℕ → Type 0
-FitsIn t key None = get t.kept key ≡ None → len t.kept < t.most
-FitsIn t key (Some born) = (get t.kept key ≡ None) × (len (without_birth t.kept born) < t.most)
-
--- a request that comes finds a place; one that is served again has its entry
+-- a request that comes for the first time has no entry, and finds a place; one that is served anew
+-- or again has its entry
 abbrev pub IsPlaced : KeptTable → KeptKey → Occasion → Type 0
-IsPlaced t key (First dropped) = FitsIn t key dropped
+IsPlaced t key (First dropped) = (get t.kept key ≡ None) × FitsIn t dropped
+IsPlaced t key Anew = IsSome (get t.kept key)
 IsPlaced t key (Again born left) = IsSomeAnd (get t.kept key) (λ entry. left_in entry.state ≡ left)
 
 -- a request is kept to wait only if it may, and then for one time at least

@@ -91,14 +91,15 @@ module _ {S : Type 0} (rows : Slab Registration) (by_identifier : IndexMap (List
         (ends.room - length by_identifier.entries)))
 
     -- the value of the table
-    abbrev pub registry_of : Times → ℕ → Registry
-    registry_of times most = record {
+    abbrev pub registry_of : Times → ℕ → ℕ → Registry
+    registry_of times most start = record {
       live = live_of (order_of rows by_identifier.entries);
       most = most;
       room = room_of;
       order = order_of rows by_identifier.entries;
       legs = leg_counts_of by_identifier.entries legs.items;
       times = times;
+      next = start;
     }
 
     -- the rows have their places in each of these parts

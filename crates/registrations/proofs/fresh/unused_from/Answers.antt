@@ -1,5 +1,5 @@
 use Rattle.std.proofs.Common.{◌≡◌, ap, subst, ◌∙◌, true, map, below_more, arith}
-use Rattle.registrations.specs.inside.Numbers.{number_of, next_number}
+use Rattle.registrations.specs.Numbers.{number_of, next_number}
 use Rattle.registrations.specs.Registry.{Live, IsUnused}
 use Rattle.registrations.proofs.Covering.{has_number, next_tried, not_all, number_at, number_tried}
 use Rattle.registrations.proofs.Covering.{used}

@@ -1,5 +1,5 @@
 use Rattle.std.proofs.Common.{◌≡◌, ◌<◌, ℕ, true, map}
-use Rattle.registrations.specs.inside.Numbers.{number_of}
+use Rattle.registrations.specs.Numbers.{number_of}
 use Rattle.registrations.proofs.Covering.{has_number, number_at, used}
 use Rattle.registrations.proofs.fresh.unused_from.Given as goal
 

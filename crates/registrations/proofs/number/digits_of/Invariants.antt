@@ -1,5 +1,5 @@
 use Rattle.std.proofs.Common.{◌≡◌, ◌+◌, ◌-◌, ◌*◌, ◌^◌, drop, length}
-use Rattle.registrations.specs.inside.Numbers.{number_of}
+use Rattle.registrations.specs.Numbers.{number_of}
 use Rattle.registrations.proofs.number.digits_of.Given as goal
 
 abbrev pub invariant-loop-k : goal.invariant-loop-k

@@ -1,5 +1,5 @@
 use Rattle.std.proofs.Common.{◌≡◌, ◌≤◌, ◌-◌, drop}
-use Rattle.registrations.specs.inside.Numbers.{number_of}
+use Rattle.registrations.specs.Numbers.{number_of}
 use Rattle.registrations.proofs.number.first_of.Given as goal
 
 abbrev pub invariant-loop-start : goal.invariant-loop-start

@@ -1,8 +1,7 @@
 use Rattle.std.proofs.Common.{arith, ap, sym, subst, List, [], ◌∷◌, ◌++◌, ◌∙◌}
 use Rattle.zone_events.specs.declared.change.Change.{Change}
 use Rattle.ras_core.specs.Runs.{RunningChange}
-use Rattle.books.specs.declared.kind.StepKind.{StepKind}
-use Rattle.books.specs.Totals.{changes_of_kind, datagrams_of_kind, kind_of, turns_of_kind}
+use Rattle.books.specs.Totals.{changes_of_kind, datagrams_of_kind, turns_of_kind}
 use Rattle.books.specs.declared.book.Entry.{Entry}
 use Rattle.zone_lock.specs.Seats.{Seated}
 use Rattle.zone_lock.proofs.Histories.{cut_so, inside_entered, room_for_more}

@@ -1,32 +1,119 @@
-use Rattle.std.proofs.Common.{ap, subst, sym, [], ◌∷◌, ◌++◌, ◌∙◌}
-use Rattle.std.specs.Prelude.{Option, is_some, not}
+use Rattle.std.proofs.Common.{arith, ap, refl, subst, sym, ◌∙◌, ◌+◌, ◌-◌}
 use Rattle.zone_events.specs.declared.change.Change.TheVariants as change
-use Rattle.zone_events.specs.declared.outcome.Outcome.{Outcome}
-use Rattle.ras_machine.specs.State.{State}
-use Rattle.ras_core.specs.Runs.{RunningStep}
-use Rattle.zone_lock.specs.Held.{Held, IsKept, entry_by}
-use Rattle.zone_lock.proofs.Steps.{entered_recorded, longer_by}
+use Rattle.zone_tables.proofs.Answered.{on_ok}
+use Rattle.books.specs.Totals.{changes_of_kind, datagrams_of_kind, turns_of_kind}
+use Rattle.books.specs.declared.totals.Totals.{Totals}
+use Rattle.zone_lock.specs.Held.{Held, IsEntered, entry_by}
+use Rattle.zone_lock.specs.Seats.{Seated}
+use Rattle.zone_lock.proofs.Histories.{cut_so, room_for_more}
+use Rattle.zone_lock.proofs.Steps.{backed_on, entered_unrecorded, inside_unrecorded, none_if}
 use Rattle.zone_lock.proofs.stepping.step_locked.Goals as goal
+
+pub with_step-locked-inside-requires-clause-steps :
+    goal.with_step-locked-inside-requires-clause-steps
+with_step-locked-inside-requires-clause-steps g c =
+    (room_for_more _ _ _ _ _ _ _ _ 0 c.locked.invariant.0 (omega arith)).0
+
+pub overflow_sub-locked : goal.overflow_sub-locked
+overflow_sub-locked g c =
+    let l = c.locked.inside in
+    let entry = entry_by c.args.seat.now.number c.args.seat.now.calls
+    (change.Event c.args.prepared) c.step_into.new.outcome in
+    let step = on_ok c.step_into.result c.in_ok-step_into.field-0 c.in_ok-step_into.was
+    c.step_into.ensures.step in
+    let backed = backed_on g.D.Hall.opened
+    (cut_so l.first l.carried l.base l.entries.items l.zone) l.so_far
+    c.with_step-locked-inside.result l.opened_units _ _ _ _ entry c.step_into.new.self
+    c.locked.invariant.0 step c.with_step-locked-inside.ensures.lent in
+    omega (arith, backed, c.in_use.ensures.sum)
+
+pub count-requires : goal.count-requires
+count-requires g c =
+    let room = room_for_more _ _ _ _ _ _ _ _ _ c.locked.invariant.0 c.audit.ensures.bound in
+    omega (arith, ap (λ (s : Seated). s.calls) c.audit.ensures.seat, room.1)
+
+pub invariant_of-locked-2 : goal.invariant_of-locked-2
+invariant_of-locked-2 g c =
+    let l = c.locked.inside in
+    let next = c.with_step-locked-inside in
+    let entry = entry_by c.args.seat.now.number c.args.seat.now.calls
+    (change.Event c.args.prepared) c.step_into.new.outcome in
+    let step = on_ok c.step_into.result c.in_ok-step_into.field-0 c.in_ok-step_into.was
+    c.step_into.ensures.step in
+    let carried : Totals = record {
+      datagrams = next.result.datagrams;
+      turns = next.result.turns;
+      lent = next.result.lent;
+      returned = l.opened_units + next.result.lent - c.in_use.result;
+      changes = next.result.changes;
+    } in
+    let kind = c.of_prepared-kind.ensures in
+    let datagrams = ap datagrams_of_kind kind in
+    let turns = ap turns_of_kind kind in
+    let changes = ap changes_of_kind kind in (
+      inside_unrecorded g.D.Hall.opened
+          (cut_so l.first l.carried l.base l.entries.items l.zone) l.so_far next.result carried
+          l.opened_units _ _ _ _ _ _ _ _ entry c.step_into.new.self c.locked.invariant.0 step
+          next.ensures.few
+          (omega (arith, next.ensures.datagrams, datagrams))
+          (omega (arith, next.ensures.turns, turns))
+          next.ensures.lent next.ensures.returned
+          (omega (arith, next.ensures.changes, changes))
+          (omega (arith, c.count.ensures.datagrams, c.audit.ensures.datagrams, datagrams))
+          (omega (arith, c.count.ensures.turns, c.audit.ensures.turns, turns))
+          (omega (arith, c.count.ensures.lent, c.audit.ensures.lent))
+          (omega (arith, c.count.ensures.changes, c.audit.ensures.changes, changes))
+          refl refl refl
+          (ap (λ n. l.opened_units + next.result.lent - n) c.in_use.ensures.sum)
+          refl _ l.base c.clear.new.self.items
+          (omega (arith, c.len.ensures, l.entries.ok.0))
+          (none_if l.base (sym c.is_some.ensures ∙ c.if-is_some.false))
+          c.clear.ensures.items,
+      c.locked.invariant.1,
+    )
 
 pub returns-clause-entered : goal.returns-clause-entered
 returns-clause-entered g c =
-    let old = c.args.locked.now in
-    let new = c.apply_locked.new.locked in
-    let seat = c.args.seat.now in
-    let told = c.in_ok-receipt.ensures in
-    let same = c.outcome_of.ensures in
-    let entry = entry_by seat.number seat.calls (change.Event c.args.prepared)
-    c.outcome_of.result in
-    let entries = told.entry
-    ∙ ap (λ (o : Outcome). old.entries
-    ++ entry_by seat.number seat.calls (change.Event c.args.prepared) o ∷ []) (sym same) in
-    let clauses = c.apply_locked.ensures in
-    entered_recorded g.D.Hall.opened old entry new.zone new
-    (subst (λ (h : Held). IsKept g.D.Hall.opened h) c.locked.view_is c.locked.invariant.0.kept)
-    (subst (λ (o : Outcome). RunningStep old.zone c.args.prepared o new.zone) (sym same)
-    told.step)
-    (λ none.
-    (let empty = ap (λ (h : Held). h.base) c.locked.view_is ∙ none in
-    cc (sym (ap (λ (o : Option State). is_some o) empty)
-    ∙ (c.is_none.ensures ∙ ap not c.if-is_none.false))))
-    (longer_by old new entry clauses.first clauses.carried clauses.base entries)
+    let l = c.locked.inside in
+    let next = c.with_step-locked-inside in
+    let entry = entry_by c.args.seat.now.number c.args.seat.now.calls
+    (change.Event c.args.prepared) c.step_into.new.outcome in
+    let step = on_ok c.step_into.result c.in_ok-step_into.field-0 c.in_ok-step_into.was
+    c.step_into.ensures.step in
+    let carried : Totals = record {
+      datagrams = next.result.datagrams;
+      turns = next.result.turns;
+      lent = next.result.lent;
+      returned = l.opened_units + next.result.lent - c.in_use.result;
+      changes = next.result.changes;
+    } in
+    let kind = c.of_prepared-kind.ensures in
+    let datagrams = ap datagrams_of_kind kind in
+    let turns = ap turns_of_kind kind in
+    let changes = ap changes_of_kind kind in
+    let no_base = none_if l.base (sym c.is_some.ensures ∙ c.if-is_some.false) in
+    let new = cut_so (l.first + c.len.result + 1) carried l.base c.clear.new.self.items
+    c.step_into.new.self in
+    subst (λ (h : Held). IsEntered g.D.Hall.opened h entry new) c.locked.view_is
+    (entered_unrecorded g.D.Hall.opened
+    (cut_so l.first l.carried l.base l.entries.items l.zone) l.so_far next.result carried
+    l.opened_units _ _ _ _ c.count.new.self.datagrams.total c.count.new.self.turns.total
+    c.count.new.self.lent.total c.count.new.self.changes.total entry c.step_into.new.self
+    c.locked.invariant.0 step
+    next.ensures.few
+    (omega (arith, next.ensures.datagrams, datagrams))
+    (omega (arith, next.ensures.turns, turns))
+    next.ensures.lent next.ensures.returned
+    (omega (arith, next.ensures.changes, changes))
+    (omega (arith, c.count.ensures.datagrams, c.audit.ensures.datagrams, datagrams))
+    (omega (arith, c.count.ensures.turns, c.audit.ensures.turns, turns))
+    (omega (arith, c.count.ensures.lent, c.audit.ensures.lent))
+    (omega (arith, c.count.ensures.changes, c.audit.ensures.changes, changes))
+    refl refl refl
+    (ap (λ n. l.opened_units + next.result.lent - n) c.in_use.ensures.sum)
+    refl (l.first + c.len.result + 1) l.base c.clear.new.self.items
+    (omega (arith, c.len.ensures, l.entries.ok.0))
+    no_base c.clear.ensures.items no_base)
+
+pub returns-clause-kept : goal.returns-clause-kept
+returns-clause-kept g c = (invariant_of-locked-2 g c).0.kept

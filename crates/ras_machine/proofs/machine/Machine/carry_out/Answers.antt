@@ -1,9 +1,8 @@
-use Rattle.std.proofs.Common.{rules, ◌≡◌, ◌≤◌, ◌+◌, ◌∙◌, ℕ, Some, None, length, ap, subst, sym}
+use Rattle.std.proofs.Common.{rules, ◌≡◌, ◌≤◌, ◌+◌, ◌∙◌, Some, None, length, ap, refl, subst, sym}
 use Rattle.std.specs.Prelude.{IfSome}
 use Rattle.ras_writing.specs.Replies.{encoding_of}
 use Rattle.kept_replies.specs.declared.entry.KeptState.TheVariants.{Done}
 use Rattle.zone_events.specs.declared.outcome.Datagram.{Datagram}
-use Rattle.kept_replies.specs.Kept.{Passes, is_over}
 use Rattle.zone_events.specs.declared.outcome.Outcome.{Outcome}
 use Rattle.ras_machine.specs.State.{State}
 use Rattle.zone_tables.specs.Tables.{Tables}
@@ -20,16 +19,7 @@ use Rattle.ras_machine.specs.Soundness.{AreBornBefore}
 use Rattle.ras_machine.specs.Steps.{IsTimely, IsUnusedIn}
 use Rattle.zone_tables.proofs.Answered.{on_ok}
 use Rattle.ras_machine.proofs.Carrying.{does_carried, tables_after}
-use Rattle.ras_machine.proofs.Dropping.{over_of}
 use Rattle.ras_machine.proofs.machine.Machine.carry_out.Goals as goal
-
-pub reserve-requires-clause-over : goal.reserve-requires-clause-over
-reserve-requires-clause-over c =
-    subst (λ (n : ℕ). IfSome (dropped_for c.args.job.occasion)
-    (Passes (is_over n) c.self.inside.kept.kept)) (sym c.milliseconds.ensures.same)
-    (subst (λ (m : State). IfSome (dropped_for c.args.job.occasion)
-    (Passes (is_over c.args.now) m.kept)) (sym c.self.view_is)
-    (over_of c.args.self.now c.args.now c.args.job.occasion c.requires.timely))
 
 pub invariant_of-self-2 : goal.invariant_of-self-2
 invariant_of-self-2 c = record {
@@ -55,8 +45,9 @@ returns-clause-does c plan is =
     state_of i.tables i.kept.kept i.clock i.interrogation_number i.next_pool_turn i.steps in
     let tables = c.hear.new.tables in
     let kept = c.keep.new.kept.kept in
-    let applied : c.apply.new.self ≡ after_change now d.change i.tables =
-    on_ok c.apply.result c.in_ok-apply.field-0 c.in_ok-apply.was c.apply.ensures.ok in
+    let applied : c.apply.new.self ≡ after_change now endpoint d.change i.tables =
+    on_ok c.apply.result c.in_ok-apply.field-0 c.in_ok-apply.was c.apply.ensures.ok
+    ∙ ap (λ who. after_change now who d.change i.tables) c.endpoint_of.ensures in
     let tables_is : tables
     ≡ tables_after i.tables now job.occasion endpoint d.change =
     c.hear.ensures.heard ∙ ap (λ (z : Tables). heard_at z job.occasion now endpoint) applied in
@@ -75,8 +66,8 @@ returns-clause-does c plan is =
     (subst (λ (m : State). IfSome given (IsUnusedIn m)) back c.requires.unused)
     (subst (λ (m : State). IsTimely m now job.occasion) back c.requires.timely)
     (subst (λ (m : State). AreBornBefore m.steps m.kept) back c.requires.sound.born)
-    few tables_is kept_is plan request
-    (subst (λ (m : State). resolved plan given ≡ Some (served m.tables now d)) back is) in
+    few tables_is kept_is plan request refl
+    (subst (λ (m : State). resolved plan given ≡ Some (served m.tables now request d)) back is) in
     let course = Serving (record {
       job = job;
       request = request;

@@ -15,7 +15,7 @@ returns c =
     let z = c.self.inside.tables in
     let times = times_of z.config in
     let moment = c.milliseconds-moment.ensures.same in
-    let live = c.registrations-registrations.ensures in
+    let live = c.registrations-registrations.ensures.live in
     let endpoint = subst (λ (q : ℕ × Live).
     MatchOption c.endpoint_due-endpoint.result (IsNoEndpointDue q.0 times q.1 z.calls)
     (IsEndpointItem q.0 times q.1 z.calls)) (λ j. (sym moment j, sym live j))

@@ -19,7 +19,7 @@ interrogated-requires c =
     let due = subst (λ (m : State). IsDueIn m c.args.now (Interrogate c.args.id.now))
     (sym c.self.view_is) c.requires.due in
     tries_few_in (times_of z.config) c.args.now (fin.get z.live c.args.id.now) due.1
-    c.get.ensures.asks
+    c.registrations.ensures.asks
 
 pub returns-clause-does : goal.returns-clause-does
 returns-clause-does c =
@@ -32,7 +32,8 @@ returns-clause-does c =
       interrogation_number = number.result;
     } in
     let there : fin.get i.tables.live c.args.id.now ≡ Some c.unwrap.result.now =
-    sym c.get.ensures.found ∙ ap option_copied c.unwrap.ensures in
+    ap (λ live. fin.get live c.args.id.now) (sym c.registrations.ensures.live)
+    ∙ (sym c.get.ensures.found ∙ ap option_copied c.unwrap.ensures) in
     let zone_is = sym c.interrogated.ensures.tables in
     does_item old _ c.self.view_is c.args.now (Interrogate c.args.id.now) c.requires.due
     (Some c.in_ok-output.output) c.be_noted.new.self c.be_noted.ensures new

@@ -33,7 +33,7 @@ returns-in-Some c =
     subst (λ k. CallsFor s now k called)
     (sym (known s now key request c.args.dropped served c.in-Some.entry.now there
     (sym c.if-is_repeat.ensures)))
-    (subst (λ job. CallsFor s now (serving job now request plan.0) called) c.first.ensures
+    (subst (λ job. CallsFor s now (serving job now request plan.0) called) c.anew.ensures
     (calls plan.0 plan.1)))
 
 pub returns-then-not-is_full : goal.returns-then-not-is_full
@@ -54,7 +54,7 @@ returns-then-not-is_full c =
     subst (λ k. CallsFor s now k called)
     (sym (has_place s now key request c.args.dropped served absent room))
     (subst (λ job. CallsFor s now (serving job now request plan.0) called)
-    c.first-then-not-is_full.ensures (calls plan.0 plan.1)))
+    c.first.ensures (calls plan.0 plan.1)))
 
 pub serving-requires-2 : goal.serving-requires-2
 serving-requires-2 c =

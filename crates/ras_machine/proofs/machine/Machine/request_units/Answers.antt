@@ -1,7 +1,6 @@
-use Rattle.std.proofs.Common.{rules, ℕ, ◌≡◌, ◌∙◌, Some, None, ap, subst, sym}
-use Rattle.std.specs.Prelude.{IfSome}
+use Rattle.std.proofs.Common.{rules, ℕ, List, [], ◌≡◌, ◌∙◌, Some, None, ap, subst, sym}
+use Rattle.std.specs.Option.{option_copied, unwrap_or}
 use Rattle.ras_writing.specs.Replies.{encoding_of}
-use Rattle.kept_replies.specs.Kept.{Passes, is_over}
 use Rattle.kept_replies.specs.Told.{identifier_in}
 use Rattle.zone_events.specs.declared.outcome.Outcome.{Outcome}
 use Rattle.zone_config.specs.declared.config.ConfigParts.{ConfigParts}
@@ -12,24 +11,16 @@ use Rattle.zone_tables.specs.Pools.{pools_after_answer}
 use Rattle.ras_machine.specs.Keeping.{dropped_for, kept_with, plan_at, state_after}
 use Rattle.zone_config.specs.Terms.{term_of}
 use Rattle.ras_machine.specs.Machine.{Serving, note_at}
-use Rattle.ras_requests.specs.Conclusions.{RequestsUnits}
-use Rattle.ras_requests.specs.Requests.{endpoint_of}
-use Rattle.zone_tables.specs.UnitRequests.{calls_after_answer, reply_of, units_requested}
+use Rattle.ras_requests.specs.Conclusions.{RequestsUnits, asker_of}
+use Rattle.ras_requests.specs.Replies.{reply_of}
+use Rattle.ras_requests.specs.Requests.{endpoint_of, seq_of}
+use Rattle.zone_tables.specs.UnitRequests.{calls_after_answer, units_requested}
 use Rattle.ras_machine.specs.Courses.{heard_at, Does}
 use Rattle.ras_machine.specs.Soundness.{AreBornBefore}
 use Rattle.ras_machine.specs.Steps.{IsTimely}
-use Rattle.ras_machine.proofs.Asking.{does_answered_for}
-use Rattle.ras_machine.proofs.Dropping.{over_of}
+use Rattle.ras_machine.proofs.Asking.{does_answered}
 use Rattle.ras_machine.proofs.Untold.{same_settings, untold}
 use Rattle.ras_machine.proofs.machine.Machine.request_units.Goals as goal
-
-pub reserve-requires-clause-over : goal.reserve-requires-clause-over
-reserve-requires-clause-over g c =
-    subst (λ (n : ℕ). IfSome (dropped_for c.args.job.occasion)
-    (Passes (is_over n) c.self.inside.kept.kept)) (sym c.milliseconds.ensures.same)
-    (subst (λ (m : State). IfSome (dropped_for c.args.job.occasion)
-    (Passes (is_over c.args.now) m.kept)) (sym c.self.view_is)
-    (over_of c.args.self.now c.args.now c.args.job.occasion c.requires.timely))
 
 pub keep-requires-clause-births : goal.keep-requires-clause-births
 keep-requires-clause-births g c =
@@ -60,8 +51,8 @@ invariant_of-self-2 g c =
 
 pub in_buffer-kept_reply-requires-clause-untold : goal.in_buffer-kept_reply-requires-clause-untold
 in_buffer-kept_reply-requires-clause-untold g c =
-    ap identifier_in c.reply-reply.ensures
-    ∙ untold c.args.unit_request c.in_ok-answer.answer c.waits-waits.result c.delay-delay.result
+    ap identifier_in c.unit_reply-reply.ensures
+    ∙ untold c.seq_of.result c.args.unit_request c.in_ok-answer.answer c.waits-waits.result c.delay-delay.result
 
 pub returns-clause-does : goal.returns-clause-does
 returns-clause-does g c plan asks =
@@ -73,16 +64,23 @@ returns-clause-does g c plan asks =
     let endpoint = endpoint_of request in
     let answer = c.in_ok-answer.answer in
     let w = c.waits-waits.result in
-    let reply = c.reply-reply.result in
+    let reply = c.unit_reply-reply.result in
     let old =
     state_of i.tables i.kept.kept i.clock i.interrogation_number i.next_pool_turn i.steps in
     let tables = c.hear.new.tables in
     let kept = c.keep.new.kept.kept in
     let asked : Tables = record i.tables {
-      calls = calls_after_answer q answer i.tables.calls;
+      calls = calls_after_answer (asker_of request) q answer i.tables.calls;
       pools = pools_after_answer i.tables.pools (units_requested q) answer;
     } in
-    let asked_is : c.request_units.new.self ≡ asked = c.in_ok-answer.ensures.tables in
+    let asker_is : c.unwrap-endpoint.result.now ≡ asker_of request =
+    ap (λ w. unwrap_or w []) (sym (ap option_copied c.unwrap-endpoint.ensures) ∙ c.endpoint_of.ensures) in
+    let asked_is : c.request_units.new.self ≡ asked =
+    c.in_ok-answer.ensures.tables
+    ∙ ap (λ (id : List ℕ). record i.tables {
+      calls = calls_after_answer id q answer i.tables.calls;
+      pools = pools_after_answer i.tables.pools (units_requested q) answer;
+    }) asker_is in
     let tables_is : tables ≡ heard_at asked job.occasion now endpoint =
     c.hear.ensures.heard ∙ ap (λ (z : Tables). heard_at z job.occasion now endpoint) asked_is in
     let config_is = c.config-config.ensures.same in
@@ -93,18 +91,16 @@ returns-clause-does g c plan asks =
     c.keep.ensures.kept
     ∙ (λ j. kept_with (c.reserve.ensures.kept j) job.key job.occasion i.steps
     ((c.state_after-state.ensures ∙ ap (state_after request reply w) term_is) j)) in
-    let reply_is : reply ≡ reply_of q answer w i.tables.config.delay =
-    c.reply-reply.ensures ∙ ap (λ n. reply_of q answer w n)
-    (c.delay-delay.ensures ∙ ap (λ (config : ConfigParts). config.delay) config_is) in
+    let reply_is : reply ≡ reply_of (seq_of request) q answer w i.tables.config.delay =
+    c.unit_reply-reply.ensures ∙ (λ j. reply_of (c.seq_of.ensures j) q answer w
+    ((c.delay-delay.ensures ∙ ap (λ (config : ConfigParts). config.delay) config_is) j)) in
     let back = sym c.self.view_is in
-    let does = does_answered_for old now job endpoint c.requires.endpoint request q answer w reply
-    tables
-    kept c.waits-waits.ensures
-    c.requires.seq c.in_ok-answer.ensures.answer
+    let does = does_answered old now job endpoint c.requires.endpoint request q answer w reply
+    tables kept c.waits-waits.ensures c.in_ok-answer.ensures.answer
     (subst (λ (m : State). IsTimely m now job.occasion) back c.requires.timely)
     (subst (λ (m : State). AreBornBefore m.steps m.kept) back c.requires.sound.born)
     reply_is c.write_reserved.ensures.most tables_is kept_is plan
-    (subst (λ (m : State). RequestsUnits m.tables plan q) back asks) in
+    (subst (λ (m : State). RequestsUnits m.tables request plan q) back asks) in
     let course = Serving (record {
       job = job;
       request = request;

@@ -36,6 +36,14 @@ request_units-requires-clause-leg g c =
     (subst (IsConclusion z c.args.now c.args.task.request) c.in-Asking.is
     c.requires.task.concludes)).registered
 
+pub request_units-requires-clause-endpoint : goal.request_units-requires-clause-endpoint
+request_units-requires-clause-endpoint g c =
+    let z = c.args.self.now.tables in
+    (requests_units_of z c.args.now c.args.task.request c.requires.task.served
+    c.in-Asking.unit_request
+    (subst (IsConclusion z c.args.now c.args.task.request) c.in-Asking.is
+    c.requires.task.concludes)).names
+
 pub returns-in-Settled-clause-does : goal.returns-in-Settled-clause-does
 returns-in-Settled-clause-does g c =
     let request = c.args.task.request in
@@ -55,7 +63,7 @@ returns-in-Settled-clause-asks g c =
     on_ok_with c.carry_out.result c.carry_out.ensures.does
     (λ does plan planned. asked_nothing g.L.Lender.lends _ z.pools _
     c.carry_out.new.outcome.answer
-    (asks_nothing z now c.in-Settled.decision job.occasion (endpoint_of request) plan None
+    (asks_nothing z now request c.in-Settled.decision job.occasion (endpoint_of request) plan None
     (ap (λ p. resolved p None) (concludes plan planned).is)))
 
 pub returns-in-Asking-clause-asks : goal.returns-in-Asking-clause-asks
@@ -70,7 +78,7 @@ returns-in-Asking-clause-asks g c =
     (λ asks plan planned. subst (λ (ask : Option RequestedUnits).
     IsAskedOnce g.L.Lender.lends c.args.lender.now z.pools ask
     c.request_units.new.outcome.answer c.request_units.new.lender)
-    (sym (asks_by z plan q (concludes plan planned) job.occasion now (endpoint_of request))) asks)
+    (sym (asks_by z request plan q (concludes plan planned) job.occasion now (endpoint_of request))) asks)
 
 pub carry_out-requires-in-Naming-clause-possible : goal.carry_out-requires-in-Naming-clause-possible
 carry_out-requires-in-Naming-clause-possible g c =
@@ -85,7 +93,7 @@ carry_out-requires-in-Naming-clause-possible g c =
     (subst (λ k. MayBeGiven s k c.args.outcome.now.given) c.in-Naming.is c.requires.given) in
     let decided = c.in_ok-decision-in-Naming.ensures
     ∙ ap (λ n. decision_under n id) c.into_inner.ensures in
-    subst (λ (d : Decision). IsPossible z d.change) (sym decided)
+    subst (λ (d : Decision). IsPossible z (endpoint_of c.args.task.request) d.change) (sym decided)
     (names.possible id unused.unused.not_live)
 
 pub returns-in_ok-decision-in-Naming-clause-asks : goal.returns-in_ok-decision-in-Naming-clause-asks
@@ -102,6 +110,6 @@ returns-in_ok-decision-in-Naming-clause-asks g c =
     on_ok_with c.carry_out-in-Naming.result c.carry_out-in-Naming.ensures.does
     (λ does plan planned. asked_nothing g.L.Lender.lends _ z.pools _
     c.carry_out-in-Naming.new.outcome.answer
-    (asks_nothing z now decision job.occasion (endpoint_of request) plan (Some id)
+    (asks_nothing z now request decision job.occasion (endpoint_of request) plan (Some id)
     (ap (λ p. resolved p (Some id)) (concludes plan planned).is
-    ∙ ap (λ (d : Decision). Some (served z now d)) (sym decided))))
+    ∙ ap (λ (d : Decision). Some (served z now request d)) (sym decided))))

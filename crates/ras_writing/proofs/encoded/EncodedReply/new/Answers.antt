@@ -1,13 +1,15 @@
-use Rattle.std.proofs.Common.{◌≤◌, List, ℕ, length, ◌∙◌, subst, sym}
+use Rattle.std.proofs.Common.{◌≤◌, List, ℕ, length, ◌∙◌, subst, sym, arith}
 use Rattle.ras_writing.proofs.EncodedReplies.{encoded, read_from}
 use Rattle.ras_writing.proofs.encoded.EncodedReply.new.Goals as goal
 
 pub invariant_of-result : goal.invariant_of-result
-invariant_of-result c =
-    encoded c.args.reply.now c.filled.result.items c.requires.reads_back
-    (c.filled.ensures ∙ c.requires.written)
-    (subst (λ (t : List ℕ). length t ≤ 20000) (sym c.filled.ensures) c.requires.few)
+invariant_of-result c = (
+  encoded c.args.reply.now c.filled.result.items c.requires.reads_back
+      (c.filled.ensures.items ∙ c.requires.written)
+      (subst (λ (t : List ℕ). length t ≤ 20000) (sym c.filled.ensures.items) c.requires.few),
+  omega (arith, c.filled.ensures.capacity, c.requires.bounded),
+)
 
 pub returns : goal.returns
 returns c = read_from c.args.reply.now c.filled.result.items c.requires.reads_back
-    (c.filled.ensures ∙ c.requires.written)
+    (c.filled.ensures.items ∙ c.requires.written)

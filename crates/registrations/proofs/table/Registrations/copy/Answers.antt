@@ -120,7 +120,7 @@ loop-i-preserved c =
           c.put.new.self.legs row c.index.result.now c.loop-i.invariant.5
           c.put.ensures.adds.rows c.put.ensures.legs
           (legs_nth i.rows i.by_identifier i.by_address i.deadlines i.legs i.ends i.times i.most
-          c.self.invariant _ c.self.view_is c.loop-i.i row there
+          i.next_number c.self.invariant _ c.self.view_is c.loop-i.i row there
           ∙ slice_get_read i.legs.items (length i.legs.items) c.loop-i.i c.index.result.now refl
           (omega (
             arith,
@@ -171,4 +171,5 @@ returns-clause-legs c =
     ap (λ t. t.legs) c.copy-2.view_is
     ∙ same_legs c.args.self.now.legs c.loop-i.copy.live c.loop-i.copy.legs c.loop-i.invariant.5
     (λ id none. uncounted i.rows i.by_identifier i.by_address i.deadlines i.legs i.ends i.times
-    i.most c.self.invariant _ c.self.view_is id (ap (λ m. map.get m id) (sym live) ∙ none))
+    i.most i.next_number c.self.invariant _ c.self.view_is id
+    (ap (λ m. map.get m id) (sym live) ∙ none))

@@ -25,7 +25,7 @@ pub overflow_sub-legs : goal.overflow_sub-legs
 overflow_sub-legs c =
     let i = c.self.inside in
     let read = legs_read i.rows i.by_identifier i.by_address i.deadlines i.legs i.ends i.times
-    i.most
+    i.most i.next_number
     c.self.invariant _ c.self.view_is c.args.id.now
     c.live_entry-i.result.1 c.live_entry-i.result.0 c.live_entry-i.ensures.place
     c.live_entry-i.ensures.entry c.index.result.now c.index.ensures in
@@ -36,7 +36,7 @@ pub returns : goal.returns
 returns c =
     let i = c.self.inside in
     let read = legs_read i.rows i.by_identifier i.by_address i.deadlines i.legs i.ends i.times
-    i.most
+    i.most i.next_number
     c.self.invariant _ c.self.view_is c.args.id.now
     c.live_entry-i.result.1 c.live_entry-i.result.0 c.live_entry-i.ensures.place
     c.live_entry-i.ensures.entry c.index.result.now c.index.ensures in

@@ -142,7 +142,7 @@ returns-clause-adds c =
           (omega (arith, c.write_end.ensures.room, one_more)));
       sound = IsSound-stored c.insert_reserved-place.new.self c.insert.new.self
           c.insert-2.new.self i.most (invariant_of-self c).stored c.set.new.self
-          c.push_reserved.new.self c.write_end.new.ends i.times;
+          c.push_reserved.new.self c.write_end.new.ends i.times c.raised-self-inside.result;
       times = ap (λ t. t.times) c.self.view_is;
     }
 

@@ -44,6 +44,7 @@ returns-clause-stays c =
       legs = (λ k. leg_counts_of (c.reserve-2.ensures.entries k) (c.reserve-5.ensures.items k))
           ∙ ap (λ t. t.legs) c.self.view_is;
       times = ap (λ t. t.times) c.self.view_is;
+      next = ap (λ t. t.next) c.self.view_is;
     }
 
 pub returns-clause-ok : goal.returns-clause-ok

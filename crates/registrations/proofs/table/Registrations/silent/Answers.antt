@@ -13,7 +13,7 @@ pub returns-in_err-end-clause-none : goal.returns-in_err-end-clause-none
 returns-in_err-end-clause-none c none id ended =
     let i = c.self.inside in
     let place = ended_place i.rows i.by_identifier i.by_address i.deadlines i.legs i.ends i.times
-    i.most
+    i.most i.next_number
     c.self.invariant _ c.self.view_is c.args.now id ended in
     some_none (sym place.2 ∙ (ap (λ m. map.get m place.0) (c.in_err-end.ensures.none.0 refl)
     ∙ map.get-empty nat_cmp place.0))
@@ -22,7 +22,7 @@ pub returns-then-end-now-clause-none : goal.returns-then-end-now-clause-none
 returns-then-end-now-clause-none c none id ended =
     let i = c.self.inside in
     let place = ended_place i.rows i.by_identifier i.by_address i.deadlines i.legs i.ends i.times
-    i.most
+    i.most i.next_number
     c.self.invariant _ c.self.view_is c.args.now id ended in
     absurd (omega (
       arith,
@@ -42,7 +42,7 @@ returns-clause-ended c = cases c.nth.result c.nth.ensures.nth where
   cases (Some r) is =
       let i = c.self.inside in
       let end = end_nth i.rows i.by_identifier i.by_address i.deadlines i.legs i.ends i.times i.most
-      c.self.invariant _ c.self.view_is c.in_ok-end.i r.now (sym is) in
+      i.next_number c.self.invariant _ c.self.view_is c.in_ok-end.i r.now (sym is) in
       subst (λ (w : Option ℕ). IsSomeAnd w (λ moment. moment ≤ c.args.now))
       (sym c.in_ok-end.ensures.there ∙ end) (omega (arith, c.if-end-now.false))
 
@@ -53,4 +53,4 @@ returns-clause-none c none id ended =
     sym c.nth.ensures.nth ∙ ap option_copied none in
     some_none (sym c.in_ok-end.ensures.there
     ∙ end_none i.rows i.by_identifier i.by_address i.deadlines i.legs i.ends i.times i.most
-    c.self.invariant _ c.self.view_is c.in_ok-end.i empty)
+    i.next_number c.self.invariant _ c.self.view_is c.in_ok-end.i empty)

@@ -12,4 +12,4 @@ invariant_of-result c =
 pub returns-clause-sound : goal.returns-clause-sound
 returns-clause-sound c =
     IsSound-stored c.new.result c.new-2.result c.new-3.result c.args.most
-    (invariant_of-result c).stored c.new-4.result c.new-5.result c.new-6.result c.args.times
+    (invariant_of-result c).stored c.new-4.result c.new-5.result c.new-6.result c.args.times 1

@@ -18,7 +18,7 @@ ask-answer-requires-clause-may g c =
     let counts = subst (λ (l : Lending). All (HasCounts (2 ^ 63)) l.usage.pools)
     (sym c.self.view_is) c.requires.counts in
     subst (MayBeAsked i.pools q.pool) (sym c.from-units.ensures)
-    (may_request u c.self.invariant.backed q may counts)
+    (may_request u c.self.invariant.backed c.args.endpoint.now q may counts)
 
 pub invariant_of-self : goal.invariant_of-self
 invariant_of-self g c =
@@ -38,10 +38,10 @@ invariant_of-self g c =
       least = c.from-least.ensures j;
     }) answer) in
     IsSoundUsage-held c.enter.new.calls c.note_answer.new.self i.limit i.call_limit
-    (IsBacked-is (with_usage u (calls_after_answer q answer u.calls)
+    (IsBacked-is (with_usage u (calls_after_answer c.args.endpoint.now q answer u.calls)
     (pools_after_answer u.pools (units_requested q) answer))
     c.enter.new.calls.calls c.note_answer.new.self c.enter.new.calls.most
-    (IsBacked-answer u c.self.invariant.backed q may answer fits)
+    (IsBacked-answer u c.self.invariant.backed c.args.endpoint.now q may answer fits)
     c.enter.ensures.calls after c.enter.ensures.most)
     (c.enter.ensures.sound (record {
       each = c.self.invariant.each;

@@ -1,4 +1,4 @@
-use Rattle.std.proofs.Common.{◌∙◌, refl, subst, sym}
+use Rattle.std.proofs.Common.{◌∙◌, refl, subst, sym, None}
 use Rattle.zone_tables.specs.Parts.{AreSoundParts, IsSoundRoll, Roll, Roster}
 use Rattle.zone_tables.specs.Tables.{Tables}
 use Rattle.zone_tables.specs.Changes.{IsEndpointChange, IsPossible}
@@ -21,7 +21,7 @@ invariant_of-self-2 c =
     let parts = c.self.invariant.parts in
     let u = i.bandwidth.usage in
     let change = c.args.change in
-    let here = subst (λ (m : Tables). IsPossible m (Endpoint change)) (sym c.self.view_is)
+    let here = subst (λ (m : Tables). IsPossible m None (Endpoint change)) (sym c.self.view_is)
     c.requires in
     let can = subst (λ (r : Roll). IsEndpointChange r change)
     (roll_is i.config i.endpoints.roll u parts) here.0 in

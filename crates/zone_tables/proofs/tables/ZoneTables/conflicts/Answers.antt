@@ -7,7 +7,7 @@ pub unwrap-requires : goal.unwrap-requires
 unwrap-requires c =
     let aliases = c.as_slice.result.now in
     let elsewhere = is_registered_elsewhere c.self.inside.endpoints.roll.live c.args.address in
-    fits c.new.result c.in_ok-held.held c.new.ensures
+    fits c.in_ok-new.field-0 c.in_ok-held.held c.in_ok-new.ensures
     (omega (
       arith,
       ap length c.in_ok-held.ensures,

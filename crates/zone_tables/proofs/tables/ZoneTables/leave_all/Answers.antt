@@ -1,5 +1,7 @@
 use Rattle.std.proofs.Common.{◌≡◌, ◌∙◌, ap, subst, sym}
 use Rattle.std.specs.Option.{unwrap_or}
+use Rattle.std.specs.FinMap as fin
+use Rattle.registrations.specs.Registry.{LegCounts}
 use Rattle.zone_tables.specs.Tables.{Tables}
 use Rattle.zone_tables.specs.Parts.{AreSoundParts, IsBacked, Roster, Usage, usage_of}
 use Rattle.zone_tables.specs.Changes.{IsRegistered}
@@ -13,7 +15,8 @@ use Rattle.zone_tables.proofs.tables.ZoneTables.leave_all.Goals as goal
 pub leave_all-requires : goal.leave_all-requires
 leave_all-requires c =
     let i = c.self.inside in
-    c.unwrap_or-legs.ensures ∙ (ap (λ w. unwrap_or w 0) c.legs.ensures
+    c.unwrap_or-legs.ensures ∙ (ap (λ w. unwrap_or w 0) (c.legs.ensures.legs
+    ∙ ap (λ (n : LegCounts). fin.get n c.args.id.now) c.table.ensures.legs)
     ∙ count_or_none i.endpoints.roll.live i.bandwidth.usage.calls i.endpoints.legs
     c.self.invariant.counted c.self.invariant.parts.legs c.args.id.now)
 

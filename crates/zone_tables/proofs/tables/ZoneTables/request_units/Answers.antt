@@ -27,25 +27,28 @@ count-requires g c =
     let i = c.self.inside in
     let q = c.args.request.now in
     let leg =
-    subst (λ (m : Tables). IfSome (leg_of_purpose q.purpose) (IsRegistered m.live))
+    subst (λ (m : Tables). IfSome (leg_of_purpose c.args.endpoint.now q.purpose) (IsRegistered m.live))
     (sym c.self.view_is) c.requires.leg in
-    subst (λ (m : Move). IsMove i.endpoints.roll.live i.endpoints.legs m) (sym c.movement.ensures)
+    subst (λ (m : Move). IsMove i.endpoints.roll.live i.endpoints.legs c.args.endpoint.now m)
+    (sym c.movement.ensures)
     (IsMove-answer i.endpoints.roll.live i.bandwidth.usage i.endpoints.legs
-    c.self.invariant.counted c.self.invariant.calls q c.request_units-answer.result leg)
+    c.self.invariant.counted c.self.invariant.calls c.args.endpoint.now q
+    c.request_units-answer.result leg)
 
 pub invariant_of-self-2 : goal.invariant_of-self-2
 invariant_of-self-2 g c =
     let i = c.self.inside in
+    let id = c.args.endpoint.now in
     let q = c.args.request.now in
     let parts = c.self.invariant.parts in
     let old = i.bandwidth.usage in
     let answer = c.request_units-answer.result in
     let leg =
-    subst (λ (m : Tables). IfSome (leg_of_purpose q.purpose) (IsRegistered m.live))
+    subst (λ (m : Tables). IfSome (leg_of_purpose c.args.endpoint.now q.purpose) (IsRegistered m.live))
     (sym c.self.view_is) c.requires.leg in
     let pools = pools_after_answer old.pools (units_requested q) answer in
     let usage = c.request_units-answer.ensures.usage
-    ∙ ap (λ (u : Usage). with_usage u (calls_after_answer q answer u.calls)
+    ∙ ap (λ (u : Usage). with_usage u (calls_after_answer id q answer u.calls)
     (pools_after_answer u.pools (units_requested q) answer)) c.reserve.ensures.usage in
     let may = subst (λ (u : Usage). IsUnitRequest u q)
     (sym (usage_is i.config i.endpoints.roll old parts))
@@ -57,15 +60,15 @@ invariant_of-self-2 g c =
       calls = c.request_units-answer.ensures.sound;
       parts = subst (λ (u : Usage). AreParts i.config i.endpoints.roll u) (sym usage)
           (AreParts-calls i.config i.endpoints.roll old parts
-          (calls_after_answer q answer old.calls) pools
+          (calls_after_answer id q answer old.calls) pools
           (length-set old.pools q.pool
           (figures_after_least (figures_at old.pools q.pool) q.least answer))
-          (legs-answer i.endpoints.roll.live old.calls q answer parts.legs leg));
+          (legs-answer i.endpoints.roll.live old.calls id q answer parts.legs leg));
       counted = counted_so i.endpoints.roll.live i.endpoints.roll.live
-          (calls_after_answer q answer old.calls) c.request_units-answer.new.self.usage.calls _ _
-          (counted_answer i.endpoints.roll.live old i.endpoints.legs c.self.invariant.counted q
+          (calls_after_answer id q answer old.calls) c.request_units-answer.new.self.usage.calls _ _
+          (counted_answer i.endpoints.roll.live old i.endpoints.legs c.self.invariant.counted id q
           answer may.purpose) refl (ap (λ (u : Usage). u.calls) usage)
-          (ap (λ (m : Move). legs_after_move m i.endpoints.legs) c.movement.ensures);
+          (ap (λ (m : Move). legs_after_move id m i.endpoints.legs) c.movement.ensures);
       times = c.self.invariant.times;
     })
 
