@@ -15,7 +15,9 @@ use Rattle.ras_machine.specs.State.{State}
 use Rattle.ras_machine.specs.Machine.{Course, at_moment, course}
 use Rattle.ras_machine.specs.Machine.{course_ending, moment_of, most_steps}
 use Rattle.ras_machine.specs.Steps.{IsAskedOnce, ask_in, choices_of, pools_after_ask}
-use Rattle.ras_machine.specs.Courses.{Performs}
+use Rattle.ras_machine.specs.Courses.{Performs, Stands, course_of, may_return_units_in}
+use Rattle.ras_machine.specs.declared.course.Course as code
+use Rattle.ras_machine.proofs.Returning.{none_returned}
 use Rattle.ras_core.specs.Running.{Running}
 use Rattle.ras_core.specs.Runs.{RunningStep}
 use Rattle.ras_core.specs.Tallies.{Tally, tallies_after, tallies_of}
@@ -33,6 +35,18 @@ to_be_settled old new now c outcome before asked same performs asks =
     subst (λ fs. AreSameButLent fs new.tables.pools)
     (sym (figures-asked before asked old.tables.pools (ask_in c) outcome.answer asks
     ∙ ap (λ fs. pools_after_ask fs (ask_in c) outcome.answer) same)) performs.pools
+
+-- and it is just that, in a course in which none come back
+pub nothing_to_settle : (s new : State) (now : ℕ) (c : code.Course) (outcome : Outcome)
+    (before asked : List Member) → figures_of (accounts_of before) ≡ s.tables.pools
+    → Stands s now c → may_return_units_in c ≡ false
+    → Performs s now (course_of s now c) outcome new
+    → IsAskedOnce answers_of before s.tables.pools (ask_in (course_of s now c)) outcome.answer asked
+    → figures_of (accounts_of asked) ≡ new.tables.pools
+nothing_to_settle s new now c outcome before asked same stands still performs asks =
+    figures-asked before asked s.tables.pools (ask_in (course_of s now c)) outcome.answer asks
+    ∙ ap (λ fs. pools_after_ask fs (ask_in (course_of s now c)) outcome.answer) same
+    ∙ sym (none_returned s now outcome new c stands still performs)
 
 -- a machine that isn't closed may make one step more
 pub open_below : (steps most : ℕ) (closed : Bool) → (IsTrue closed ↔ (steps ≡ most))

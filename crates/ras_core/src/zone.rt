@@ -133,9 +133,10 @@ impl<P: Pool> Zone<P> {
         let now = self.clock().later(prepared.moment());
         let course = chosen_course(&self.machine, now, prepared.into_arrival())?;
         self.machine.identify(&course, &mut outcome.given)?;
+        let returns = course.may_return_units();
         let turn = is_pool_turn(&course);
         self.machine.perform(now, course, &mut self.pools, outcome)?;
-        settle(&mut self.pools, self.machine.pools(), turn);
+        settle(&mut self.pools, self.machine.pools(), returns, turn);
         Ok(())
     }
 

@@ -27,7 +27,7 @@ use Rattle.ras_machine.specs.Keeping.{dropped_for, in_progress}
 use Rattle.ras_machine.specs.Keeping.{kept_with, plan_at, state_after, waits, with_answered_pool}
 use Rattle.zone_config.specs.Terms.{term_of}
 use Rattle.ras_machine.specs.Machine.{Ending, Serving, ended, note_at, plan_ending}
-use Rattle.ras_requests.specs.Conclusions.{RequestsUnits, asker_of, granted_by, refused_by}
+use Rattle.ras_requests.specs.Planned.{RequestsUnits, asker_of, granted_by, refused_by}
 use Rattle.ras_requests.specs.Replies.{reply_of, reply_with_grant}
 use Rattle.zone_tables.specs.UnitRequests.{calls_after_answer, calls_with_grant, units_requested}
 use Rattle.ras_machine.specs.Courses.{heard_at, Does}

@@ -10,7 +10,7 @@ use Rattle.kept_replies.specs.declared.key.KeptKey.{KeptKey}
 use Rattle.kept_replies.specs.Kept.{KeptReplies}
 use Rattle.kept_replies.specs.declared.entry.KeptState.TheVariants.{Done}
 use Rattle.zone_tables.specs.declared.change.Change.{Change}
-use Rattle.ras_requests.specs.declared.conclusion.Decision.{Decision}
+use Rattle.ras_requests.specs.declared.plan.Settlement.{Settlement}
 use Rattle.ras_machine.specs.declared.job.Job.{Job}
 use Rattle.ras_machine.specs.declared.job.Occasion.{Occasion}
 use Rattle.ras_machine.specs.declared.job.Occasion.TheVariants.{Again, Anew, First}
@@ -24,7 +24,7 @@ use Rattle.ras_machine.specs.Keeping.{Task, answered, dropped_for, kept_with, pl
 use Rattle.ras_machine.specs.Machine.{Serving, ended, note_at, plan_ending}
 use Rattle.pools.specs.declared.interface.Figures.{Figures}
 use Rattle.pools.specs.declared.interface.Lend.{Lend}
-use Rattle.ras_requests.specs.Conclusions.{served}
+use Rattle.ras_requests.specs.Planned.{served}
 use Rattle.ras_requests.specs.Requests.{endpoint_of}
 use Rattle.zone_tables.specs.Changes.{after_change}
 use Rattle.ras_machine.specs.Courses.{heard_at, resolved, Does}
@@ -193,7 +193,7 @@ module _ (s : State) (now : ℕ) (key : KeptKey) (request : Request)
   }
 
 -- The same, of what the code has.
-pub does_carried : (old : State) (now : ℕ) (job : Job) (endpoint : Option (List ℕ)) (d : Decision)
+pub does_carried : (old : State) (now : ℕ) (job : Job) (endpoint : Option (List ℕ)) (d : Settlement)
     (given : Option (List ℕ)) (tables : Tables) (kept : KeptReplies)
     → IfSome given (IsUnusedIn old) → IsTimely old now job.occasion
     → AreBornBefore old.steps old.kept → length (encoding_of d.reply) ≤ 20000
@@ -233,7 +233,7 @@ does_carried s now job endpoint d given tables kept unused timely before few tab
     Some (served_by s now job.key request d.reply d.change who)) names) unused timely before few))
 
 -- no pool is asked for what was decided
-pub asks_nothing : (z : Tables) (now : ℕ) (request : Request) (d : Decision) (occasion : Occasion)
+pub asks_nothing : (z : Tables) (now : ℕ) (request : Request) (d : Settlement) (occasion : Occasion)
     (endpoint : Option (List ℕ)) (plan : Plan) (given : Option (List ℕ))
     → resolved plan given ≡ Some (served z now request d)
     → ask_in_plan (plan_at occasion now endpoint plan) ≡ None

@@ -9,5 +9,6 @@ pub mod Noting
 pub mod PlansFor
 pub mod Waiting
 pub mod Performing
+pub mod Returning
 pub mod Readying
 mod Untold

@@ -1,22 +1,25 @@
 -- What an event calls for as a value of the code, what may be chosen for it, and what the deed
 -- owes.
-use Rattle.std.specs.Prelude.{ℕ, ◌≡◌, ◌≤◌, ◌+◌, List, length, Some, Option, None}
+use Rattle.std.specs.Prelude.{ℕ, ◌≡◌, ◌≤◌, ◌+◌, Bool, true, false, List, length, Some, Option}
+use Rattle.std.specs.Prelude.{None}
 use Rattle.std.specs.Option.{IsSomeAnd}
 use Rattle.std.specs.FinMap.{get}
 use Rattle.kept_replies.specs.Kept.{NonePasses, births, is_over}
 use Rattle.ras_module.specs.declared.request.Request.{Request}
 use Rattle.zone_events.specs.declared.due_item.DueItem.{DueItem}
-use Rattle.zone_events.specs.declared.due_item.DueItem.TheVariants.{Retry}
+use Rattle.zone_events.specs.declared.due_item.DueItem.TheVariants.{RegistrationOver, Retry, Silent}
 use Rattle.zone_events.specs.declared.event.Event.{Event}
 use Rattle.zone_events.specs.declared.outcome.IgnoredCause.TheVariants.{Busy}
 use Rattle.zone_events.specs.declared.outcome.Outcome.{Outcome}
-use Rattle.ras_requests.specs.declared.conclusion.Conclusion.{Conclusion}
-use Rattle.ras_requests.specs.declared.conclusion.Conclusion.TheVariants as conclusion
+use Rattle.ras_requests.specs.declared.plan.Plan.{Plan as CodePlan}
+use Rattle.ras_requests.specs.declared.plan.Plan.TheVariants as code_plan
 use Rattle.ras_requests.specs.Plans.{Plan, Served, Settled, Naming, Asking}
 use Rattle.ras_requests.specs.Requests.{plan_of, HasReply}
 use Rattle.zone_tables.specs.Soundness.{CountsOneMore}
 use Rattle.zone_tables.specs.Changes.{heard}
-use Rattle.ras_requests.specs.Conclusions.{IsConclusion}
+use Rattle.ras_requests.specs.Planned.{IsPlanOf, RequestsUnits, may_return_units_by, served}
+use Rattle.ras_requests.specs.declared.plan.Settlement.{Settlement}
+use Rattle.zone_tables.specs.declared.unit_request.UnitRequest.{UnitRequest}
 use Rattle.zone_tables.specs.Leaving.{AreSameButLent}
 use Rattle.zone_tables.specs.Pools.{RequestedUnits}
 use Rattle.zone_tables.specs.Tables.{Tables}
@@ -85,11 +88,23 @@ course_of s now (course.Serving task) = task_course now task (plan_of s.tables n
 course_of s now (course.Doing item) = Doing item
 course_of s now course.Idle = Idle
 
--- what is concluded about the request is what it comes to, and its reply has a place
+-- its plan is what the request comes to, and its reply has a place
 pub record IsTask (s : State) (now : ℕ) (task : code_task.Task) : Type 0 where
   pub served : HasReply task.request
   pub placed : IsPlacedIn s task.job
-  pub concludes : IsConclusion s.tables now task.request task.conclusion
+  pub plans : IsPlanOf s.tables now task.request task.plan
+
+-- Whether units may come back to a pool: by a change that settles a request, or as an endpoint goes
+-- from all its calls. Where a pool is asked, none come back.
+abbrev pub is_end_of_legs : DueItem → Bool
+is_end_of_legs (RegistrationOver id) = true
+is_end_of_legs (Silent id) = true
+is_end_of_legs other = false
+
+abbrev pub may_return_units_in : code.Course → Bool
+may_return_units_in (course.Serving task) = may_return_units_by task.plan
+may_return_units_in (course.Doing item) = is_end_of_legs item
+may_return_units_in other = false
 
 -- it can be done
 abbrev pub Stands : State → ℕ → code.Course → Type 0
@@ -124,13 +139,13 @@ pub record IsChosen (s : State) (now : ℕ) (event : Event) (called : code.Cours
   pub ready : IsReady s now (course_at s now event (chosen dropped item))
 
 -- an unused identifier is handed out, if one is called for
-abbrev pub MayBeGiven : State → Conclusion → Option (List ℕ) → Type 0
-MayBeGiven s (conclusion.Settled decision) given = Unit {0}
-MayBeGiven s (conclusion.Naming newcomer) given = IsSomeAnd given (IsUnusedIn s)
-MayBeGiven s (conclusion.Asking unit_request) given = Unit {0}
+abbrev pub MayBeGiven : State → CodePlan → Option (List ℕ) → Type 0
+MayBeGiven s (code_plan.Settled settlement) given = Unit {0}
+MayBeGiven s (code_plan.Naming newcomer) given = IsSomeAnd given (IsUnusedIn s)
+MayBeGiven s (code_plan.Asking unit_request) given = Unit {0}
 
 abbrev pub MayBeNamed : State → code.Course → Option (List ℕ) → Type 0
-MayBeNamed s (course.Serving task) given = MayBeGiven s task.conclusion given
+MayBeNamed s (course.Serving task) given = MayBeGiven s task.plan given
 MayBeNamed s other given = Unit {0}
 
 -- the way in which a request is served by a plan, if no pool is asked, and the identifier that is
@@ -141,6 +156,19 @@ resolved (Settled served) (Some id) = None
 resolved (Naming named) None = None
 resolved (Naming named) (Some id) = Some (named id)
 resolved (Asking ask lent refused) given = None
+
+-- a settlement is carried out, of whichever plan it is, with the identifier that was handed out
+abbrev pub CarriesOut : State → ℕ → Job → Request → Settlement → Option (List ℕ) → Outcome → State
+    → Type 0
+CarriesOut old now job request settlement given outcome new = (plan : Plan)
+    → resolved plan given ≡ Some (served old.tables now request settlement)
+    → Does old now (serving job now request plan) outcome new
+
+-- a request is served by a plan in which these units are requested
+abbrev pub ServesByUnits : State → ℕ → Job → Request → UnitRequest → Outcome → State → Type 0
+ServesByUnits old now job request unit_request outcome new = (plan : Plan)
+    → RequestsUnits old.tables request plan unit_request
+    → Does old now (serving job now request plan) outcome new
 
 -- a request that is served makes this of the gatekeeper
 abbrev pub Serves : State → ℕ → Job → Request → Outcome → State → Type 0

@@ -19,7 +19,7 @@ use crate::prepared::Message;
 use kept_replies::{KeptEntry, KeptKey, KeptReply, KeptState};
 use ras_codec::write_reserved;
 use ras_module::{Boxed, InfoRequestResponse, Octets, Reply, Request, Source};
-use ras_requests::decide;
+use ras_requests::plan_of;
 use std::alloc::AllocError;
 use zone_config::Moment;
 use zone_events::{Datagram, IgnoredCause};
@@ -141,7 +141,7 @@ impl Machine {
         })
     }
 
-    /// A request is to be served: what is concluded about it.
+    /// A request is to be served by its plan.
     pub(crate) fn serving(
         &self,
         now: Moment,
@@ -154,12 +154,8 @@ impl Machine {
             → plan_of self.now.tables now request ≡ Some plan
             → CallsFor self.now now (serving job now request plan) course) }
     {
-        let conclusion = decide(self.alloc, &self.tables, now, &request)?;
-        Ok(Course::Serving(Task {
-            job,
-            request,
-            conclusion,
-        }))
+        let plan = plan_of(self.alloc, &self.tables, now, &request)?;
+        Ok(Course::Serving(Task { job, request, plan }))
     }
 
     /// The kept entry that is dropped if the reply to a datagram finds no place else: any that is

@@ -12,7 +12,7 @@ ghost use Rattle.ras_machine.specs.Soundness.{AreBornBefore, Sound};
 use crate::course::Course;
 use kept_replies::Kept;
 use ras_module::{EndpointId, RequestSeqNum};
-use ras_requests::Conclusion;
+use ras_requests::Plan;
 use std::alloc::{AllocError, Global};
 use std::marker::Model;
 use zone_config::{Config, Moment};
@@ -174,7 +174,7 @@ impl Machine {
         ensures { OnOk result (MayBeNamed self.now course.now given.new) }
     {
         if let Course::Serving(task) = course {
-            if let Conclusion::Naming(_) = task.conclusion {
+            if let Plan::Naming(_) = task.plan {
                 *given = Some(self.unused()?);
             }
         }

@@ -12,7 +12,7 @@ use crate::job::Occasion;
 use crate::machine::Machine;
 use expiry::is_due;
 use ras_module::EndpointId;
-use ras_requests::Conclusion;
+use ras_requests::Plan;
 use zone_config::Moment;
 use zone_events::{DueItem, IgnoredCause};
 
@@ -85,7 +85,7 @@ impl Machine {
         let Course::Serving(task) = course else {
             return true;
         };
-        let Conclusion::Naming(_) = &task.conclusion else {
+        let Plan::Naming(_) = &task.plan else {
             return true;
         };
         match given {

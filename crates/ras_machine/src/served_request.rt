@@ -1,20 +1,16 @@
-//! Serving requests: what was concluded is carried out, and its reply is kept.
+//! Serving requests: the plan is carried out, and the reply is kept.
 
 ghost use Rattle.std.specs.Prelude.{◌≡◌, ◌^◌, All, IfSome, IsSome, None, OnErr, OnOk, Some};
-ghost use Rattle.ras_requests.specs.Plans.{Plan};
 ghost use Rattle.ras_requests.specs.Requests.{endpoint_of};
 ghost use Rattle.zone_tables.specs.Changes.{IsPossible, IsRegistered};
-ghost use Rattle.ras_requests.specs.Conclusions.{RequestsUnits, asker_of};
+ghost use Rattle.ras_requests.specs.Planned.{asker_of};
 ghost use Rattle.zone_tables.specs.UnitRequests.{IsUnitRequest, leg_of_purpose, units_requested};
-ghost use Rattle.ras_requests.specs.Conclusions.{served};
 ghost use Rattle.zone_tables.specs.Parts.{usage_of};
 ghost use Rattle.zone_tables.specs.Soundness.{SoundTables};
-ghost use Rattle.ras_machine.specs.Machine.{serving};
 ghost use Rattle.ras_machine.specs.Soundness.{Sound};
 ghost use Rattle.ras_machine.specs.Steps.{IsAskedOnce, IsTimely, IsUnusedIn};
-ghost use Rattle.ras_machine.specs.Courses.{Does, IsAskedFor, IsPlacedIn};
-ghost use Rattle.ras_machine.specs.Courses.{IsTask, MayBeGiven, Serves};
-ghost use Rattle.ras_machine.specs.Courses.{heard_at, resolved};
+ghost use Rattle.ras_machine.specs.Courses.{CarriesOut, IsAskedFor, IsPlacedIn, IsTask};
+ghost use Rattle.ras_machine.specs.Courses.{MayBeGiven, Serves, ServesByUnits, heard_at};
 
 use crate::course::Task;
 use crate::job::{Job, Occasion};
@@ -23,15 +19,15 @@ use crate::machine::Machine;
 use kept_replies::{KeptReply, KeptState};
 use ras_codec::write_reserved;
 use ras_module::{Octets, Reply, Request};
-use ras_requests::{Conclusion, Decision, endpoint_of, seq_of, unit_reply};
+use ras_requests::{Plan, Settlement, endpoint_of, seq_of, unit_reply};
 use std::alloc::AllocError;
 use zone_config::Moment;
 use zone_events::{Datagram, Outcome};
 use zone_tables::{Lender, UnitRequest, ZoneTables};
 
 impl Machine {
-    /// Serves a request: what was concluded about it is carried out, and its reply is kept. A new
-    /// endpoint gets the identifier that stands in the outcome.
+    /// Serves a request: its plan is carried out, and its reply is kept. A new endpoint gets
+    /// the identifier that stands in the outcome.
     pub(crate) fn serve<L: Lender>(
         &mut self,
         now: Moment,
@@ -43,7 +39,7 @@ impl Machine {
         requires sound { Sound self.old }
         requires task { IsTask self.old now task }
         requires timely { IsTimely self.old now task.job.occasion }
-        requires given { MayBeGiven self.old task.conclusion outcome.old.given }
+        requires given { MayBeGiven self.old task.plan outcome.old.given }
         ensures does { OnOk result (Serves self.old now task.job task.request
             outcome.new self.new) }
         ensures asks { OnOk result (IsAskedFor L.lends self.old now task.job task.request
@@ -53,22 +49,18 @@ impl Machine {
         ensures err { OnErr result (self.new ≡ self.old) }
         ensures not_asked { OnErr result (lender.new ≡ lender.old) }
     {
-        let Task {
-            job,
-            request,
-            conclusion,
-        } = task;
-        match conclusion {
-            Conclusion::Settled(decision) => {
+        let Task { job, request, plan } = task;
+        match plan {
+            Plan::Settled(settlement) => {
                 outcome.given = None;
-                self.carry_out(now, job, &request, decision, outcome)
+                self.carry_out(now, job, &request, settlement, outcome)
             }
-            Conclusion::Naming(newcomer) => {
+            Plan::Naming(newcomer) => {
                 let id = outcome.given.as_ref().unwrap();
-                let decision = newcomer.into_inner().under(self.alloc, id)?;
-                self.carry_out(now, job, &request, decision, outcome)
+                let settlement = newcomer.into_inner().under(self.alloc, id)?;
+                self.carry_out(now, job, &request, settlement, outcome)
             }
-            Conclusion::Asking(unit_request) => {
+            Plan::Asking(unit_request) => {
                 self.request_units(now, job, request, unit_request, lender, outcome)
             }
         }
@@ -81,23 +73,21 @@ impl Machine {
         now: Moment,
         job: Job,
         request: &Request,
-        decision: Decision,
+        settlement: Settlement,
         outcome: &mut Outcome,
     ) -> Result<(), AllocError>
-        requires possible { IsPossible self.old.tables (endpoint_of request.now) decision.change }
+        requires possible { IsPossible self.old.tables (endpoint_of request.now) settlement.change }
         requires unused { IfSome outcome.old.given (IsUnusedIn self.old) }
         requires placed { IsPlacedIn self.old job }
         requires timely { IsTimely self.old now job.occasion }
         requires sound { Sound self.old }
-        ensures does { OnOk result ((plan : Plan)
-            → resolved plan outcome.old.given
-            ≡ Some (served self.old.tables now request.now decision)
-            → Does self.old now (serving job now request.now plan) outcome.new self.new) }
+        ensures does { OnOk result (CarriesOut self.old now job request.now settlement
+            outcome.old.given outcome.new self.new) }
         ensures given { OnOk result (outcome.new.given ≡ outcome.old.given) }
         ensures answer { OnOk result (outcome.new.answer ≡ None) }
         ensures err { OnErr result (self.new ≡ self.old) }
     {
-        let Decision { reply, change } = decision;
+        let Settlement { reply, change } = settlement;
         let output = self.datagram(job.key.source, &reply)?;
         let kept_reply = KeptReply::new(self.alloc, &reply, output.bytes.as_slice())?;
         let term = self.tables.config().term(now);
@@ -141,9 +131,8 @@ impl Machine {
         requires placed { IsPlacedIn self.old job }
         requires timely { IsTimely self.old now job.occasion }
         requires sound { Sound self.old }
-        ensures does { OnOk result ((plan : Plan)
-            → RequestsUnits self.old.tables request plan unit_request
-            → Does self.old now (serving job now request plan) outcome.new self.new) }
+        ensures does { OnOk result (ServesByUnits self.old now job request unit_request
+            outcome.new self.new) }
         ensures asks { OnOk result (IsAskedOnce L.lends lender.old self.old.tables.pools
             (Some (units_requested unit_request)) outcome.new.answer lender.new) }
         ensures none_given { OnOk result (outcome.new.given ≡ None) }

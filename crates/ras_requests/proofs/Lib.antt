@@ -1,2 +1,2 @@
-pub mod Conclusions
+pub mod Planned
 pub mod Resizing

@@ -13,7 +13,7 @@ use Rattle.zone_tables.specs.Tables.{Tables}
 use Rattle.ras_requests.specs.Brq.{least_units, lowering, raising, resizing, staying, units_left}
 use Rattle.ras_requests.specs.Brq.{wanted}
 use Rattle.ras_requests.specs.Plans.{Settled, Asking}
-use Rattle.ras_requests.specs.Conclusions.{RequestsUnits}
+use Rattle.ras_requests.specs.Planned.{RequestsUnits}
 
 module _ (z : Tables) (q : BandwidthRequest) (call : Call) (w r n l : ℕ) where
   pub RequestsUnits-resizing : fin.get z.calls q.call ≡ Some call → call.pool < length z.pools

@@ -8,4 +8,4 @@ pub mod Arq
 pub mod Drq
 pub mod Requests
 pub mod Replies
-pub mod Conclusions
+pub mod Planned

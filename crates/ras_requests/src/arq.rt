@@ -7,10 +7,10 @@ ghost use Rattle.ras_requests.specs.Arq.{admission, admission_of, destination};
 ghost use Rattle.ras_requests.specs.Arq.{joining, making};
 ghost use Rattle.ras_requests.specs.Standing.{NoCall, standing_in};
 ghost use Rattle.zone_config.specs.Networks.{pool_of};
-ghost use Rattle.ras_requests.specs.Conclusions.{Concludes, Decides};
+ghost use Rattle.ras_requests.specs.Planned.{IsPlan, Settles};
 
 use crate::brq::{least_units, units_left, wanted};
-use crate::conclusion::{Conclusion, Decision};
+use crate::plan::{Plan, Settlement};
 use admission::Call;
 use ras_module::{Address, AdmissionRejectReason, AdmissionRequest, Reply, Request};
 use registrations::Registration;
@@ -34,17 +34,17 @@ fn join(
     q: &AdmissionRequest,
     call: &Call,
     told: Address,
-) -> Decision
+) -> Settlement
     requires endpoint { IsSome (fin.get tables.now.live q.now.endpoint) }
     requires call { fin.get tables.now.calls q.now.call ≡ Some call.now }
     requires leg { leg_of call.now.legs q.now.endpoint ≡ None }
-    ensures decides { Decides tables.now now (Request.Arq q.now)
+    ensures settles { Settles tables.now now (Request.Arq q.now)
         (joining tables.now q.now call.now told) result }
 {
     if call.legs.are_two() {
         return denial(q, AdmissionRejectReason::ResourceUnavailable);
     }
-    Decision::calls(
+    Settlement::calls(
         Reply::Acf {
             seq: q.seq,
             units: q.asked.min(call.units),
@@ -55,17 +55,11 @@ fn join(
 }
 
 /// An endpoint makes a call.
-fn make(
-    tables: &ZoneTables,
-    now: Moment,
-    q: &AdmissionRequest,
-    pool: usize,
-    told: Address,
-) -> Conclusion
+fn make(tables: &ZoneTables, now: Moment, q: &AdmissionRequest, pool: usize, told: Address) -> Plan
     requires endpoint { IsSome (fin.get tables.now.live q.now.endpoint) }
     requires call { fin.get tables.now.calls q.now.call ≡ None }
     requires pool { pool < length tables.now.pools }
-    ensures concludes { Concludes tables.now now (Request.Arq q.now)
+    ensures plans { IsPlan tables.now now (Request.Arq q.now)
         (making tables.now q.now pool told) result }
 {
     if tables.calls().len() == tables.config().calls() {
@@ -73,13 +67,13 @@ fn make(
     }
     let wanted = wanted(tables, q.asked);
     if wanted == 0 {
-        return Conclusion::Settled(opening_without_units(q, pool, told));
+        return Plan::Settled(opening_without_units(q, pool, told));
     }
     let left = units_left(tables);
     if left == 0 {
         return denied(q, AdmissionRejectReason::RequestDenied);
     }
-    Conclusion::Asking(UnitRequest {
+    Plan::Asking(UnitRequest {
         call: q.call,
         pool,
         units: u64::from(wanted).min(left) as u32,
@@ -95,16 +89,16 @@ fn enter_call(
     q: &AdmissionRequest,
     caller: &Registration,
     call: &Call,
-) -> Decision
+) -> Settlement
     requires endpoint { fin.get tables.now.live q.now.endpoint ≡ Some caller.now }
     requires call { fin.get tables.now.calls q.now.call ≡ Some call.now }
-    ensures decides { Decides tables.now now (Request.Arq q.now)
+    ensures settles { Settles tables.now now (Request.Arq q.now)
         (admission_of tables.now q.now (Some caller.now)
         (standing_in call.now (leg_of call.now.legs q.now.endpoint))
         (destination tables.now q.now (Some caller.now))) result }
 {
     if let Some(leg) = call.legs.get(&q.endpoint) {
-        return Decision::reply(Reply::Acf {
+        return Settlement::reply(Reply::Acf {
             seq: q.seq,
             units: q.asked.min(call.units),
             dest: leg.told,
@@ -117,15 +111,10 @@ fn enter_call(
 }
 
 /// An endpoint makes a call that isn't there yet.
-fn make_call(
-    tables: &ZoneTables,
-    now: Moment,
-    q: &AdmissionRequest,
-    caller: &Registration,
-) -> Conclusion
+fn make_call(tables: &ZoneTables, now: Moment, q: &AdmissionRequest, caller: &Registration) -> Plan
     requires endpoint { fin.get tables.now.live q.now.endpoint ≡ Some caller.now }
     requires call { fin.get tables.now.calls q.now.call ≡ None }
-    ensures concludes { Concludes tables.now now (Request.Arq q.now)
+    ensures plans { IsPlan tables.now now (Request.Arq q.now)
         (admission_of tables.now q.now (Some caller.now) NoCall
         (destination tables.now q.now (Some caller.now))) result }
 {
@@ -147,47 +136,47 @@ fn pool_of(tables: &ZoneTables, address: Address) -> usize
 }
 
 /// What is decided about an AdmissionRequest.
-pub(crate) fn admit(tables: &ZoneTables, now: Moment, q: &AdmissionRequest) -> Conclusion
-    ensures concludes { Concludes tables.now now (Request.Arq q.now)
+pub(crate) fn admit(tables: &ZoneTables, now: Moment, q: &AdmissionRequest) -> Plan
+    ensures plans { IsPlan tables.now now (Request.Arq q.now)
         (admission tables.now q.now) result }
 {
     let Some(caller) = tables.registrations().get(&q.endpoint) else {
         return denied(q, AdmissionRejectReason::InvalidEndpointIdentifier);
     };
     match tables.calls().get(&q.call) {
-        Some(call) => Conclusion::Settled(enter_call(tables, now, q, caller, call)),
+        Some(call) => Plan::Settled(enter_call(tables, now, q, caller, call)),
         None => make_call(tables, now, q, caller),
     }
 }
 
 /// An AdmissionReject.
-fn denial(q: &AdmissionRequest, reason: AdmissionRejectReason) -> Decision
+fn denial(q: &AdmissionRequest, reason: AdmissionRejectReason) -> Settlement
     ensures { result ≡ record {
       reply = Reply.Arj q.now.seq reason;
       change = Change.Nothing;
     } }
 {
-    Decision::reply(Reply::Arj { seq: q.seq, reason })
+    Settlement::reply(Reply::Arj { seq: q.seq, reason })
 }
 
 /// A request that is settled by an AdmissionReject.
-fn denied(q: &AdmissionRequest, reason: AdmissionRejectReason) -> Conclusion
-    ensures { result ≡ Conclusion.Settled (record {
+fn denied(q: &AdmissionRequest, reason: AdmissionRejectReason) -> Plan
+    ensures { result ≡ Plan.Settled (record {
       reply = Reply.Arj q.now.seq reason;
       change = Change.Nothing;
     }) }
 {
-    Conclusion::Settled(denial(q, reason))
+    Plan::Settled(denial(q, reason))
 }
 
 /// A call that wants no units opens without asking a pool.
-fn opening_without_units(q: &AdmissionRequest, pool: usize, told: Address) -> Decision
+fn opening_without_units(q: &AdmissionRequest, pool: usize, told: Address) -> Settlement
     ensures { result ≡ record {
       reply = Reply.Acf q.now.seq 0 told;
       change = Change.Calls (CallChange.Opening q.now.call pool told);
     } }
 {
-    Decision::calls(
+    Settlement::calls(
         Reply::Acf {
             seq: q.seq,
             units: 0,

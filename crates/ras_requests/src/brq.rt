@@ -4,9 +4,9 @@ ghost use Rattle.std.specs.Prelude.{◌≡◌, ◌≤◌, ◌-◌, None, Some};
 ghost use Rattle.std.specs.FinMap as fin;
 ghost use Rattle.ras_requests.specs.Brq.{bandwidth, least_units, resizing, units_left, wanted};
 ghost use Rattle.zone_tables.specs.Soundness.{SoundTables};
-ghost use Rattle.ras_requests.specs.Conclusions.{Concludes};
+ghost use Rattle.ras_requests.specs.Planned.{IsPlan};
 
-use crate::conclusion::{Conclusion, Decision};
+use crate::plan::{Plan, Settlement};
 use admission::Call;
 use ras_module::{BandRejectReason, BandwidthRequest, Reply, Request};
 use zone_config::Moment;
@@ -35,21 +35,21 @@ pub(crate) fn least_units(tables: &ZoneTables, wanted: u32) -> u32
 }
 
 /// A call gives units back, or its pool is asked for more.
-fn resize(tables: &ZoneTables, now: Moment, q: &BandwidthRequest, call: &Call) -> Conclusion
+fn resize(tables: &ZoneTables, now: Moment, q: &BandwidthRequest, call: &Call) -> Plan
     requires call { fin.get tables.now.calls q.now.call ≡ Some call.now }
-    ensures concludes { Concludes tables.now now (Request.Brq q.now)
+    ensures plans { IsPlan tables.now now (Request.Brq q.now)
         (resizing tables.now q.now call.now) result }
 {
     let wanted = wanted(tables, q.asked);
     if wanted <= call.units {
-        return Conclusion::Settled(lowering(q, call, wanted));
+        return Plan::Settled(lowering(q, call, wanted));
     }
     let left = units_left(tables);
     if left == 0 {
         let reason = BandRejectReason::InsufficientResources;
-        return Conclusion::Settled(rejection(q, reason, call.units));
+        return Plan::Settled(rejection(q, reason, call.units));
     }
-    Conclusion::Asking(UnitRequest {
+    Plan::Asking(UnitRequest {
         call: q.call,
         pool: call.pool,
         units: u64::from(wanted - call.units).min(left) as u32,
@@ -59,8 +59,8 @@ fn resize(tables: &ZoneTables, now: Moment, q: &BandwidthRequest, call: &Call) -
 }
 
 /// What is decided about a BandwidthRequest.
-pub(crate) fn change_bandwidth(tables: &ZoneTables, now: Moment, q: &BandwidthRequest) -> Conclusion
-    ensures concludes { Concludes tables.now now (Request.Brq q.now)
+pub(crate) fn change_bandwidth(tables: &ZoneTables, now: Moment, q: &BandwidthRequest) -> Plan
+    ensures plans { IsPlan tables.now now (Request.Brq q.now)
         (bandwidth tables.now q.now) result }
 {
     if tables.registrations().get(&q.endpoint).is_none() {
@@ -76,23 +76,23 @@ pub(crate) fn change_bandwidth(tables: &ZoneTables, now: Moment, q: &BandwidthRe
 }
 
 /// A request that is settled by a BandwidthReject: no bandwidth is allowed.
-fn rejected(q: &BandwidthRequest, reason: BandRejectReason) -> Conclusion
-    ensures { result ≡ Conclusion.Settled (record {
+fn rejected(q: &BandwidthRequest, reason: BandRejectReason) -> Plan
+    ensures { result ≡ Plan.Settled (record {
       reply = Reply.Brj q.now.seq reason 0;
       change = Change.Nothing;
     }) }
 {
-    Conclusion::Settled(rejection(q, reason, 0))
+    Plan::Settled(rejection(q, reason, 0))
 }
 
 /// A BandwidthReject, with the bandwidth that is allowed.
-fn rejection(q: &BandwidthRequest, reason: BandRejectReason, allowed: u32) -> Decision
+fn rejection(q: &BandwidthRequest, reason: BandRejectReason, allowed: u32) -> Settlement
     ensures { result ≡ record {
       reply = Reply.Brj q.now.seq reason allowed;
       change = Change.Nothing;
     } }
 {
-    Decision::reply(Reply::Brj {
+    Settlement::reply(Reply::Brj {
         seq: q.seq,
         reason,
         allowed,
@@ -100,7 +100,7 @@ fn rejection(q: &BandwidthRequest, reason: BandRejectReason, allowed: u32) -> De
 }
 
 /// A call keeps these units, and gives the others back.
-fn lowering(q: &BandwidthRequest, call: &Call, units: u32) -> Decision
+fn lowering(q: &BandwidthRequest, call: &Call, units: u32) -> Settlement
     requires { units ≤ call.now.units }
     ensures { result ≡ record {
       reply = Reply.Bcf q.now.seq units;
@@ -108,7 +108,7 @@ fn lowering(q: &BandwidthRequest, call: &Call, units: u32) -> Decision
           (CallChange.Lowering q.now.call units call.now.pool (call.now.units - units));
     } }
 {
-    Decision::calls(
+    Settlement::calls(
         Reply::Bcf { seq: q.seq, units },
         CallChange::Lowering(q.call, units, call.pool, call.units - units),
     )

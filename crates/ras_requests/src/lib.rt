@@ -5,14 +5,14 @@
 
 mod arq;
 mod brq;
-mod conclusion;
 mod drq;
 mod grq;
+mod plan;
 mod replies;
 mod requests;
 mod rrq;
 mod urq;
 
-pub use conclusion::{Conclusion, Decision, Newcomer};
+pub use plan::{Newcomer, Plan, Settlement};
 pub use replies::unit_reply;
-pub use requests::{decide, endpoint_of, seq_of};
+pub use requests::{endpoint_of, plan_of, seq_of};

@@ -1,15 +1,15 @@
-//! What is concluded about a request, of whatever kind it is.
+//! The plan of a request, of whatever kind it is.
 
 ghost use Rattle.std.specs.Prelude.{◌≡◌, IfOk, OnErr};
 ghost use Rattle.std.specs.Option.{option_copied};
 ghost use Rattle.ras_requests.specs.Requests.{HasReply, endpoint_of, seq_of};
-ghost use Rattle.ras_requests.specs.Conclusions.{IsConclusion, MayWantMemory};
+ghost use Rattle.ras_requests.specs.Planned.{IsPlanOf, MayWantMemory};
 
 use crate::arq::admit;
 use crate::brq::change_bandwidth;
-use crate::conclusion::{Conclusion, Decision};
 use crate::drq::disengage;
 use crate::grq::discover;
+use crate::plan::{Plan, Settlement};
 use crate::rrq::register;
 use crate::urq::unregister;
 use ras_module::{EndpointId, Request, RequestSeqNum};
@@ -17,28 +17,28 @@ use std::alloc::{AllocError, Global};
 use zone_config::Moment;
 use zone_tables::ZoneTables;
 
-/// What is concluded about a request, without changing anything. An InfoRequestResponse is no
-/// request that has a reply.
-pub fn decide(
+/// The plan of a request: what it comes to, by look-ups alone. An InfoRequestResponse is no request
+/// that has a reply.
+pub fn plan_of(
     alloc: Global,
     tables: &ZoneTables,
     now: Moment,
     request: &Request,
-) -> Result<Conclusion, AllocError>
+) -> Result<Plan, AllocError>
     requires { HasReply request.now }
-    ensures concludes { IfOk result (IsConclusion tables.now now request.now) }
+    ensures plans { IfOk result (IsPlanOf tables.now now request.now) }
     ensures memory { OnErr result (MayWantMemory tables.now request.now) }
 {
     match request {
         Request::Grq(q) => {
             let reply = discover(alloc, tables, q.get())?;
-            Ok(Conclusion::Settled(Decision::reply(reply)))
+            Ok(Plan::Settled(Settlement::reply(reply)))
         }
         Request::Rrq(q) => register(alloc, tables, now, q.get()),
-        Request::Urq(q) => Ok(Conclusion::Settled(unregister(tables, now, q.get()))),
+        Request::Urq(q) => Ok(Plan::Settled(unregister(tables, now, q.get()))),
         Request::Arq(q) => Ok(admit(tables, now, q.get())),
         Request::Brq(q) => Ok(change_bandwidth(tables, now, q.get())),
-        Request::Drq(q) => Ok(Conclusion::Settled(disengage(tables, now, q.get()))),
+        Request::Drq(q) => Ok(Plan::Settled(disengage(tables, now, q.get()))),
         Request::Irr(_) => unreachable!(),
     }
 }

@@ -7,11 +7,11 @@ ghost use Rattle.registrations.specs.Agreement.{registered_elsewhere};
 ghost use Rattle.ras_requests.specs.Rrq.{confirmation, deadline, granted, has_moved};
 ghost use Rattle.ras_requests.specs.Rrq.{entering, full_registration};
 ghost use Rattle.ras_requests.specs.Rrq.{keep_alive, named, registration};
-ghost use Rattle.ras_requests.specs.Conclusions.{Concludes, Decides};
+ghost use Rattle.ras_requests.specs.Planned.{IsPlan, Settles};
 ghost use Rattle.ras_requests.specs.Grq.{is_foreign};
 
-use crate::conclusion::{Conclusion, Decision, Newcomer};
 use crate::grq::is_foreign;
+use crate::plan::{Newcomer, Plan, Settlement};
 use ras_module::{
     Address, Alias, AliasList, Boxed, EndpointId, RegistrationConfirm, RegistrationRejectReason,
     RegistrationRequest, Reply, ReplyAliases, Request, TimeToLive,
@@ -69,8 +69,8 @@ fn keep_alive(
     tables: &ZoneTables,
     now: Moment,
     q: &RegistrationRequest,
-) -> Result<Decision, AllocError>
-    ensures { IfOk result (Decides tables.now now (Request.Rrq q.now)
+) -> Result<Settlement, AllocError>
+    ensures { IfOk result (Settles tables.now now (Request.Rrq q.now)
         (keep_alive tables.now now q.now (named tables.now q.now.endpoint))) }
 {
     let Some(id) = &q.endpoint else {
@@ -84,7 +84,7 @@ fn keep_alive(
     }
     let told = r.aliases.copy()?;
     let renewal = EndpointChange::Renewal(r.call_signal, deadline(tables, now, q));
-    Ok(Decision {
+    Ok(Settlement {
         reply: confirmation(alloc, tables, q, r.call_signal, told, &r.identifier)?,
         change: Change::Endpoint(renewal),
     })
@@ -124,8 +124,8 @@ fn register_fully(
     tables: &ZoneTables,
     now: Moment,
     q: &RegistrationRequest,
-) -> Result<Conclusion, AllocError>
-    ensures concludes { IfOk result (Concludes tables.now now (Request.Rrq q.now)
+) -> Result<Plan, AllocError>
+    ensures plans { IfOk result (IsPlan tables.now now (Request.Rrq q.now)
         (full_registration tables.now now q.now q.now.call_signal q.now.ras
         (without_doubles q.now.aliases))) }
 {
@@ -157,16 +157,16 @@ fn enter(
     now: Moment,
     q: &RegistrationRequest,
     entry: Entry,
-) -> Result<Conclusion, AllocError>
+) -> Result<Plan, AllocError>
     requires { registered_elsewhere tables.now.live entry.call_signal entry.aliases ≡ [] }
-    ensures concludes { IfOk result (Concludes tables.now now (Request.Rrq q.now)
+    ensures plans { IfOk result (IsPlan tables.now now (Request.Rrq q.now)
         (entering tables.now now q.now entry
         (at_address tables.now.live entry.call_signal))) }
 {
     let told = entry.aliases.copy()?;
     let deadline = deadline(tables, now, q);
     if let Some(r) = tables.registrations().by_address(entry.call_signal) {
-        return Ok(Conclusion::Settled(Decision {
+        return Ok(Plan::Settled(Settlement {
             reply: confirmation(alloc, tables, q, entry.call_signal, told, &r.identifier)?,
             change: Change::Endpoint(EndpointChange::Rewriting(entry, deadline)),
         }));
@@ -183,17 +183,17 @@ fn enter(
         deadline,
         heard: now,
     };
-    Ok(Conclusion::Naming(Boxed::new(alloc, newcomer)?))
+    Ok(Plan::Naming(Boxed::new(alloc, newcomer)?))
 }
 
-/// What is concluded about a RegistrationRequest.
+/// The plan of a RegistrationRequest.
 pub(crate) fn register(
     alloc: Global,
     tables: &ZoneTables,
     now: Moment,
     q: &RegistrationRequest,
-) -> Result<Conclusion, AllocError>
-    ensures concludes { IfOk result (Concludes tables.now now (Request.Rrq q.now)
+) -> Result<Plan, AllocError>
+    ensures plans { IfOk result (IsPlan tables.now now (Request.Rrq q.now)
         (registration tables.now now q.now)) }
     ensures memory { OnErr result (is_foreign tables.now q.now.gatekeeper ≡ false) }
 {
@@ -201,30 +201,30 @@ pub(crate) fn register(
         return Ok(rejected(q, RegistrationRejectReason::DiscoveryRequired));
     }
     if q.keep_alive {
-        Ok(Conclusion::Settled(keep_alive(alloc, tables, now, q)?))
+        Ok(Plan::Settled(keep_alive(alloc, tables, now, q)?))
     } else {
         register_fully(alloc, tables, now, q)
     }
 }
 
 /// A RegistrationReject.
-fn rejection(q: &RegistrationRequest, reason: RegistrationRejectReason) -> Decision
+fn rejection(q: &RegistrationRequest, reason: RegistrationRejectReason) -> Settlement
     ensures { result ≡ record {
       reply = Reply.Rrj q.now.seq reason;
       change = Change.Nothing;
     } }
 {
-    Decision::reply(Reply::Rrj { seq: q.seq, reason })
+    Settlement::reply(Reply::Rrj { seq: q.seq, reason })
 }
 
 /// A request that is settled by a RegistrationReject.
-fn rejected(q: &RegistrationRequest, reason: RegistrationRejectReason) -> Conclusion
-    ensures { result ≡ Conclusion.Settled (record {
+fn rejected(q: &RegistrationRequest, reason: RegistrationRejectReason) -> Plan
+    ensures { result ≡ Plan.Settled (record {
       reply = Reply.Rrj q.now.seq reason;
       change = Change.Nothing;
     }) }
 {
-    Conclusion::Settled(rejection(q, reason))
+    Plan::Settled(rejection(q, reason))
 }
 
 /// Whether an address was given that is not the endpoint's.

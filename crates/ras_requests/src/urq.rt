@@ -4,9 +4,9 @@ ghost use Rattle.std.specs.Prelude.{◌≡◌, IfSome, None, Some};
 ghost use Rattle.std.specs.Option.{option_copied};
 ghost use Rattle.registrations.specs.Registry.{at_address};
 ghost use Rattle.ras_requests.specs.Urq.{leaving, unregistration};
-ghost use Rattle.ras_requests.specs.Conclusions.{Decides};
+ghost use Rattle.ras_requests.specs.Planned.{Settles};
 
-use crate::conclusion::Decision;
+use crate::plan::Settlement;
 use ras_module::{Reply, Request, UnregRejectReason, UnregistrationRequest};
 use registrations::Registration;
 use zone_config::Moment;
@@ -25,8 +25,8 @@ fn leaving<'a>(tables: &'a ZoneTables, q: &UnregistrationRequest) -> Option<&'a 
 }
 
 /// What is decided about an UnregistrationRequest.
-pub(crate) fn unregister(tables: &ZoneTables, now: Moment, q: &UnregistrationRequest) -> Decision
-    ensures decides { Decides tables.now now (Request.Urq q.now)
+pub(crate) fn unregister(tables: &ZoneTables, now: Moment, q: &UnregistrationRequest) -> Settlement
+    ensures settles { Settles tables.now now (Request.Urq q.now)
         (unregistration tables.now q.now) result }
 {
     let Some(r) = leaving(tables, q) else {
@@ -35,18 +35,18 @@ pub(crate) fn unregister(tables: &ZoneTables, now: Moment, q: &UnregistrationReq
     if tables.legs_of(&r.identifier) > 0 {
         return rejection(q, UnregRejectReason::CallInProgress);
     }
-    Decision {
+    Settlement {
         reply: Reply::Ucf { seq: q.seq },
         change: Change::Endpoint(EndpointChange::Removal(r.call_signal)),
     }
 }
 
 /// An UnregistrationReject.
-fn rejection(q: &UnregistrationRequest, reason: UnregRejectReason) -> Decision
+fn rejection(q: &UnregistrationRequest, reason: UnregRejectReason) -> Settlement
     ensures { result ≡ record {
       reply = Reply.Urj q.now.seq reason;
       change = Change.Nothing;
     } }
 {
-    Decision::reply(Reply::Urj { seq: q.seq, reason })
+    Settlement::reply(Reply::Urj { seq: q.seq, reason })
 }

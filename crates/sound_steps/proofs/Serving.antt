@@ -20,7 +20,7 @@ use Rattle.zone_tables.specs.Soundness.{CountsOneMore, SoundTables}
 use Rattle.zone_tables.specs.Tables.{Tables, heard_now, with_live}
 use Rattle.zone_tables.specs.UnitRequests.{IsUnitRequest, calls_with_grant, leg_of_purpose}
 use Rattle.zone_tables.specs.UnitRequests.{units_requested}
-use Rattle.ras_requests.specs.Conclusions.{asker_of, granted_by, refused_by}
+use Rattle.ras_requests.specs.Planned.{asker_of, granted_by, refused_by}
 use Rattle.ras_requests.specs.Plans.{Plan, Served, Settled, Naming, Asking, hearing}
 use Rattle.ras_machine.specs.declared.job.Occasion.{Occasion}
 use Rattle.ras_machine.specs.declared.job.Occasion.TheVariants.{Again, Anew, First}

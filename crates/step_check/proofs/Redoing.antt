@@ -19,9 +19,9 @@ use Rattle.zone_events.specs.declared.outcome.IgnoredCause.TheVariants as cause
 use Rattle.zone_events.specs.declared.outcome.Note.{Note}
 use Rattle.zone_events.specs.declared.outcome.Outcome.{Outcome}
 use Rattle.zone_tables.specs.Pools.{RequestedUnits, figures_at}
-use Rattle.ras_requests.specs.declared.conclusion.Conclusion.{Conclusion}
-use Rattle.ras_requests.specs.declared.conclusion.Conclusion.TheVariants as conclusion
-use Rattle.ras_requests.specs.Conclusions.{Concludes}
+use Rattle.ras_requests.specs.declared.plan.Plan.{Plan as CodePlan}
+use Rattle.ras_requests.specs.declared.plan.Plan.TheVariants as code_plan
+use Rattle.ras_requests.specs.Planned.{IsPlan}
 use Rattle.ras_requests.specs.Plans.{Plan, Served, Settled, Naming, Asking}
 use Rattle.ras_requests.specs.Requests.{endpoint_of}
 use Rattle.ras_machine.specs.declared.course.Course as code
@@ -126,28 +126,28 @@ module _ (s : State) (now : ℕ) where
     occasion_given task endpoint named (Again born left) may is =
         naming_given task _ outcome.given may is
 
-    concluded_given : (task : code_task.Task) (plan : Plan) (concluded : Conclusion)
-        → Concludes s.tables now task.request plan concluded
+    planned_given : (task : code_task.Task) (plan : Plan) (made : CodePlan)
+        → IsPlan s.tables now task.request plan made
         → IsAllowed s now (serving task.job now task.request plan) (choices_of outcome)
         → course_ending s now (serving task.job now task.request plan) (choices_of outcome)
         ≡ Some (outcome, after)
-        → MayBeGiven s concluded outcome.given
-    concluded_given task plan (conclusion.Settled d) concludes allowed is = tt
-    concluded_given task plan (conclusion.Naming n) concludes allowed is =
+        → MayBeGiven s made outcome.given
+    planned_given task plan (code_plan.Settled d) plans allowed is = tt
+    planned_given task plan (code_plan.Naming n) plans allowed is =
         occasion_given (record {
           job = task.job;
           request = task.request;
           plan = plan_at task.job.occasion now (endpoint_of task.request) plan;
         }) (endpoint_of task.request) _ task.job.occasion
         (subst (λ p. MayChoose s (plan_at task.job.occasion now (endpoint_of task.request) p)
-        (choices_of outcome)) concludes.is allowed.1)
+        (choices_of outcome)) plans.is allowed.1)
         (ap (λ p. plan_ending s now (record {
           job = task.job;
           request = task.request;
           plan = plan_at task.job.occasion now (endpoint_of task.request) plan;
         }) (plan_at task.job.occasion now (endpoint_of task.request) p) (choices_of outcome))
-        (sym concludes.is) ∙ is)
-    concluded_given task plan (conclusion.Asking q) concludes allowed is = tt
+        (sym plans.is) ∙ is)
+    planned_given task plan (code_plan.Asking q) plans allowed is = tt
 
     -- so it may be handed out
     pub named_allowed : (called : code.Course) → Stands s now called
@@ -159,7 +159,7 @@ module _ (s : State) (now : ℕ) where
     named_allowed (course.Repeating datagram) stands allowed is = tt
     named_allowed (course.Serving task) stands allowed is =
         let there = plan_there s.tables now task.request stands.served in
-        concluded_given task there.0 task.conclusion (stands.concludes there.0 there.1)
+        planned_given task there.0 task.plan (stands.plans there.0 there.1)
         (subst (λ w. IsAllowed s now (task_course now task w) (choices_of outcome)) there.1 allowed)
         (ap (λ w. course_ending s now (task_course now task w) (choices_of outcome)) (sym there.1)
         ∙ is)

@@ -1,6 +1,6 @@
 -- What a request may change in the tables of a zone, and when that change can be made.
 use Rattle.std.specs.Prelude.{◌≡◌, ◌≢◌, ◌+◌, ◌<◌, ℕ, List, [], length, Option, None, Some, IsSome}
-use Rattle.std.specs.Prelude.{IfSome}
+use Rattle.std.specs.Prelude.{IfSome, Bool, true, false}
 use Rattle.std.specs.Option.{unwrap_or}
 use Rattle.std.specs.FinMap.{get, insert, remove, len}
 use Rattle.keyed.specs.Maps.{update}
@@ -67,6 +67,19 @@ after_change now who (Calls change) z = record z {
   calls = calls_after (unwrap_or who []) change z.calls;
   pools = pools_after (unwrap_or who []) change z.calls z.pools;
 }
+
+-- Whether units may come back to a pool: a call keeps fewer of them, or is left. No other change
+-- touches what is lent.
+abbrev pub may_return_units_of_call : CallChange → Bool
+may_return_units_of_call (Opening key pool told) = false
+may_return_units_of_call (Joining key told) = false
+may_return_units_of_call (Lowering key units pool back) = true
+may_return_units_of_call (Leaving key) = true
+
+abbrev pub may_return_units : Change → Bool
+may_return_units Nothing = false
+may_return_units (Endpoint change) = false
+may_return_units (Calls change) = may_return_units_of_call change
 
 -- a registration may be added: its identifier and its address are free, nobody holds its aliases,
 -- and there is a place for it

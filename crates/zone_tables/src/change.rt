@@ -1,6 +1,7 @@
 //! What may change in the tables.
 
 ghost use Rattle.std.specs.Prelude.{◌≡◌};
+ghost use Rattle.zone_tables.specs.Changes.{may_return_units, may_return_units_of_call};
 ghost use Rattle.zone_tables.specs.inside.Counted.{move_of};
 
 use crate::entry::Entry;
@@ -47,6 +48,18 @@ impl CallChange {
             CallChange::Leaving(_) => Move::Goes,
         }
     }
+
+    /// Whether units may come back to the pool of the call.
+    pub fn may_return_units(&self) -> bool
+        ensures { result ≡ may_return_units_of_call self.now }
+    {
+        match self {
+            CallChange::Opening(_, _, _) => false,
+            CallChange::Joining(_, _) => false,
+            CallChange::Lowering(_, _, _, _) => true,
+            CallChange::Leaving(_) => true,
+        }
+    }
 }
 
 /// Whether an endpoint takes part in one call more, or in one fewer.
@@ -63,4 +76,16 @@ pub enum Change {
     Nothing,
     Endpoint(EndpointChange),
     Calls(CallChange),
+}
+
+impl Change {
+    /// Whether units may come back to a pool.
+    pub fn may_return_units(&self) -> bool
+        ensures { result ≡ may_return_units self.now }
+    {
+        match self {
+            Change::Nothing | Change::Endpoint(_) => false,
+            Change::Calls(change) => change.may_return_units(),
+        }
+    }
 }

@@ -20,4 +20,4 @@ give_back_to-requires-clause-same g c =
     subst (λ (f : Figures). IsSameButLent f c.get.result) here
     (subst
     (λ (f : Figures). IsSameButLent (figures_at (figures_of (accounts_of c.args.pools.now)) i) f)
-    (sym c.get.ensures.same) (c.requires.same i below))
+    (sym c.get.ensures.same) (c.requires.same.same i below))

@@ -10,7 +10,7 @@ returns c =
     omega (arith, c.if-wanted-call.false) in
     let some : 0 < c.units_left-left.result = omega (arith, c.if-left-eq0.false) in
     record {
-      concludes = RequestsUnits-resizing z c.args.q.now c.args.call.now c.wanted-wanted.result
+      plans = RequestsUnits-resizing z c.args.q.now c.args.call.now c.wanted-wanted.result
           c.units_left-left.result c.min.result c.saturating_sub.result
           c.requires.call (sound.call_pools c.args.q.now.call c.args.call.now c.requires.call)
           sound.limit c.wanted-wanted.ensures more c.units_left-left.ensures.left some

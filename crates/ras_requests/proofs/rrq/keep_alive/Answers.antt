@@ -2,7 +2,7 @@ use Rattle.std.proofs.Common.{◌∙◌, sym, ap}
 use Rattle.std.specs.FinMap as fin
 use Rattle.registrations.specs.Registry.{Live}
 use Rattle.ras_requests.specs.Rrq.{confirmation}
-use Rattle.ras_requests.proofs.Conclusions.{Decides-renewal}
+use Rattle.ras_requests.proofs.Planned.{Settles-renewal}
 use Rattle.ras_requests.proofs.rrq.keep_alive.Goals as goal
 
 pub returns : goal.returns
@@ -10,7 +10,7 @@ returns c =
     let z = c.args.tables.now in
     let q = c.args.q.now in
     let r = c.in-Some-get.r.now in
-    Decides-renewal z c.args.now q c.in-Some.id r c.in_ok-confirmation.field-0 c.deadline.result
+    Settles-renewal z c.args.now q c.in-Some.id r c.in_ok-confirmation.field-0 c.deadline.result
     c.registrations.ensures.sound.endpoints
     c.in-Some.is
     (ap (λ (live : Live). fin.get live c.in-Some.id) (sym c.registrations.ensures.live)

@@ -1,7 +1,7 @@
 use Rattle.std.proofs.Common.{◌≡◌, ◌∙◌, None, Some, ap, sym}
 use Rattle.std.specs.FinMap as fin
 use Rattle.registrations.specs.Registry.{Live, at_address}
-use Rattle.ras_requests.proofs.Conclusions.{leaving_at, some_lent}
+use Rattle.ras_requests.proofs.Planned.{leaving_at, some_lent}
 use Rattle.ras_requests.proofs.urq.leaving.Goals as goal
 
 pub returns-in-Some-clause-at : goal.returns-in-Some-clause-at

@@ -13,7 +13,8 @@ use Rattle.zone_tables.proofs.Answered.{on_ok}
 use Rattle.ras_core.specs.Runs.{RunningStep}
 use Rattle.ras_core.specs.Tallies.{tallies_after, tallies_of}
 use Rattle.ras_core.specs.inside.PoolTurns.{tallies_turned}
-use Rattle.ras_core.proofs.Responding.{open_below, running_step, tallies_counted, to_be_settled}
+use Rattle.ras_core.proofs.Responding.{nothing_to_settle, open_below, running_step}
+use Rattle.ras_core.proofs.Responding.{tallies_counted, to_be_settled}
 use Rattle.ras_core.proofs.zone.Zone.step_into.Goals as goal
 
 pub perform-requires-clause-ready : goal.perform-requires-clause-ready
@@ -28,8 +29,19 @@ pub perform-requires-clause-stands : goal.perform-requires-clause-stands
 perform-requires-clause-stands g c =
     (c.in_ok-course.ensures (moment_in c.args.prepared)).calls.stands
 
-pub settle-requires : goal.settle-requires
-settle-requires g c =
+pub settle-requires-clause-none : goal.settle-requires-clause-none
+settle-requires-clause-none g c =
+    let i = c.self.inside in
+    λ still. nothing_to_settle i.machine c.perform.new.self c.later-now.result
+    c.in_ok-course.course c.perform.new.outcome i.pools c.perform.new.lender
+    c.self.invariant.pools (c.in_ok-course.ensures (moment_in c.args.prepared)).calls.stands
+    (sym c.may_return_units-returns.ensures ∙ still)
+    (on_ok c.perform.result c.in_ok-perform.field-0 c.in_ok-perform.was c.perform.ensures.performs)
+    (on_ok c.perform.result c.in_ok-perform.field-0 c.in_ok-perform.was c.perform.ensures.asks)
+    ∙ sym c.pools.ensures
+
+pub settle-requires-clause-same : goal.settle-requires-clause-same
+settle-requires-clause-same g c =
     let i = c.self.inside in
     let now = c.later-now.result in
     let called = course_of i.machine now c.in_ok-course.course in

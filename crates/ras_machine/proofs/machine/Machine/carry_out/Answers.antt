@@ -11,7 +11,7 @@ use Rattle.zone_config.specs.declared.config.ConfigParts.{ConfigParts}
 use Rattle.zone_config.specs.Terms.{term_of}
 use Rattle.ras_machine.specs.Keeping.{dropped_for, kept_with, plan_at}
 use Rattle.ras_machine.specs.Machine.{Serving, note_at}
-use Rattle.ras_requests.specs.Conclusions.{served}
+use Rattle.ras_requests.specs.Planned.{served}
 use Rattle.ras_requests.specs.Requests.{endpoint_of}
 use Rattle.zone_tables.specs.Changes.{after_change}
 use Rattle.ras_machine.specs.Courses.{Does, heard_at, resolved}
@@ -39,7 +39,7 @@ returns-clause-does c plan is =
     let job = c.args.job in
     let request = c.args.request.now in
     let endpoint = endpoint_of request in
-    let d = c.args.decision in
+    let d = c.args.settlement in
     let given = c.args.outcome.now.given in
     let old =
     state_of i.tables i.kept.kept i.clock i.interrogation_number i.next_pool_turn i.steps in

@@ -11,7 +11,7 @@ use Rattle.zone_tables.specs.Pools.{pools_after_answer}
 use Rattle.ras_machine.specs.Keeping.{dropped_for, kept_with, plan_at, state_after}
 use Rattle.zone_config.specs.Terms.{term_of}
 use Rattle.ras_machine.specs.Machine.{Serving, note_at}
-use Rattle.ras_requests.specs.Conclusions.{RequestsUnits, asker_of}
+use Rattle.ras_requests.specs.Planned.{RequestsUnits, asker_of}
 use Rattle.ras_requests.specs.Replies.{reply_of}
 use Rattle.ras_requests.specs.Requests.{endpoint_of, seq_of}
 use Rattle.zone_tables.specs.UnitRequests.{calls_after_answer, units_requested}

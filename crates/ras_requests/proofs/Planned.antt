@@ -1,4 +1,4 @@
--- Decisions about requests.
+-- Plans of requests.
 use Rattle.std.proofs.Common.{Bor, ◌≡◌, ℕ, false, List, sym, ◌∙◌}
 use Rattle.std.proofs.Common.{ap, None, Some}
 use Rattle.std.specs.Prelude.{IfSome, Option, if◌then◌else◌}
@@ -21,19 +21,19 @@ use Rattle.zone_tables.specs.Tables.{Tables, identifier_at, identifier_or_none, 
 use Rattle.ras_requests.specs.Rrq.{keep_alive, named, has_moved, confirmation, deadline}
 use Rattle.ras_requests.specs.Rrq.{rejection}
 use Rattle.ras_requests.specs.Urq.{leaving}
-use Rattle.ras_requests.specs.Conclusions.{Decides}
+use Rattle.ras_requests.specs.Planned.{Settles}
 use Rattle.ras_requests.specs.Plans.{Settled}
 use Rattle.zone_tables.proofs.Addressed.{found_at}
 use Rattle.zone_tables.proofs.Answered.{is_there}
 
 -- a registration is kept alive
-pub Decides-renewal : (z : Tables) (now : ℕ) (q : RegistrationRequest) (id : List ℕ)
+pub Settles-renewal : (z : Tables) (now : ℕ) (q : RegistrationRequest) (id : List ℕ)
     (r : Registration) (reply : Reply) (until : ℕ) → IsConsistent z.live
     → q.endpoint ≡ Some id → fin.get z.live id ≡ Some r → has_moved r q.ras ≡ false
     → reply ≡ confirmation z q r.call_signal r.aliases r.identifier → until ≡ deadline z now q
-    → Decides z now (Rrq q) (keep_alive z now q (named z q.endpoint))
+    → Settles z now (Rrq q) (keep_alive z now q (named z q.endpoint))
     (record { reply = reply; change = Endpoint (Renewal r.call_signal until) })
-Decides-renewal z now q id r reply until sound names there stays reply_is until_is =
+Settles-renewal z now q id r reply until sound names there stays reply_is until_is =
     let at = found_at z.live sound id r there in
     let here : identifier_at z.live r.call_signal ≡ r.identifier = ap identifier_or_none at in
     record {

@@ -1,7 +1,7 @@
-//! What is concluded about a request.
+//! What a request comes to, before anything is chosen for it.
 
 ghost use Rattle.std.specs.Prelude.{◌≡◌, IfOk};
-ghost use Rattle.ras_requests.specs.Conclusions.{decision_under};
+ghost use Rattle.ras_requests.specs.Planned.{settlement_under, may_return_units_by};
 
 use ras_module::{
     Boxed, EndpointId, Name, RegistrationConfirm, Reply, ReplyAliases, RequestSeqNum, TimeToLive,
@@ -11,19 +11,19 @@ use std::alloc::{AllocError, Global};
 use zone_config::Moment;
 use zone_tables::{CallChange, Change, EndpointChange, Entry, UnitRequest};
 
-/// The reply to a request, and what it changes.
+/// What settles a request: the reply, and what changes.
 #[derive(Drop)]
-pub struct Decision {
+pub struct Settlement {
     pub reply: Reply,
     pub change: Change,
 }
 
-impl Decision {
+impl Settlement {
     /// A reply, and nothing changes.
     pub fn reply(reply: Reply) -> Self
         ensures { result ≡ record { reply = reply; change = Change.Nothing } }
     {
-        Decision {
+        Settlement {
             reply,
             change: Change::Nothing,
         }
@@ -33,7 +33,7 @@ impl Decision {
     pub fn calls(reply: Reply, change: CallChange) -> Self
         ensures { result ≡ record { reply = reply; change = Change.Calls change } }
     {
-        Decision {
+        Settlement {
             reply,
             change: Change::Calls(change),
         }
@@ -56,8 +56,8 @@ pub struct Newcomer {
 
 impl Newcomer {
     /// The registration under this identifier, with its RegistrationConfirm.
-    pub fn under(self, alloc: Global, identifier: &EndpointId) -> Result<Decision, AllocError>
-        ensures { IfOk result (λ decision. decision ≡ decision_under self identifier.now) }
+    pub fn under(self, alloc: Global, identifier: &EndpointId) -> Result<Settlement, AllocError>
+        ensures { IfOk result (λ settlement. settlement ≡ settlement_under self identifier.now) }
     {
         let Entry {
             call_signal,
@@ -88,18 +88,30 @@ impl Newcomer {
                 asked: 0,
             },
         )?;
-        Ok(Decision {
+        Ok(Settlement {
             reply: Reply::Rcf(confirm),
             change: Change::Endpoint(EndpointChange::Addition(registration)),
         })
     }
 }
 
-/// How a request goes on: it is settled; or an unused identifier is chosen for a new endpoint; or a
-/// pool is asked for units.
+/// How a request is served: it is settled at once; or an unused identifier is chosen for a new
+/// endpoint; or a pool is asked for units.
 #[derive(Drop)]
-pub enum Conclusion {
-    Settled(Decision),
+pub enum Plan {
+    Settled(Settlement),
     Naming(Boxed<Newcomer>),
     Asking(UnitRequest),
+}
+
+impl Plan {
+    /// Whether units may come back to a pool as the request is served so.
+    pub fn may_return_units(&self) -> bool
+        ensures { result ≡ may_return_units_by self.now }
+    {
+        match self {
+            Plan::Settled(settlement) => settlement.change.may_return_units(),
+            Plan::Naming(_) | Plan::Asking(_) => false,
+        }
+    }
 }

@@ -1,6 +1,6 @@
--- What the code concludes about a request: a reply with a change; a new endpoint; or a request to a
+-- What the code plans about a request: a reply with a change; a new endpoint; or a request to a
 -- pool.
-use Rattle.std.specs.Prelude.{◌≡◌, ℕ, List, [], false, None, Some, IfSome, IsSome}
+use Rattle.std.specs.Prelude.{◌≡◌, ℕ, List, [], Bool, false, None, Some, IfSome, IsSome}
 use Rattle.std.specs.Option.{unwrap_or}
 use Rattle.std.specs.FinMap.{get}
 use Rattle.ras_module.specs.declared.reply.Reply.TheVariants.{Rcf}
@@ -9,11 +9,11 @@ use Rattle.ras_module.specs.declared.request.Request.TheVariants.{Grq, Rrq}
 use Rattle.registrations.specs.declared.registration.Registration.{Registration}
 use Rattle.zone_tables.specs.declared.change.Change.TheVariants.{Endpoint}
 use Rattle.zone_tables.specs.declared.change.EndpointChange.TheVariants.{Addition}
-use Rattle.ras_requests.specs.declared.conclusion.Decision.{Decision}
-use Rattle.ras_requests.specs.declared.conclusion.Newcomer.{Newcomer}
+use Rattle.ras_requests.specs.declared.plan.Settlement.{Settlement}
+use Rattle.ras_requests.specs.declared.plan.Newcomer.{Newcomer}
 use Rattle.zone_tables.specs.declared.unit_request.UnitRequest.{UnitRequest}
-use Rattle.ras_requests.specs.declared.conclusion.Conclusion.{Conclusion}
-use Rattle.ras_requests.specs.declared.conclusion.Conclusion.TheVariants as conclusion
+use Rattle.ras_requests.specs.declared.plan.Plan.{Plan as CodePlan}
+use Rattle.ras_requests.specs.declared.plan.Plan.TheVariants as code_plan
 use Rattle.zone_tables.specs.Tables.{Tables, with_calls}
 use Rattle.ras_requests.specs.Grq.{is_foreign}
 use Rattle.ras_requests.specs.Requests.{endpoint_of, plan_of, seq_of}
@@ -22,17 +22,17 @@ use Rattle.zone_tables.specs.Parts.{usage_of}
 use Rattle.zone_tables.specs.UnitRequests.{IsUnitRequest, granted_calls, leg_of_purpose}
 use Rattle.zone_tables.specs.UnitRequests.{units_requested}
 use Rattle.ras_requests.specs.Plans.{Served, Plan, Settled, Naming, Asking, unchanged}
-use Rattle.zone_tables.specs.Changes.{after_change, IsRegistered, IsPossible}
+use Rattle.zone_tables.specs.Changes.{after_change, may_return_units, IsRegistered, IsPossible}
 
--- what a decision about a request comes to: the calls change for the endpoint that it names
-abbrev pub served : Tables → ℕ → Request → Decision → Served
+-- what a settlement of a request comes to: the calls change for the endpoint that it names
+abbrev pub served : Tables → ℕ → Request → Settlement → Served
 served z now request d = record {
   reply = d.reply;
   tables = after_change now (endpoint_of request) d.change z;
 }
 
--- It decides so, and its change can be made.
-pub record Decides (z : Tables) (now : ℕ) (request : Request) (plan : Plan) (d : Decision)
+-- It settles the request as planned, and its change can be made.
+pub record Settles (z : Tables) (now : ℕ) (request : Request) (plan : Plan) (d : Settlement)
     : Type 0 where
   pub possible : IsPossible z (endpoint_of request) d.change
   pub is : plan ≡ Settled (served z now request d)
@@ -50,8 +50,8 @@ registration_under n id = record {
   asked = 0;
 }
 
-abbrev pub decision_under : Newcomer → List ℕ → Decision
-decision_under n id = record {
+abbrev pub settlement_under : Newcomer → List ℕ → Settlement
+settlement_under n id = record {
   reply = Rcf (record {
     seq = n.seq;
     call_signal = n.entry.call_signal;
@@ -64,13 +64,13 @@ decision_under n id = record {
 }
 
 abbrev pub named_by : Tables → ℕ → Request → Newcomer → List ℕ → Served
-named_by z now request n id = served z now request (decision_under n id)
+named_by z now request n id = served z now request (settlement_under n id)
 
 -- It is a new endpoint, which can be added under any identifier that is not registered.
 pub record Names (z : Tables) (now : ℕ) (request : Request) (plan : Plan) (n : Newcomer)
     : Type 0 where
   pub possible : (id : List ℕ) → get z.live id ≡ None
-      → IsPossible z (endpoint_of request) (decision_under n id).change
+      → IsPossible z (endpoint_of request) (settlement_under n id).change
   pub is : plan ≡ Naming (named_by z now request n)
 
 -- the endpoint that a request names; the empty list if it names none
@@ -95,18 +95,25 @@ pub record RequestsUnits (z : Tables) (request : Request) (plan : Plan) (q : Uni
   pub registered : IfSome (leg_of_purpose (asker_of request) q.purpose) (IsRegistered z.live)
   pub is : plan ≡ Asking (units_requested q) (granted_by z request q) (refused_by z request q)
 
-abbrev pub Concludes : Tables → ℕ → Request → Plan → Conclusion → Type 0
-Concludes z now request plan (conclusion.Settled d) = Decides z now request plan d
-Concludes z now request plan (conclusion.Naming n) = Names z now request plan n
-Concludes z now request plan (conclusion.Asking q) = RequestsUnits z request plan q
+-- a plan of the code is this plan, and can be carried out
+abbrev pub IsPlan : Tables → ℕ → Request → Plan → CodePlan → Type 0
+IsPlan z now request plan (code_plan.Settled d) = Settles z now request plan d
+IsPlan z now request plan (code_plan.Naming n) = Names z now request plan n
+IsPlan z now request plan (code_plan.Asking q) = RequestsUnits z request plan q
 
--- what is concluded about a request is what it comes to
-abbrev pub IsConclusion : Tables → ℕ → Request → Conclusion → Type 0
-IsConclusion z now request c =
-    (plan : Plan) → plan_of z now request ≡ Some plan → Concludes z now request plan c
+-- units may come back to a pool only by a change that settles a request
+abbrev pub may_return_units_by : CodePlan → Bool
+may_return_units_by (code_plan.Settled d) = may_return_units d.change
+may_return_units_by (code_plan.Naming n) = false
+may_return_units_by (code_plan.Asking q) = false
 
--- Memory is wanted for a conclusion at most if it is about a discovery or a registration that names
--- no other gatekeeper: for a confirm, and for the aliases that are registered.
+-- it is what the request comes to
+abbrev pub IsPlanOf : Tables → ℕ → Request → CodePlan → Type 0
+IsPlanOf z now request p =
+    (plan : Plan) → plan_of z now request ≡ Some plan → IsPlan z now request plan p
+
+-- Memory is wanted for a plan at most if it is that of a discovery or a registration that names no
+-- other gatekeeper: for a confirm, and for the aliases that are registered.
 abbrev pub MayWantMemory : Tables → Request → Type 0
 MayWantMemory z (Grq q) = is_foreign z q.gatekeeper ≡ false
 MayWantMemory z (Rrq q) = is_foreign z q.gatekeeper ≡ false
