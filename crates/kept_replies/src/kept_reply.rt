@@ -39,7 +39,7 @@ impl KeptReply {
     /// A reply for which these octets were written.
     pub fn new(alloc: Global, reply: &Reply, octets: &[u8]) -> Result<Self, AllocError>
         requires written { octets.now ≡ encoding_of reply.now }
-        requires few { length octets.now ≤ 20000 }
+        requires few { length octets.now ≤ Reply.MOST }
         requires reads_back { ReadsBack reply.now }
         ensures { IfOk result (λ kept. kept ≡ reply.now) }
     {
@@ -56,9 +56,9 @@ impl KeptReply {
     pub fn in_buffer(buffer: Vec<u8>, reply: &Reply, octets: &[u8]) -> Self
         requires empty { buffer.items ≡ [] }
         requires room { length octets.now ≤ vec_capacity buffer }
-        requires bounded { vec_capacity buffer ≤ 20000 }
+        requires bounded { vec_capacity buffer ≤ Reply.MOST }
         requires written { octets.now ≡ encoding_of reply.now }
-        requires few { length octets.now ≤ 20000 }
+        requires few { length octets.now ≤ Reply.MOST }
         requires reads_back { ReadsBack reply.now }
         requires untold { identifier_in reply.now ≡ None }
         ensures { result ≡ reply.now }
@@ -73,7 +73,7 @@ impl KeptReply {
     /// The octets that are sent for it.
     pub fn as_slice(&self) -> &[u8]
         ensures octets { result.now ≡ encoding_of self.now }
-        ensures few { length result.now ≤ 20000 }
+        ensures few { length result.now ≤ Reply.MOST }
     {
         self.encoded.as_slice()
     }

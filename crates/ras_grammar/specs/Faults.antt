@@ -1,5 +1,5 @@
 -- The faults of messages: their numbers, and the faults of single bits among them.
-use Rattle.std.specs.Prelude.{ℕ, ◌≡◌, ◌⊎◌, List, Bool, take, Result, Ok, Err}
+use Rattle.std.specs.Prelude.{ℕ, ◌≡◌, ◌⊎◌, List, take, Result, Ok, Err}
 use Rattle.std.specs.Borrow.{Bor}
 use Rattle.per_bits.specs.declared.fault.ReadFault.{ReadFault as BitFault}
 use Rattle.per_bits.specs.declared.fault.ReadFault.TheVariants as bit
@@ -50,16 +50,6 @@ of_octets (Err fault) = Err fault
 abbrev pub front_of : {A : Type 0} → ℕ → Result (List A) ReadFault → Result (List A) ReadFault
 front_of count (Ok characters) = Ok (take count characters)
 front_of count (Err fault) = Err fault
-
--- What reading returned is what the reading function gives, and the decoder stands after it; after
--- a fault the decoder is where it was. A fault may also be that memory was refused. The reading
--- function knows nothing of that.
-abbrev pub GivesUnlessMemory : {A : Type 0} → (List Bool → Result (A × List Bool) ReadFault)
-    → List Bool
-    → Result A ReadFault → List Bool → Type 0
-GivesUnlessMemory reading old (Ok x) new = reading old ≡ Ok (x, new)
-GivesUnlessMemory reading old (Err fault) new = ((fault ≡ Memory) ⊎ (reading old ≡ Err fault)) ×
-    (new ≡ old)
 
 -- The result is this one, unless memory was refused.
 abbrev pub IsUnlessMemory : {A : Type 0} → Result A ReadFault → Result A ReadFault → Type 0

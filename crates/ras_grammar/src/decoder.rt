@@ -33,16 +33,6 @@ impl<'a> Decoder<'a> {
         }
     }
 
-    /// A second decoder at the same place. A value of several components is read on it, so that a
-    /// fault leaves the first decoder where it was.
-    pub fn ahead(&self) -> Self
-        ensures { result ≡ self.now }
-    {
-        Decoder {
-            bits: self.bits.ahead(),
-        }
-    }
-
     /// BOOLEAN, or a bit of a preamble.
     pub fn boolean(&mut self) -> Result<bool, ReadFault>
         ensures { Gives grammar.boolean.reading self.old result self.new }

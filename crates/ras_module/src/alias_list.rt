@@ -121,8 +121,8 @@ impl Eq for AliasList {
     ghost laws = { aliases_equivalence };
 }
 
-/// The aliases of a reply or of a registration, in order: at most 32 of them, in memory for no more
-/// than that. Contracts see the list.
+/// The aliases of a reply or of a registration, in order: at most `MOST` of them, in memory for no
+/// more than that. Contracts see the list.
 #[derive(Drop)]
 pub struct ReplyAliases {
     items: Vec<Alias>,
@@ -131,23 +131,24 @@ pub struct ReplyAliases {
 impl Model for ReplyAliases {
     ghost use Rattle.std.specs.Prelude.{List, vec_capacity, ◌≤◌};
     ghost use Rattle.ras_module.specs.declared.alias.Alias.{Alias};
+    ghost use Rattle.ras_module.specs.declared.alias_list.TheConstants.ReplyAliases.{MOST};
 
     ghost Value = { List Alias };
 
     ghost view = { λ a. a.items.items };
 
-    ghost invariant = { λ a. vec_capacity a.items ≤ 32 };
+    ghost invariant = { λ a. vec_capacity a.items ≤ MOST };
 }
 
 impl ReplyAliases {
     /// The most aliases of a reply.
     pub const MOST: usize = 32;
 
-    /// These aliases. None if and only if there are more than 32. A list that has memory for more is
-    /// copied, so that what is kept takes no more than it may.
+    /// These aliases. None if and only if there are more than `MOST`. A list that has memory for
+    /// more is copied, so that what is kept takes no more than it may.
     pub fn new(list: AliasList) -> Result<Option<Self>, AllocError>
-        ensures { IfOk result (λ found. MatchOption found (32 < length list)
-            (λ few. (few ≡ list) × (length list ≤ 32))) }
+        ensures { IfOk result (λ found. MatchOption found (Self.MOST < length list)
+            (λ few. (few ≡ list) × (length list ≤ Self.MOST))) }
     {
         if list.len() > Self::MOST {
             return Ok(None);
@@ -163,7 +164,7 @@ impl ReplyAliases {
     /// The aliases, in order.
     pub fn as_slice(&self) -> &[Alias]
         ensures items { result.now ≡ self.now }
-        ensures few { length self.now ≤ 32 }
+        ensures few { length self.now ≤ Self.MOST }
     {
         self.items.as_slice()
     }

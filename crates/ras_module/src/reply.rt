@@ -130,7 +130,7 @@ impl Reply {
     /// Octets that are enough for the encoding of this reply: at most `MOST`.
     pub fn room(&self) -> usize
         ensures room { result ≡ room_of self.now }
-        ensures most { result ≤ 20000 }
+        ensures most { result ≤ Self.MOST }
     {
         match self {
             Reply::Gcf(_) => 320,

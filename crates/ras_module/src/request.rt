@@ -91,6 +91,9 @@ pub struct InfoRequestResponse {
 }
 
 impl Request {
+    /// The octets that the datagram of a request has at most: a longer one isn't read.
+    pub const MOST: usize = 4_096;
+
     /// An equal request.
     pub fn copy(&self) -> Result<Request, AllocError>
         ensures { IfOk result (λ copy. copy ≡ self.now) }

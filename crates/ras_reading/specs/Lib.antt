@@ -1,3 +1,4 @@
+pub mod Parsing
 pub mod EndpointTypes
 pub mod Requests
 pub mod Messages

@@ -1,7 +1,7 @@
 //! The additions of a SEQUENCE after its extension marker (X.691).
 
 ghost use Rattle.std.specs.Prelude.{◌≡◌, ◌≤◌};
-ghost use Rattle.per_bits.specs.Readings.{Gives};
+ghost use Rattle.ras_reading.specs.Parsing.{Parses};
 ghost use Rattle.ras_grammar.specs.Faults.{front_of};
 ghost use Rattle.ras_grammar.specs.Grammar.{boolean, each, skipped, open_type};
 ghost use Rattle.ras_grammar.specs.Sequences.{additions, is_present, skipped_addition};
@@ -45,20 +45,18 @@ impl PresentAdditions {
 /// This many presence bits.
 fn presence_bits(decoder: &mut Decoder<'_>, count: usize) -> Result<[bool; 64], ReadFault>
     requires { count ≤ 64 }
-    ensures { Gives (each count boolean).reading decoder.old (front_of count result) decoder.new }
+    ensures { Parses (each count boolean).reading decoder.old (front_of count result) decoder.new }
 {
-    let mut ahead = decoder.ahead();
     let mut present = [false; 64];
     for i in 0..count {
-        present[i] = ahead.boolean()?;
+        present[i] = decoder.boolean()?;
     }
-    *decoder = ahead;
     Ok(present)
 }
 
 /// The additions that are there. There are none if the extension bit is not set.
 pub fn additions(decoder: &mut Decoder<'_>, extended: bool) -> Result<PresentAdditions, ReadFault>
-    ensures { Gives (additions extended).reading decoder.old result decoder.new }
+    ensures { Parses (additions extended).reading decoder.old result decoder.new }
 {
     if !extended {
         return Ok(PresentAdditions {
@@ -66,15 +64,13 @@ pub fn additions(decoder: &mut Decoder<'_>, extended: bool) -> Result<PresentAdd
             count: 0,
         });
     }
-    let mut ahead = decoder.ahead();
-    let count = ahead.small()? as usize + 1;
-    let present = presence_bits(&mut ahead, count)?;
-    *decoder = ahead;
+    let count = decoder.small()? as usize + 1;
+    let present = presence_bits(decoder, count)?;
     Ok(PresentAdditions { present, count })
 }
 
 fn skip_open_type(decoder: &mut Decoder<'_>, present: bool) -> Result<(), ReadFault>
-    ensures { Gives (skipped present open_type).reading decoder.old result decoder.new }
+    ensures { Parses (skipped present open_type).reading decoder.old result decoder.new }
 {
     if present {
         decoder.open_type()?;
@@ -88,29 +84,24 @@ pub fn skip_addition(
     additions: &PresentAdditions,
     index: usize,
 ) -> Result<(), ReadFault>
-    ensures { Gives (skipped_addition additions.now index).reading decoder.old result decoder.new }
+    ensures { Parses (skipped_addition additions.now index).reading decoder.old result decoder.new }
 {
     skip_open_type(decoder, additions.is_present(index))
 }
 
 fn skip_each(decoder: &mut Decoder<'_>, additions: &PresentAdditions) -> Result<(), ReadFault>
-    ensures { Gives (skipped_each additions.now).reading decoder.old result decoder.new }
+    ensures { Parses (skipped_each additions.now).reading decoder.old result decoder.new }
 {
-    let mut ahead = decoder.ahead();
     for present in additions.as_slice() {
-        skip_open_type(&mut ahead, *present)?;
+        skip_open_type(decoder, *present)?;
     }
-    *decoder = ahead;
     Ok(())
 }
 
 /// Passes over all additions.
 pub fn skip_additions(decoder: &mut Decoder<'_>, extended: bool) -> Result<(), ReadFault>
-    ensures { Gives (skipped_additions extended).reading decoder.old result decoder.new }
+    ensures { Parses (skipped_additions extended).reading decoder.old result decoder.new }
 {
-    let mut ahead = decoder.ahead();
-    let additions = additions(&mut ahead, extended)?;
-    skip_each(&mut ahead, &additions)?;
-    *decoder = ahead;
-    Ok(())
+    let additions = additions(decoder, extended)?;
+    skip_each(decoder, &additions)
 }

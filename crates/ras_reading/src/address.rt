@@ -1,6 +1,6 @@
 //! Transport addresses (H.225.0, TransportAddress).
 
-ghost use Rattle.per_bits.specs.Readings.{Gives};
+ghost use Rattle.ras_reading.specs.Parsing.{Parses};
 ghost use Rattle.ras_grammar.specs.Grammar.{each_skipped, octets};
 ghost use Rattle.ras_grammar.specs.Addresses.{ip_address, ip_source_route, ipx_address};
 ghost use Rattle.ras_grammar.specs.Addresses.{ip6_address, net_bios, nsap, transport_address};
@@ -17,75 +17,63 @@ use ras_module::Address;
 /// ipAddress.
 #[tactic(auto, unfolding(ras_grammar::specs::Addresses::ip_address))]
 fn ip_address(decoder: &mut Decoder<'_>) -> Result<Address, ReadFault>
-    ensures { Gives ip_address.reading decoder.old result decoder.new }
+    ensures { Parses ip_address.reading decoder.old result decoder.new }
 {
-    let mut ahead = decoder.ahead();
-    let ip = octet_array(&mut ahead)?;
-    let port = ahead.whole(0, 65535)? as u16;
-    *decoder = ahead;
+    let ip = octet_array(decoder)?;
+    let port = decoder.whole(0, 65535)? as u16;
     Ok(Address { ip, port })
 }
 
 /// Passes over this many addresses of a route.
 fn skip_route(decoder: &mut Decoder<'_>, count: u32) -> Result<(), ReadFault>
-    ensures { Gives (each_skipped count (octets 4)).reading decoder.old result decoder.new }
+    ensures { Parses (each_skipped count (octets 4)).reading decoder.old result decoder.new }
 {
-    let mut ahead = decoder.ahead();
     for _ in 0..count {
-        ahead.octets(4)?;
+        decoder.octets(4)?;
     }
-    *decoder = ahead;
     Ok(())
 }
 
 /// ipSourceRoute.
 #[tactic(auto, unfolding(ras_grammar::specs::Addresses::ip_source_route))]
 fn ip_source_route(decoder: &mut Decoder<'_>) -> Result<(), ReadFault>
-    ensures { Gives ip_source_route.reading decoder.old result decoder.new }
+    ensures { Parses ip_source_route.reading decoder.old result decoder.new }
 {
-    let mut ahead = decoder.ahead();
-    let extended = ahead.boolean()?;
-    ahead.octets(4)?;
-    ahead.whole(0, 65535)?;
-    let count = ahead.length()?;
-    skip_route(&mut ahead, count)?;
-    skip_null_choice(&mut ahead, 1)?;
-    skip_additions(&mut ahead, extended)?;
-    *decoder = ahead;
-    Ok(())
+    let extended = decoder.boolean()?;
+    decoder.octets(4)?;
+    decoder.whole(0, 65535)?;
+    let count = decoder.length()?;
+    skip_route(decoder, count)?;
+    skip_null_choice(decoder, 1)?;
+    skip_additions(decoder, extended)
 }
 
 /// ipxAddress.
 #[tactic(auto, unfolding(ras_grammar::specs::Addresses::ipx_address))]
 fn ipx_address(decoder: &mut Decoder<'_>) -> Result<(), ReadFault>
-    ensures { Gives ipx_address.reading decoder.old result decoder.new }
+    ensures { Parses ipx_address.reading decoder.old result decoder.new }
 {
-    let mut ahead = decoder.ahead();
-    ahead.octets(6)?;
-    ahead.octets(4)?;
-    ahead.bits(16)?;
-    *decoder = ahead;
+    decoder.octets(6)?;
+    decoder.octets(4)?;
+    decoder.bits(16)?;
     Ok(())
 }
 
 /// ip6Address.
 #[tactic(auto, unfolding(ras_grammar::specs::Addresses::ip6_address))]
 fn ip6_address(decoder: &mut Decoder<'_>) -> Result<(), ReadFault>
-    ensures { Gives ip6_address.reading decoder.old result decoder.new }
+    ensures { Parses ip6_address.reading decoder.old result decoder.new }
 {
-    let mut ahead = decoder.ahead();
-    let extended = ahead.boolean()?;
-    ahead.octets(16)?;
-    ahead.whole(0, 65535)?;
-    skip_additions(&mut ahead, extended)?;
-    *decoder = ahead;
-    Ok(())
+    let extended = decoder.boolean()?;
+    decoder.octets(16)?;
+    decoder.whole(0, 65535)?;
+    skip_additions(decoder, extended)
 }
 
 /// netBios.
 #[tactic(auto, unfolding(ras_grammar::specs::Addresses::net_bios))]
 fn net_bios(decoder: &mut Decoder<'_>) -> Result<(), ReadFault>
-    ensures { Gives net_bios.reading decoder.old result decoder.new }
+    ensures { Parses net_bios.reading decoder.old result decoder.new }
 {
     decoder.octets(16)?;
     Ok(())
@@ -94,7 +82,7 @@ fn net_bios(decoder: &mut Decoder<'_>) -> Result<(), ReadFault>
 /// nsap.
 #[tactic(auto, unfolding(ras_grammar::specs::Addresses::nsap))]
 fn nsap(decoder: &mut Decoder<'_>) -> Result<(), ReadFault>
-    ensures { Gives nsap.reading decoder.old result decoder.new }
+    ensures { Parses nsap.reading decoder.old result decoder.new }
 {
     sized_octet_string(decoder, 1, 20)?;
     Ok(())
@@ -102,7 +90,7 @@ fn nsap(decoder: &mut Decoder<'_>) -> Result<(), ReadFault>
 
 /// The address of a root alternative.
 fn root_address(decoder: &mut Decoder<'_>, index: u32) -> Result<Option<Address>, ReadFault>
-    ensures { Gives (root_address index).reading decoder.old result decoder.new }
+    ensures { Parses (root_address index).reading decoder.old result decoder.new }
 {
     match index {
         0 => return Ok(Some(ip_address(decoder)?)),
@@ -119,44 +107,35 @@ fn root_address(decoder: &mut Decoder<'_>, index: u32) -> Result<Option<Address>
 /// An address, or None for one that is no ipAddress.
 #[tactic(auto, unfolding(ras_grammar::specs::Addresses::transport_address))]
 pub fn transport_address(decoder: &mut Decoder<'_>) -> Result<Option<Address>, ReadFault>
-    ensures { Gives transport_address.reading decoder.old result decoder.new }
+    ensures { Parses transport_address.reading decoder.old result decoder.new }
 {
-    let mut ahead = decoder.ahead();
-    let address = if ahead.boolean()? {
-        unknown_alternative(&mut ahead)?;
-        None
-    } else {
-        let index = ahead.choice_index(6)?;
-        root_address(&mut ahead, index)?
-    };
-    *decoder = ahead;
-    Ok(address)
+    if decoder.boolean()? {
+        unknown_alternative(decoder)?;
+        return Ok(None);
+    }
+    let index = decoder.choice_index(6)?;
+    root_address(decoder, index)
 }
 
 /// The first ipAddress of this many addresses.
 fn first_address(decoder: &mut Decoder<'_>, count: u32) -> Result<Option<Address>, ReadFault>
-    ensures { Gives (first_each count).reading decoder.old result decoder.new }
+    ensures { Parses (first_each count).reading decoder.old result decoder.new }
 {
-    let mut ahead = decoder.ahead();
     let mut first = None;
     for _ in 0..count {
-        let address = transport_address(&mut ahead)?;
+        let address = transport_address(decoder)?;
         first = first.or(address);
     }
-    *decoder = ahead;
     Ok(first)
 }
 
 /// The first ipAddress of a list.
 #[tactic(auto, unfolding(ras_grammar::specs::Addresses::address_list))]
 pub fn address_list(decoder: &mut Decoder<'_>) -> Result<Option<Address>, ReadFault>
-    ensures { Gives address_list.reading decoder.old result decoder.new }
+    ensures { Parses address_list.reading decoder.old result decoder.new }
 {
-    let mut ahead = decoder.ahead();
-    let count = ahead.length()?;
-    let first = first_address(&mut ahead, count)?;
-    *decoder = ahead;
-    Ok(first)
+    let count = decoder.length()?;
+    first_address(decoder, count)
 }
 
 /// An address that is OPTIONAL.
@@ -164,7 +143,7 @@ pub fn optional_address(
     decoder: &mut Decoder<'_>,
     present: bool,
 ) -> Result<Option<Address>, ReadFault>
-    ensures { Gives (optional_address present).reading decoder.old result decoder.new }
+    ensures { Parses (optional_address present).reading decoder.old result decoder.new }
 {
     if present {
         transport_address(decoder)

@@ -1,10 +1,10 @@
 //! Aliases (H.225.0, AliasAddress).
 
 ghost use Rattle.std.specs.Prelude.{◌≡◌, ◌≤◌, ◌<◌, ◌^◌, length, IfOk, OnOk, IsTrue};
-ghost use Rattle.per_bits.specs.Readings.{Gives};
+ghost use Rattle.ras_reading.specs.Parsing.{Parses, ParsesUnlessMemory};
 ghost use Rattle.ras_module.specs.DialledDigits.{is_dialled, AreDialled};
 ghost use Rattle.ras_module.specs.Texts.{IsPadded};
-ghost use Rattle.ras_grammar.specs.Faults.{front_of, GivesUnlessMemory};
+ghost use Rattle.ras_grammar.specs.Faults.{front_of};
 ghost use Rattle.ras_grammar.specs.Grammar.{each, each_skipped, skipped};
 ghost use Rattle.ras_grammar.specs.Aliases.{digit_of, digit, dialled_digits, root_alias};
 ghost use Rattle.ras_grammar.specs.Aliases.{alias_address, skipped_aliases, keeping, served_each};
@@ -32,15 +32,13 @@ fn digit_of(code: u32) -> u16
 /// A character that may be dialled.
 #[tactic(auto, unfolding(ras_grammar::specs::Aliases::digit))]
 fn digit(decoder: &mut Decoder<'_>) -> Result<u16, ReadFault>
-    ensures gives { Gives digit.reading decoder.old result decoder.new }
+    ensures gives { Parses digit.reading decoder.old result decoder.new }
     ensures dialled { IfOk result (λ character. IsTrue (is_dialled character)) }
 {
-    let mut ahead = decoder.ahead();
-    let code = ahead.bits(4)?;
+    let code = decoder.bits(4)?;
     if code > 12 {
         return Err(ReadFault::BadCharacter);
     }
-    *decoder = ahead;
     Ok(digit_of(code))
 }
 
@@ -48,35 +46,31 @@ fn digit(decoder: &mut Decoder<'_>) -> Result<u16, ReadFault>
 fn digits(decoder: &mut Decoder<'_>, count: usize) -> Result<[u16; 128], ReadFault>
     requires some { 1 ≤ count }
     requires few { count ≤ 128 }
-    ensures gives { Gives (each count digit).reading decoder.old
+    ensures gives { Parses (each count digit).reading decoder.old
         (front_of count result) decoder.new }
     ensures dialled { IfOk (front_of count result) AreDialled }
     ensures padded { IfOk result (λ digits. IsPadded 128 digits count) }
 {
-    let mut ahead = decoder.ahead();
     let mut digits = [0; 128];
     for i in 0..count {
-        digits[i] = digit(&mut ahead)?;
+        digits[i] = digit(decoder)?;
     }
-    *decoder = ahead;
     Ok(digits)
 }
 
 /// dialledDigits.
 #[tactic(auto, unfolding(ras_grammar::specs::Aliases::dialled_digits))]
 fn dialled_digits(decoder: &mut Decoder<'_>) -> Result<DialledDigits, ReadFault>
-    ensures { Gives dialled_digits.reading decoder.old result decoder.new }
+    ensures { Parses dialled_digits.reading decoder.old result decoder.new }
 {
-    let mut ahead = decoder.ahead();
-    let count = ahead.whole(1, 128)? as usize;
-    ahead.align();
-    let digits = digits(&mut ahead, count)?;
-    *decoder = ahead;
+    let count = decoder.whole(1, 128)? as usize;
+    decoder.align();
+    let digits = digits(decoder, count)?;
     Ok(DialledDigits::new(BmpString::of_padded(digits, count)).unwrap())
 }
 
 fn root_alias(decoder: &mut Decoder<'_>, index: u32) -> Result<Option<Alias>, ReadFault>
-    ensures { Gives (root_alias index).reading decoder.old result decoder.new }
+    ensures { Parses (root_alias index).reading decoder.old result decoder.new }
 {
     if index == 0 {
         Ok(Some(Alias::Digits(dialled_digits(decoder)?)))
@@ -88,44 +82,35 @@ fn root_alias(decoder: &mut Decoder<'_>, index: u32) -> Result<Option<Alias>, Re
 /// An alias, or None for one of another kind.
 #[tactic(auto, unfolding(ras_grammar::specs::Aliases::alias_address))]
 pub fn alias_address(decoder: &mut Decoder<'_>) -> Result<Option<Alias>, ReadFault>
-    ensures { Gives alias_address.reading decoder.old result decoder.new }
+    ensures { Parses alias_address.reading decoder.old result decoder.new }
 {
-    let mut ahead = decoder.ahead();
-    let alias = if ahead.boolean()? {
-        unknown_alternative(&mut ahead)?;
-        None
-    } else {
-        let index = ahead.choice_index(1)?;
-        root_alias(&mut ahead, index)?
-    };
-    *decoder = ahead;
-    Ok(alias)
+    if decoder.boolean()? {
+        unknown_alternative(decoder)?;
+        return Ok(None);
+    }
+    let index = decoder.choice_index(1)?;
+    root_alias(decoder, index)
 }
 
 fn skip_each_alias(decoder: &mut Decoder<'_>, count: u32) -> Result<(), ReadFault>
-    ensures { Gives (each_skipped count alias_address).reading decoder.old result decoder.new }
+    ensures { Parses (each_skipped count alias_address).reading decoder.old result decoder.new }
 {
-    let mut ahead = decoder.ahead();
     for _ in 0..count {
-        alias_address(&mut ahead)?;
+        alias_address(decoder)?;
     }
-    *decoder = ahead;
     Ok(())
 }
 
 /// Passes over a list of aliases, if it is there.
 #[tactic(auto, unfolding(ras_grammar::specs::Aliases::skipped_aliases))]
 pub fn skip_aliases(decoder: &mut Decoder<'_>, present: bool) -> Result<(), ReadFault>
-    ensures { Gives (skipped present skipped_aliases).reading decoder.old result decoder.new }
+    ensures { Parses (skipped present skipped_aliases).reading decoder.old result decoder.new }
 {
     if !present {
         return Ok(());
     }
-    let mut ahead = decoder.ahead();
-    let count = ahead.length()?;
-    skip_each_alias(&mut ahead, count)?;
-    *decoder = ahead;
-    Ok(())
+    let count = decoder.length()?;
+    skip_each_alias(decoder, count)
 }
 
 /// Adds an alias, if it is served. Room is made for the first one alone, since most lists have one.
@@ -149,15 +134,13 @@ fn served_aliases(
     decoder: &mut Decoder<'_>,
     count: u32,
 ) -> Result<AliasList, ReadFault>
-    ensures { GivesUnlessMemory (served_each count).reading decoder.old result decoder.new }
+    ensures { ParsesUnlessMemory (served_each count).reading decoder.old result decoder.new }
 {
-    let mut ahead = decoder.ahead();
     let mut aliases = AliasList::new(alloc);
     for _ in 0..count {
-        let alias = alias_address(&mut ahead)?;
+        let alias = alias_address(decoder)?;
         keep(alloc, &mut aliases, alias)?;
     }
-    *decoder = ahead;
     Ok(aliases)
 }
 
@@ -168,14 +151,11 @@ pub fn optional_aliases(
     decoder: &mut Decoder<'_>,
     present: bool,
 ) -> Result<AliasList, ReadFault>
-    ensures { GivesUnlessMemory (optional_aliases present).reading decoder.old result decoder.new }
+    ensures { ParsesUnlessMemory (optional_aliases present).reading decoder.old result decoder.new }
 {
     if !present {
         return Ok(AliasList::new(alloc));
     }
-    let mut ahead = decoder.ahead();
-    let count = ahead.length()?;
-    let aliases = served_aliases(alloc, &mut ahead, count)?;
-    *decoder = ahead;
-    Ok(aliases)
+    let count = decoder.length()?;
+    served_aliases(alloc, decoder, count)
 }

@@ -2,7 +2,7 @@
 
 ghost use Rattle.std.specs.Prelude.{◌≡◌, nat_eq};
 ghost use Rattle.std.specs.List.{list_all};
-ghost use Rattle.per_bits.specs.Readings.{Gives};
+ghost use Rattle.ras_reading.specs.Parsing.{Parses};
 ghost use Rattle.per_bits.specs.Bits.{bits_of};
 ghost use Rattle.ras_grammar.specs.Grammar.{skipped};
 ghost use Rattle.ras_grammar.specs.Sequences.{addition, call_identifier};
@@ -17,13 +17,10 @@ use ras_module::CallKey;
 /// CallIdentifier, without its additions.
 #[tactic(auto, unfolding(ras_grammar::specs::Sequences::call_identifier))]
 fn call_identifier(decoder: &mut Decoder<'_>) -> Result<[u8; 16], ReadFault>
-    ensures { Gives call_identifier.reading decoder.old result decoder.new }
+    ensures { Parses call_identifier.reading decoder.old result decoder.new }
 {
-    let mut ahead = decoder.ahead();
-    ahead.boolean()?;
-    let guid = octet_array(&mut ahead)?;
-    *decoder = ahead;
-    Ok(guid)
+    decoder.boolean()?;
+    octet_array(decoder)
 }
 
 /// The callIdentifier among the additions of a message.
@@ -32,16 +29,14 @@ pub fn call_identifier_at(
     present: &PresentAdditions,
     index: usize,
 ) -> Result<Option<[u8; 16]>, ReadFault>
-    ensures { Gives (addition present.now index call_identifier).reading decoder.old result
+    ensures { Parses (addition present.now index call_identifier).reading decoder.old result
         decoder.new }
 {
     if !present.is_present(index) {
         return Ok(None);
     }
-    let mut ahead = decoder.ahead();
-    let octets = ahead.open_type()?;
+    let octets = decoder.open_type()?;
     let guid = call_identifier(&mut Decoder::new(octets))?;
-    *decoder = ahead;
     Ok(Some(guid))
 }
 
@@ -64,14 +59,14 @@ fn is_all_zero(octets: &[u8]) -> bool
 /// CallType.
 #[tactic(auto, unfolding(crate::specs::Requests::call_type))]
 pub fn call_type(decoder: &mut Decoder<'_>) -> Result<(), ReadFault>
-    ensures { Gives call_type.reading decoder.old result decoder.new }
+    ensures { Parses call_type.reading decoder.old result decoder.new }
 {
     skip_null_choice(decoder, 3)
 }
 
 /// CallType, if it is there.
 pub fn skip_call_type(decoder: &mut Decoder<'_>, present: bool) -> Result<(), ReadFault>
-    ensures { Gives (skipped present call_type).reading decoder.old result decoder.new }
+    ensures { Parses (skipped present call_type).reading decoder.old result decoder.new }
 {
     if present {
         call_type(decoder)?;
@@ -82,7 +77,7 @@ pub fn skip_call_type(decoder: &mut Decoder<'_>, present: bool) -> Result<(), Re
 /// CallModel, if it is there.
 #[tactic(auto, unfolding(crate::specs::Requests::call_model))]
 pub fn skip_call_model(decoder: &mut Decoder<'_>, present: bool) -> Result<(), ReadFault>
-    ensures { Gives (skipped present call_model).reading decoder.old result decoder.new }
+    ensures { Parses (skipped present call_model).reading decoder.old result decoder.new }
 {
     if present {
         skip_null_choice(decoder, 1)?;
@@ -93,40 +88,34 @@ pub fn skip_call_model(decoder: &mut Decoder<'_>, present: bool) -> Result<(), R
 /// Q954Details.
 #[tactic(auto, unfolding(crate::specs::Requests::q954_details))]
 fn q954_details(decoder: &mut Decoder<'_>) -> Result<(), ReadFault>
-    ensures { Gives q954_details.reading decoder.old result decoder.new }
+    ensures { Parses q954_details.reading decoder.old result decoder.new }
 {
-    let mut ahead = decoder.ahead();
-    let extended = ahead.boolean()?;
-    ahead.boolean()?;
-    ahead.boolean()?;
-    skip_additions(&mut ahead, extended)?;
-    *decoder = ahead;
-    Ok(())
+    let extended = decoder.boolean()?;
+    decoder.boolean()?;
+    decoder.boolean()?;
+    skip_additions(decoder, extended)
 }
 
 /// QseriesOptions.
 #[tactic(auto, unfolding(crate::specs::Requests::qseries_options))]
 fn qseries_options(decoder: &mut Decoder<'_>) -> Result<(), ReadFault>
-    ensures { Gives qseries_options.reading decoder.old result decoder.new }
+    ensures { Parses qseries_options.reading decoder.old result decoder.new }
 {
-    let mut ahead = decoder.ahead();
-    let extended = ahead.boolean()?;
-    ahead.boolean()?;
-    ahead.boolean()?;
-    ahead.boolean()?;
-    ahead.boolean()?;
-    ahead.boolean()?;
-    ahead.boolean()?;
-    ahead.boolean()?;
-    q954_details(&mut ahead)?;
-    skip_additions(&mut ahead, extended)?;
-    *decoder = ahead;
-    Ok(())
+    let extended = decoder.boolean()?;
+    decoder.boolean()?;
+    decoder.boolean()?;
+    decoder.boolean()?;
+    decoder.boolean()?;
+    decoder.boolean()?;
+    decoder.boolean()?;
+    decoder.boolean()?;
+    q954_details(decoder)?;
+    skip_additions(decoder, extended)
 }
 
 /// callServices, if they are there.
 pub fn skip_call_services(decoder: &mut Decoder<'_>, present: bool) -> Result<(), ReadFault>
-    ensures { Gives (skipped present qseries_options).reading decoder.old result decoder.new }
+    ensures { Parses (skipped present qseries_options).reading decoder.old result decoder.new }
 {
     if present {
         qseries_options(decoder)?;
@@ -137,7 +126,7 @@ pub fn skip_call_services(decoder: &mut Decoder<'_>, present: bool) -> Result<()
 /// DisengageReason.
 #[tactic(auto, unfolding(crate::specs::Requests::disengage_reason))]
 pub fn disengage_reason(decoder: &mut Decoder<'_>) -> Result<(), ReadFault>
-    ensures { Gives disengage_reason.reading decoder.old result decoder.new }
+    ensures { Parses disengage_reason.reading decoder.old result decoder.new }
 {
     skip_null_choice(decoder, 2)
 }

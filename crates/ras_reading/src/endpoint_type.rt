@@ -1,6 +1,6 @@
 //! What an endpoint is (H.225.0, EndpointType). It is read and dropped.
 
-ghost use Rattle.per_bits.specs.Readings.{Gives};
+ghost use Rattle.ras_reading.specs.Parsing.{Parses};
 ghost use Rattle.ras_grammar.specs.Grammar.{each_skipped, skipped};
 ghost use Rattle.ras_grammar.specs.Sequences.{sized_octet_string};
 ghost use Rattle.ras_reading.specs.EndpointTypes.{vendor_identifier, node_info, protocols};
@@ -16,7 +16,7 @@ use ras_grammar::{Decoder, ReadFault};
 
 /// productId or versionId.
 fn skip_product(decoder: &mut Decoder<'_>, present: bool) -> Result<(), ReadFault>
-    ensures { Gives (skipped present (sized_octet_string 1 256)).reading decoder.old result
+    ensures { Parses (skipped present (sized_octet_string 1 256)).reading decoder.old result
         decoder.new }
 {
     if present {
@@ -28,22 +28,19 @@ fn skip_product(decoder: &mut Decoder<'_>, present: bool) -> Result<(), ReadFaul
 /// VendorIdentifier.
 #[tactic(auto, unfolding(crate::specs::EndpointTypes::vendor_identifier))]
 pub fn vendor_identifier(decoder: &mut Decoder<'_>) -> Result<(), ReadFault>
-    ensures { Gives vendor_identifier.reading decoder.old result decoder.new }
+    ensures { Parses vendor_identifier.reading decoder.old result decoder.new }
 {
-    let mut ahead = decoder.ahead();
-    let extended = ahead.boolean()?;
-    let has_product = ahead.boolean()?;
-    let has_version = ahead.boolean()?;
-    h221_non_standard(&mut ahead)?;
-    skip_product(&mut ahead, has_product)?;
-    skip_product(&mut ahead, has_version)?;
-    skip_additions(&mut ahead, extended)?;
-    *decoder = ahead;
-    Ok(())
+    let extended = decoder.boolean()?;
+    let has_product = decoder.boolean()?;
+    let has_version = decoder.boolean()?;
+    h221_non_standard(decoder)?;
+    skip_product(decoder, has_product)?;
+    skip_product(decoder, has_version)?;
+    skip_additions(decoder, extended)
 }
 
 fn skip_vendor(decoder: &mut Decoder<'_>, present: bool) -> Result<(), ReadFault>
-    ensures { Gives (skipped present vendor_identifier).reading decoder.old result decoder.new }
+    ensures { Parses (skipped present vendor_identifier).reading decoder.old result decoder.new }
 {
     if present {
         vendor_identifier(decoder)?;
@@ -54,19 +51,16 @@ fn skip_vendor(decoder: &mut Decoder<'_>, present: bool) -> Result<(), ReadFault
 /// GatekeeperInfo, McuInfo, TerminalInfo, and the types that say that a protocol is supported.
 #[tactic(auto, unfolding(crate::specs::EndpointTypes::node_info))]
 fn node_info(decoder: &mut Decoder<'_>) -> Result<(), ReadFault>
-    ensures { Gives node_info.reading decoder.old result decoder.new }
+    ensures { Parses node_info.reading decoder.old result decoder.new }
 {
-    let mut ahead = decoder.ahead();
-    let extended = ahead.boolean()?;
-    let has_non_standard_data = ahead.boolean()?;
-    skip_non_standard_data(&mut ahead, has_non_standard_data)?;
-    skip_additions(&mut ahead, extended)?;
-    *decoder = ahead;
-    Ok(())
+    let extended = decoder.boolean()?;
+    let has_non_standard_data = decoder.boolean()?;
+    skip_non_standard_data(decoder, has_non_standard_data)?;
+    skip_additions(decoder, extended)
 }
 
 fn skip_node_info(decoder: &mut Decoder<'_>, present: bool) -> Result<(), ReadFault>
-    ensures { Gives (skipped present node_info).reading decoder.old result decoder.new }
+    ensures { Parses (skipped present node_info).reading decoder.old result decoder.new }
 {
     if present {
         node_info(decoder)?;
@@ -77,66 +71,56 @@ fn skip_node_info(decoder: &mut Decoder<'_>, present: bool) -> Result<(), ReadFa
 /// SupportedProtocols.
 #[tactic(auto, unfolding(crate::specs::EndpointTypes::supported_protocols))]
 fn supported_protocols(decoder: &mut Decoder<'_>) -> Result<(), ReadFault>
-    ensures { Gives supported_protocols.reading decoder.old result decoder.new }
+    ensures { Parses supported_protocols.reading decoder.old result decoder.new }
 {
-    let mut ahead = decoder.ahead();
-    if ahead.boolean()? {
-        unknown_alternative(&mut ahead)?;
-    } else if ahead.choice_index(8)? == 0 {
-        non_standard_parameter(&mut ahead)?;
+    if decoder.boolean()? {
+        unknown_alternative(decoder)?;
+    } else if decoder.choice_index(8)? == 0 {
+        non_standard_parameter(decoder)?;
     } else {
-        node_info(&mut ahead)?;
+        node_info(decoder)?;
     }
-    *decoder = ahead;
     Ok(())
 }
 
 /// This many supported protocols.
 fn skip_protocols(decoder: &mut Decoder<'_>, count: u32) -> Result<(), ReadFault>
-    ensures { Gives (each_skipped count supported_protocols).reading decoder.old result
+    ensures { Parses (each_skipped count supported_protocols).reading decoder.old result
         decoder.new }
 {
-    let mut ahead = decoder.ahead();
     for _ in 0..count {
-        supported_protocols(&mut ahead)?;
+        supported_protocols(decoder)?;
     }
-    *decoder = ahead;
     Ok(())
 }
 
 /// The supported protocols of a gateway.
 #[tactic(auto, unfolding(crate::specs::EndpointTypes::protocols))]
 fn protocols(decoder: &mut Decoder<'_>, present: bool) -> Result<(), ReadFault>
-    ensures { Gives (skipped present protocols).reading decoder.old result decoder.new }
+    ensures { Parses (skipped present protocols).reading decoder.old result decoder.new }
 {
     if !present {
         return Ok(());
     }
-    let mut ahead = decoder.ahead();
-    let count = ahead.length()?;
-    skip_protocols(&mut ahead, count)?;
-    *decoder = ahead;
-    Ok(())
+    let count = decoder.length()?;
+    skip_protocols(decoder, count)
 }
 
 /// GatewayInfo.
 #[tactic(auto, unfolding(crate::specs::EndpointTypes::gateway_info))]
 fn gateway_info(decoder: &mut Decoder<'_>) -> Result<(), ReadFault>
-    ensures { Gives gateway_info.reading decoder.old result decoder.new }
+    ensures { Parses gateway_info.reading decoder.old result decoder.new }
 {
-    let mut ahead = decoder.ahead();
-    let extended = ahead.boolean()?;
-    let has_protocol = ahead.boolean()?;
-    let has_non_standard_data = ahead.boolean()?;
-    protocols(&mut ahead, has_protocol)?;
-    skip_non_standard_data(&mut ahead, has_non_standard_data)?;
-    skip_additions(&mut ahead, extended)?;
-    *decoder = ahead;
-    Ok(())
+    let extended = decoder.boolean()?;
+    let has_protocol = decoder.boolean()?;
+    let has_non_standard_data = decoder.boolean()?;
+    protocols(decoder, has_protocol)?;
+    skip_non_standard_data(decoder, has_non_standard_data)?;
+    skip_additions(decoder, extended)
 }
 
 fn skip_gateway(decoder: &mut Decoder<'_>, present: bool) -> Result<(), ReadFault>
-    ensures { Gives (skipped present gateway_info).reading decoder.old result decoder.new }
+    ensures { Parses (skipped present gateway_info).reading decoder.old result decoder.new }
 {
     if present {
         gateway_info(decoder)?;
@@ -147,25 +131,22 @@ fn skip_gateway(decoder: &mut Decoder<'_>, present: bool) -> Result<(), ReadFaul
 /// EndpointType.
 #[tactic(auto, unfolding(crate::specs::EndpointTypes::endpoint_type))]
 pub fn endpoint_type(decoder: &mut Decoder<'_>) -> Result<(), ReadFault>
-    ensures { Gives endpoint_type.reading decoder.old result decoder.new }
+    ensures { Parses endpoint_type.reading decoder.old result decoder.new }
 {
-    let mut ahead = decoder.ahead();
-    let extended = ahead.boolean()?;
-    let has_non_standard_data = ahead.boolean()?;
-    let has_vendor = ahead.boolean()?;
-    let has_gatekeeper = ahead.boolean()?;
-    let has_gateway = ahead.boolean()?;
-    let has_mcu = ahead.boolean()?;
-    let has_terminal = ahead.boolean()?;
-    skip_non_standard_data(&mut ahead, has_non_standard_data)?;
-    skip_vendor(&mut ahead, has_vendor)?;
-    skip_node_info(&mut ahead, has_gatekeeper)?;
-    skip_gateway(&mut ahead, has_gateway)?;
-    skip_node_info(&mut ahead, has_mcu)?;
-    skip_node_info(&mut ahead, has_terminal)?;
-    ahead.boolean()?;
-    ahead.boolean()?;
-    skip_additions(&mut ahead, extended)?;
-    *decoder = ahead;
-    Ok(())
+    let extended = decoder.boolean()?;
+    let has_non_standard_data = decoder.boolean()?;
+    let has_vendor = decoder.boolean()?;
+    let has_gatekeeper = decoder.boolean()?;
+    let has_gateway = decoder.boolean()?;
+    let has_mcu = decoder.boolean()?;
+    let has_terminal = decoder.boolean()?;
+    skip_non_standard_data(decoder, has_non_standard_data)?;
+    skip_vendor(decoder, has_vendor)?;
+    skip_node_info(decoder, has_gatekeeper)?;
+    skip_gateway(decoder, has_gateway)?;
+    skip_node_info(decoder, has_mcu)?;
+    skip_node_info(decoder, has_terminal)?;
+    decoder.boolean()?;
+    decoder.boolean()?;
+    skip_additions(decoder, extended)
 }

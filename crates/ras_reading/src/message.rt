@@ -1,7 +1,8 @@
 //! All messages of RAS (H.225.0, RasMessage).
 
 ghost use Rattle.std.specs.Prelude.{◌≡◌, ◌⊎◌, IfErr};
-ghost use Rattle.ras_grammar.specs.Faults.{GivesUnlessMemory, IsUnlessMemory};
+ghost use Rattle.ras_grammar.specs.Faults.{IsUnlessMemory};
+ghost use Rattle.ras_reading.specs.Parsing.{ParsesUnlessMemory};
 ghost use Rattle.ras_reading.specs.Messages.{ras_message, root_message, message_reading, Reads};
 ghost use Rattle.ras_reading.specs.Messages.{NotServed, IsFaulty};
 ghost use Rattle.ras_module.specs.declared.request.Request.{Request};
@@ -16,36 +17,30 @@ use ras_module::Request;
 use std::alloc::Global;
 
 fn root_message(alloc: Global, decoder: &mut Decoder<'_>) -> Result<Option<Request>, ReadFault>
-    ensures { GivesUnlessMemory root_message.reading decoder.old result decoder.new }
+    ensures { ParsesUnlessMemory root_message.reading decoder.old result decoder.new }
 {
-    let mut ahead = decoder.ahead();
-    let index = ahead.choice_index(24)?;
+    let index = decoder.choice_index(24)?;
     let request = match index {
-        0 => Some(Request::Grq(gatekeeper_request(alloc, &mut ahead)?)),
-        3 => Some(Request::Rrq(registration_request(alloc, &mut ahead)?)),
-        6 => Some(Request::Urq(unregistration_request(alloc, &mut ahead)?)),
-        9 => Some(Request::Arq(admission_request(alloc, &mut ahead)?)),
-        12 => Some(Request::Brq(bandwidth_request(alloc, &mut ahead)?)),
-        15 => Some(Request::Drq(disengage_request(alloc, &mut ahead)?)),
-        22 => Some(Request::Irr(info_request_response(alloc, &mut ahead)?)),
+        0 => Some(Request::Grq(gatekeeper_request(alloc, decoder)?)),
+        3 => Some(Request::Rrq(registration_request(alloc, decoder)?)),
+        6 => Some(Request::Urq(unregistration_request(alloc, decoder)?)),
+        9 => Some(Request::Arq(admission_request(alloc, decoder)?)),
+        12 => Some(Request::Brq(bandwidth_request(alloc, decoder)?)),
+        15 => Some(Request::Drq(disengage_request(alloc, decoder)?)),
+        22 => Some(Request::Irr(info_request_response(alloc, decoder)?)),
         _ => None,
     };
-    *decoder = ahead;
     Ok(request)
 }
 
 #[tactic(auto, unfolding(crate::specs::Messages::ras_message))]
 fn ras_message(alloc: Global, decoder: &mut Decoder<'_>) -> Result<Option<Request>, ReadFault>
-    ensures { GivesUnlessMemory ras_message.reading decoder.old result decoder.new }
+    ensures { ParsesUnlessMemory ras_message.reading decoder.old result decoder.new }
 {
-    let mut ahead = decoder.ahead();
-    let request = if ahead.boolean()? {
-        None
-    } else {
-        root_message(alloc, &mut ahead)?
-    };
-    *decoder = ahead;
-    Ok(request)
+    if decoder.boolean()? {
+        return Ok(None);
+    }
+    root_message(alloc, decoder)
 }
 
 /// The message that octets begin with.

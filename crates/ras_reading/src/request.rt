@@ -1,9 +1,8 @@
 //! The requests of endpoints (H.225.0).
 
-ghost use Rattle.ras_grammar.specs.Faults.{GivesUnlessMemory};
 ghost use Rattle.ras_grammar.specs.Grammar.{boolean};
 ghost use Rattle.ras_grammar.specs.Sequences.{addition, identifier, time_to_live};
-ghost use Rattle.per_bits.specs.Readings.{Gives};
+ghost use Rattle.ras_reading.specs.Parsing.{Parses, ParsesUnlessMemory};
 ghost use Rattle.ras_reading.specs.Requests.{gatekeeper_request, registration_additions};
 ghost use Rattle.ras_reading.specs.Requests.{registration_request, unregistration_request};
 ghost use Rattle.ras_reading.specs.Requests.{admission_preamble, admission_request};
@@ -35,23 +34,20 @@ pub fn gatekeeper_request(
     alloc: Global,
     decoder: &mut Decoder<'_>,
 ) -> Result<Boxed<GatekeeperRequest>, ReadFault>
-    ensures { GivesUnlessMemory gatekeeper_request.reading decoder.old result decoder.new }
+    ensures { ParsesUnlessMemory gatekeeper_request.reading decoder.old result decoder.new }
 {
-    let mut ahead = decoder.ahead();
-    let _extended = ahead.boolean()?;
-    let has_non_standard_data = ahead.boolean()?;
-    let has_gatekeeper = ahead.boolean()?;
-    let _has_call_services = ahead.boolean()?;
-    let _has_endpoint_alias = ahead.boolean()?;
-    let seq = request_seq_num(&mut ahead)?;
-    let _protocol = octet_string(&mut ahead)?;
-    skip_non_standard_data(&mut ahead, has_non_standard_data)?;
-    let _ras = transport_address(&mut ahead)?;
-    endpoint_type(&mut ahead)?;
-    let gatekeeper = optional_identifier(&mut ahead, has_gatekeeper)?;
-    let request = Boxed::new(alloc, GatekeeperRequest { seq, gatekeeper })?;
-    *decoder = ahead;
-    Ok(request)
+    let _extended = decoder.boolean()?;
+    let has_non_standard_data = decoder.boolean()?;
+    let has_gatekeeper = decoder.boolean()?;
+    let _has_call_services = decoder.boolean()?;
+    let _has_endpoint_alias = decoder.boolean()?;
+    let seq = request_seq_num(decoder)?;
+    let _protocol = octet_string(decoder)?;
+    skip_non_standard_data(decoder, has_non_standard_data)?;
+    let _ras = transport_address(decoder)?;
+    endpoint_type(decoder)?;
+    let gatekeeper = optional_identifier(decoder, has_gatekeeper)?;
+    Ok(Boxed::new(alloc, GatekeeperRequest { seq, gatekeeper })?)
 }
 
 /// What is read of the additions of a RegistrationRequest.
@@ -67,16 +63,14 @@ fn time_to_live_at(
     present: &PresentAdditions,
     index: usize,
 ) -> Result<Option<TimeToLive>, ReadFault>
-    ensures { Gives (addition present.now index time_to_live).reading decoder.old result
+    ensures { Parses (addition present.now index time_to_live).reading decoder.old result
         decoder.new }
 {
     if !present.is_present(index) {
         return Ok(None);
     }
-    let mut ahead = decoder.ahead();
-    let octets = ahead.open_type()?;
+    let octets = decoder.open_type()?;
     let seconds = Decoder::new(octets).whole(1, 4_294_967_295)?;
-    *decoder = ahead;
     Ok(Some(TimeToLive::new(seconds).unwrap()))
 }
 
@@ -85,15 +79,13 @@ fn boolean_at(
     present: &PresentAdditions,
     index: usize,
 ) -> Result<Option<bool>, ReadFault>
-    ensures { Gives (addition present.now index boolean).reading decoder.old result decoder.new }
+    ensures { Parses (addition present.now index boolean).reading decoder.old result decoder.new }
 {
     if !present.is_present(index) {
         return Ok(None);
     }
-    let mut ahead = decoder.ahead();
-    let octets = ahead.open_type()?;
+    let octets = decoder.open_type()?;
     let bit = Decoder::new(octets).boolean()?;
-    *decoder = ahead;
     Ok(Some(bit))
 }
 
@@ -102,15 +94,14 @@ fn endpoint_at(
     present: &PresentAdditions,
     index: usize,
 ) -> Result<Option<EndpointId>, ReadFault>
-    ensures { Gives (addition present.now index identifier).reading decoder.old result decoder.new }
+    ensures { Parses (addition present.now index identifier).reading decoder.old result
+        decoder.new }
 {
     if !present.is_present(index) {
         return Ok(None);
     }
-    let mut ahead = decoder.ahead();
-    let octets = ahead.open_type()?;
+    let octets = decoder.open_type()?;
     let endpoint = endpoint_identifier(&mut Decoder::new(octets))?;
-    *decoder = ahead;
     Ok(Some(endpoint))
 }
 
@@ -119,18 +110,16 @@ fn registration_additions(
     decoder: &mut Decoder<'_>,
     extended: bool,
 ) -> Result<RegistrationAdditions, ReadFault>
-    ensures { Gives (registration_additions extended).reading decoder.old result decoder.new }
+    ensures { Parses (registration_additions extended).reading decoder.old result decoder.new }
 {
-    let mut ahead = decoder.ahead();
-    let present = additions(&mut ahead, extended)?;
-    skip_addition(&mut ahead, &present, 0)?;
-    let time_to_live = time_to_live_at(&mut ahead, &present, 1)?;
-    skip_addition(&mut ahead, &present, 2)?;
-    skip_addition(&mut ahead, &present, 3)?;
-    skip_addition(&mut ahead, &present, 4)?;
-    let keep_alive = boolean_at(&mut ahead, &present, 5)?;
-    let endpoint = endpoint_at(&mut ahead, &present, 6)?;
-    *decoder = ahead;
+    let present = additions(decoder, extended)?;
+    skip_addition(decoder, &present, 0)?;
+    let time_to_live = time_to_live_at(decoder, &present, 1)?;
+    skip_addition(decoder, &present, 2)?;
+    skip_addition(decoder, &present, 3)?;
+    skip_addition(decoder, &present, 4)?;
+    let keep_alive = boolean_at(decoder, &present, 5)?;
+    let endpoint = endpoint_at(decoder, &present, 6)?;
     Ok(RegistrationAdditions {
         time_to_live,
         keep_alive: keep_alive.unwrap_or(false),
@@ -144,25 +133,24 @@ pub fn registration_request(
     alloc: Global,
     decoder: &mut Decoder<'_>,
 ) -> Result<Boxed<RegistrationRequest>, ReadFault>
-    ensures { GivesUnlessMemory registration_request.reading decoder.old result decoder.new }
+    ensures { ParsesUnlessMemory registration_request.reading decoder.old result decoder.new }
 {
-    let mut ahead = decoder.ahead();
-    let extended = ahead.boolean()?;
-    let has_non_standard_data = ahead.boolean()?;
-    let has_aliases = ahead.boolean()?;
-    let has_gatekeeper = ahead.boolean()?;
-    let seq = request_seq_num(&mut ahead)?;
-    octet_string(&mut ahead)?;
-    skip_non_standard_data(&mut ahead, has_non_standard_data)?;
-    ahead.boolean()?;
-    let call_signal = address_list(&mut ahead)?;
-    let ras = address_list(&mut ahead)?;
-    endpoint_type(&mut ahead)?;
-    let aliases = optional_aliases(alloc, &mut ahead, has_aliases)?;
-    let gatekeeper = optional_identifier(&mut ahead, has_gatekeeper)?;
-    vendor_identifier(&mut ahead)?;
-    let more = registration_additions(&mut ahead, extended)?;
-    let request = Boxed::new(
+    let extended = decoder.boolean()?;
+    let has_non_standard_data = decoder.boolean()?;
+    let has_aliases = decoder.boolean()?;
+    let has_gatekeeper = decoder.boolean()?;
+    let seq = request_seq_num(decoder)?;
+    octet_string(decoder)?;
+    skip_non_standard_data(decoder, has_non_standard_data)?;
+    decoder.boolean()?;
+    let call_signal = address_list(decoder)?;
+    let ras = address_list(decoder)?;
+    endpoint_type(decoder)?;
+    let aliases = optional_aliases(alloc, decoder, has_aliases)?;
+    let gatekeeper = optional_identifier(decoder, has_gatekeeper)?;
+    vendor_identifier(decoder)?;
+    let more = registration_additions(decoder, extended)?;
+    Ok(Boxed::new(
         alloc,
         RegistrationRequest {
             seq,
@@ -174,9 +162,7 @@ pub fn registration_request(
             keep_alive: more.keep_alive,
             endpoint: more.endpoint,
         },
-    )?;
-    *decoder = ahead;
-    Ok(request)
+    )?)
 }
 
 /// UnregistrationRequest. Its additions are not read.
@@ -185,28 +171,25 @@ pub fn unregistration_request(
     alloc: Global,
     decoder: &mut Decoder<'_>,
 ) -> Result<Boxed<UnregistrationRequest>, ReadFault>
-    ensures { GivesUnlessMemory unregistration_request.reading decoder.old result decoder.new }
+    ensures { ParsesUnlessMemory unregistration_request.reading decoder.old result decoder.new }
 {
-    let mut ahead = decoder.ahead();
-    let _extended = ahead.boolean()?;
-    let has_aliases = ahead.boolean()?;
-    let has_non_standard_data = ahead.boolean()?;
-    let has_endpoint = ahead.boolean()?;
-    let seq = request_seq_num(&mut ahead)?;
-    let call_signal = address_list(&mut ahead)?;
-    skip_aliases(&mut ahead, has_aliases)?;
-    skip_non_standard_data(&mut ahead, has_non_standard_data)?;
-    let endpoint = optional_identifier(&mut ahead, has_endpoint)?;
-    let request = Boxed::new(
+    let _extended = decoder.boolean()?;
+    let has_aliases = decoder.boolean()?;
+    let has_non_standard_data = decoder.boolean()?;
+    let has_endpoint = decoder.boolean()?;
+    let seq = request_seq_num(decoder)?;
+    let call_signal = address_list(decoder)?;
+    skip_aliases(decoder, has_aliases)?;
+    skip_non_standard_data(decoder, has_non_standard_data)?;
+    let endpoint = optional_identifier(decoder, has_endpoint)?;
+    Ok(Boxed::new(
         alloc,
         UnregistrationRequest {
             seq,
             call_signal,
             endpoint: endpoint.map(EndpointId::new),
         },
-    )?;
-    *decoder = ahead;
-    Ok(request)
+    )?)
 }
 
 /// The extension bit of an AdmissionRequest, and which of its components are there.
@@ -224,21 +207,18 @@ struct AdmissionPreamble {
 
 #[tactic(auto, unfolding(crate::specs::Requests::admission_preamble))]
 fn admission_preamble(decoder: &mut Decoder<'_>) -> Result<AdmissionPreamble, ReadFault>
-    ensures { Gives admission_preamble.reading decoder.old result decoder.new }
+    ensures { Parses admission_preamble.reading decoder.old result decoder.new }
 {
-    let mut ahead = decoder.ahead();
-    let preamble = AdmissionPreamble {
-        extended: ahead.boolean()?,
-        has_call_model: ahead.boolean()?,
-        has_dest: ahead.boolean()?,
-        has_dest_address: ahead.boolean()?,
-        has_dest_extra: ahead.boolean()?,
-        has_src_address: ahead.boolean()?,
-        has_non_standard_data: ahead.boolean()?,
-        has_call_services: ahead.boolean()?,
-    };
-    *decoder = ahead;
-    Ok(preamble)
+    Ok(AdmissionPreamble {
+        extended: decoder.boolean()?,
+        has_call_model: decoder.boolean()?,
+        has_dest: decoder.boolean()?,
+        has_dest_address: decoder.boolean()?,
+        has_dest_extra: decoder.boolean()?,
+        has_src_address: decoder.boolean()?,
+        has_non_standard_data: decoder.boolean()?,
+        has_call_services: decoder.boolean()?,
+    })
 }
 
 /// AdmissionRequest.
@@ -247,30 +227,29 @@ pub fn admission_request(
     alloc: Global,
     decoder: &mut Decoder<'_>,
 ) -> Result<Boxed<AdmissionRequest>, ReadFault>
-    ensures { GivesUnlessMemory admission_request.reading decoder.old result decoder.new }
+    ensures { ParsesUnlessMemory admission_request.reading decoder.old result decoder.new }
 {
-    let mut ahead = decoder.ahead();
-    let there = admission_preamble(&mut ahead)?;
-    let seq = request_seq_num(&mut ahead)?;
-    call_type(&mut ahead)?;
-    skip_call_model(&mut ahead, there.has_call_model)?;
-    let endpoint = endpoint_identifier(&mut ahead)?;
-    let dest = optional_aliases(alloc, &mut ahead, there.has_dest)?;
-    let dest_address = optional_address(&mut ahead, there.has_dest_address)?;
-    skip_aliases(&mut ahead, there.has_dest_extra)?;
-    skip_aliases(&mut ahead, true)?;
-    optional_address(&mut ahead, there.has_src_address)?;
-    let asked = ahead.whole(0, 4_294_967_295)?;
-    ahead.whole(0, 65535)?;
-    skip_non_standard_data(&mut ahead, there.has_non_standard_data)?;
-    skip_call_services(&mut ahead, there.has_call_services)?;
-    let conference = octet_array(&mut ahead)?;
-    ahead.boolean()?;
-    let answer = ahead.boolean()?;
-    let present = additions(&mut ahead, there.extended)?;
-    skip_addition(&mut ahead, &present, 0)?;
-    let guid = call_identifier_at(&mut ahead, &present, 1)?;
-    let request = Boxed::new(
+    let there = admission_preamble(decoder)?;
+    let seq = request_seq_num(decoder)?;
+    call_type(decoder)?;
+    skip_call_model(decoder, there.has_call_model)?;
+    let endpoint = endpoint_identifier(decoder)?;
+    let dest = optional_aliases(alloc, decoder, there.has_dest)?;
+    let dest_address = optional_address(decoder, there.has_dest_address)?;
+    skip_aliases(decoder, there.has_dest_extra)?;
+    skip_aliases(decoder, true)?;
+    optional_address(decoder, there.has_src_address)?;
+    let asked = decoder.whole(0, 4_294_967_295)?;
+    decoder.whole(0, 65535)?;
+    skip_non_standard_data(decoder, there.has_non_standard_data)?;
+    skip_call_services(decoder, there.has_call_services)?;
+    let conference = octet_array(decoder)?;
+    decoder.boolean()?;
+    let answer = decoder.boolean()?;
+    let present = additions(decoder, there.extended)?;
+    skip_addition(decoder, &present, 0)?;
+    let guid = call_identifier_at(decoder, &present, 1)?;
+    Ok(Boxed::new(
         alloc,
         AdmissionRequest {
             seq,
@@ -281,9 +260,7 @@ pub fn admission_request(
             call: call_key(conference, guid),
             answer,
         },
-    )?;
-    *decoder = ahead;
-    Ok(request)
+    )?)
 }
 
 /// BandwidthRequest.
@@ -292,22 +269,21 @@ pub fn bandwidth_request(
     alloc: Global,
     decoder: &mut Decoder<'_>,
 ) -> Result<Boxed<BandwidthRequest>, ReadFault>
-    ensures { GivesUnlessMemory bandwidth_request.reading decoder.old result decoder.new }
+    ensures { ParsesUnlessMemory bandwidth_request.reading decoder.old result decoder.new }
 {
-    let mut ahead = decoder.ahead();
-    let extended = ahead.boolean()?;
-    let has_call_type = ahead.boolean()?;
-    let has_non_standard_data = ahead.boolean()?;
-    let seq = request_seq_num(&mut ahead)?;
-    let endpoint = endpoint_identifier(&mut ahead)?;
-    let conference = octet_array(&mut ahead)?;
-    ahead.whole(0, 65535)?;
-    skip_call_type(&mut ahead, has_call_type)?;
-    let asked = ahead.whole(0, 4_294_967_295)?;
-    skip_non_standard_data(&mut ahead, has_non_standard_data)?;
-    let present = additions(&mut ahead, extended)?;
-    let guid = call_identifier_at(&mut ahead, &present, 0)?;
-    let request = Boxed::new(
+    let extended = decoder.boolean()?;
+    let has_call_type = decoder.boolean()?;
+    let has_non_standard_data = decoder.boolean()?;
+    let seq = request_seq_num(decoder)?;
+    let endpoint = endpoint_identifier(decoder)?;
+    let conference = octet_array(decoder)?;
+    decoder.whole(0, 65535)?;
+    skip_call_type(decoder, has_call_type)?;
+    let asked = decoder.whole(0, 4_294_967_295)?;
+    skip_non_standard_data(decoder, has_non_standard_data)?;
+    let present = additions(decoder, extended)?;
+    let guid = call_identifier_at(decoder, &present, 0)?;
+    Ok(Boxed::new(
         alloc,
         BandwidthRequest {
             seq,
@@ -315,9 +291,7 @@ pub fn bandwidth_request(
             call: call_key(conference, guid),
             asked,
         },
-    )?;
-    *decoder = ahead;
-    Ok(request)
+    )?)
 }
 
 /// DisengageRequest.
@@ -326,29 +300,26 @@ pub fn disengage_request(
     alloc: Global,
     decoder: &mut Decoder<'_>,
 ) -> Result<Boxed<DisengageRequest>, ReadFault>
-    ensures { GivesUnlessMemory disengage_request.reading decoder.old result decoder.new }
+    ensures { ParsesUnlessMemory disengage_request.reading decoder.old result decoder.new }
 {
-    let mut ahead = decoder.ahead();
-    let extended = ahead.boolean()?;
-    let has_non_standard_data = ahead.boolean()?;
-    let seq = request_seq_num(&mut ahead)?;
-    let endpoint = endpoint_identifier(&mut ahead)?;
-    let conference = octet_array(&mut ahead)?;
-    ahead.whole(0, 65535)?;
-    disengage_reason(&mut ahead)?;
-    skip_non_standard_data(&mut ahead, has_non_standard_data)?;
-    let present = additions(&mut ahead, extended)?;
-    let guid = call_identifier_at(&mut ahead, &present, 0)?;
-    let request = Boxed::new(
+    let extended = decoder.boolean()?;
+    let has_non_standard_data = decoder.boolean()?;
+    let seq = request_seq_num(decoder)?;
+    let endpoint = endpoint_identifier(decoder)?;
+    let conference = octet_array(decoder)?;
+    decoder.whole(0, 65535)?;
+    disengage_reason(decoder)?;
+    skip_non_standard_data(decoder, has_non_standard_data)?;
+    let present = additions(decoder, extended)?;
+    let guid = call_identifier_at(decoder, &present, 0)?;
+    Ok(Boxed::new(
         alloc,
         DisengageRequest {
             seq,
             endpoint,
             call: call_key(conference, guid),
         },
-    )?;
-    *decoder = ahead;
-    Ok(request)
+    )?)
 }
 
 /// InfoRequestResponse. What stands after endpointIdentifier is not read.
@@ -357,18 +328,15 @@ pub fn info_request_response(
     alloc: Global,
     decoder: &mut Decoder<'_>,
 ) -> Result<Boxed<InfoRequestResponse>, ReadFault>
-    ensures { GivesUnlessMemory info_request_response.reading decoder.old result decoder.new }
+    ensures { ParsesUnlessMemory info_request_response.reading decoder.old result decoder.new }
 {
-    let mut ahead = decoder.ahead();
-    let _extended = ahead.boolean()?;
-    let has_non_standard_data = ahead.boolean()?;
-    let _has_endpoint_alias = ahead.boolean()?;
-    let _has_per_call_info = ahead.boolean()?;
-    skip_non_standard_data(&mut ahead, has_non_standard_data)?;
-    let seq = request_seq_num(&mut ahead)?;
-    endpoint_type(&mut ahead)?;
-    let endpoint = endpoint_identifier(&mut ahead)?;
-    let request = Boxed::new(alloc, InfoRequestResponse { seq, endpoint })?;
-    *decoder = ahead;
-    Ok(request)
+    let _extended = decoder.boolean()?;
+    let has_non_standard_data = decoder.boolean()?;
+    let _has_endpoint_alias = decoder.boolean()?;
+    let _has_per_call_info = decoder.boolean()?;
+    skip_non_standard_data(decoder, has_non_standard_data)?;
+    let seq = request_seq_num(decoder)?;
+    endpoint_type(decoder)?;
+    let endpoint = endpoint_identifier(decoder)?;
+    Ok(Boxed::new(alloc, InfoRequestResponse { seq, endpoint })?)
 }

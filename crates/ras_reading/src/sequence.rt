@@ -1,7 +1,7 @@
 //! Small types that many messages share (H.225.0).
 
 ghost use Rattle.std.specs.Prelude.{◌≡◌, ◌≤◌, ◌<◌, length, take, IfOk};
-ghost use Rattle.per_bits.specs.Readings.{Gives};
+ghost use Rattle.ras_reading.specs.Parsing.{Parses};
 ghost use Rattle.ras_grammar.specs.Grammar.{skipped, optional, each, bits, octets};
 ghost use Rattle.ras_grammar.specs.Sequences.{non_standard_parameter, non_standard_identifier};
 ghost use Rattle.ras_grammar.specs.Sequences.{h221_non_standard, octet_string, sized_octet_string};
@@ -16,7 +16,7 @@ use ras_module::{BmpString, EndpointId, RequestSeqNum};
 
 /// RequestSeqNum.
 pub fn request_seq_num(decoder: &mut Decoder<'_>) -> Result<RequestSeqNum, ReadFault>
-    ensures { Gives request_seq_num.reading decoder.old result decoder.new }
+    ensures { Parses request_seq_num.reading decoder.old result decoder.new }
 {
     let number = decoder.whole(1, 65535)?;
     Ok(RequestSeqNum::new(number as u16).unwrap())
@@ -24,13 +24,10 @@ pub fn request_seq_num(decoder: &mut Decoder<'_>) -> Result<RequestSeqNum, ReadF
 
 /// OCTET STRING without a size.
 pub fn octet_string<'a>(decoder: &mut Decoder<'a>) -> Result<&'a [u8], ReadFault>
-    ensures { Gives octet_string.reading decoder.old (of_octets result) decoder.new }
+    ensures { Parses octet_string.reading decoder.old (of_octets result) decoder.new }
 {
-    let mut ahead = decoder.ahead();
-    let count = ahead.length()?;
-    let octets = ahead.octets(count as usize)?;
-    *decoder = ahead;
-    Ok(octets)
+    let count = decoder.length()?;
+    decoder.octets(count as usize)
 }
 
 /// OCTET STRING (SIZE(lo..hi)).
@@ -40,13 +37,10 @@ pub fn sized_octet_string<'a>(
     hi: u32,
 ) -> Result<&'a [u8], ReadFault>
     requires { lo ≤ hi }
-    ensures { Gives (sized_octet_string lo hi).reading decoder.old (of_octets result) decoder.new }
+    ensures { Parses (sized_octet_string lo hi).reading decoder.old (of_octets result) decoder.new }
 {
-    let mut ahead = decoder.ahead();
-    let count = ahead.whole(lo, hi)?;
-    let octets = ahead.octets(count as usize)?;
-    *decoder = ahead;
-    Ok(octets)
+    let count = decoder.whole(lo, hi)?;
+    decoder.octets(count as usize)
 }
 
 /// Characters of 16 bits, with zeros after them.
@@ -56,16 +50,14 @@ fn characters<const MOST: usize>(
 ) -> Result<[u16; MOST], ReadFault>
     requires some { 1 ≤ count }
     requires few { count ≤ MOST }
-    ensures gives { Gives (each count (bits 16)).reading decoder.old
+    ensures gives { Parses (each count (bits 16)).reading decoder.old
         (front_of count result) decoder.new }
     ensures padded { IfOk result (λ characters. IsPadded MOST characters count) }
 {
-    let mut ahead = decoder.ahead();
     let mut characters = [0; MOST];
     for i in 0..count {
-        characters[i] = ahead.bits(16)? as u16;
+        characters[i] = decoder.bits(16)? as u16;
     }
-    *decoder = ahead;
     Ok(characters)
 }
 
@@ -76,19 +68,17 @@ pub fn bmp_string<const MOST: usize>(
 ) -> Result<BmpString<MOST>, ReadFault>
     requires some { 1 ≤ MOST }
     requires few { MOST ≤ 256 }
-    ensures { Gives (bmp_string MOST).reading decoder.old result decoder.new }
+    ensures { Parses (bmp_string MOST).reading decoder.old result decoder.new }
 {
-    let mut ahead = decoder.ahead();
-    let count = ahead.whole(1, MOST as u32)? as usize;
-    ahead.align();
-    let characters: [u16; MOST] = characters(&mut ahead, count)?;
-    *decoder = ahead;
+    let count = decoder.whole(1, MOST as u32)? as usize;
+    decoder.align();
+    let characters: [u16; MOST] = characters(decoder, count)?;
     Ok(BmpString::of_padded(characters, count))
 }
 
 /// EndpointIdentifier.
 pub fn endpoint_identifier(decoder: &mut Decoder<'_>) -> Result<EndpointId, ReadFault>
-    ensures { Gives identifier.reading decoder.old result decoder.new }
+    ensures { Parses identifier.reading decoder.old result decoder.new }
 {
     Ok(EndpointId::new(bmp_string(decoder)?))
 }
@@ -98,7 +88,7 @@ pub fn optional_identifier(
     decoder: &mut Decoder<'_>,
     present: bool,
 ) -> Result<Option<BmpString<128>>, ReadFault>
-    ensures { Gives (optional present identifier).reading decoder.old result decoder.new }
+    ensures { Parses (optional present identifier).reading decoder.old result decoder.new }
 {
     if present {
         Ok(Some(bmp_string(decoder)?))
@@ -109,76 +99,65 @@ pub fn optional_identifier(
 
 /// An alternative that is no root alternative, whatever it is.
 pub fn unknown_alternative(decoder: &mut Decoder<'_>) -> Result<(), ReadFault>
-    ensures { Gives (unknown_alternative tt).reading decoder.old result decoder.new }
+    ensures { Parses (unknown_alternative tt).reading decoder.old result decoder.new }
 {
-    let mut ahead = decoder.ahead();
-    ahead.small()?;
-    ahead.open_type()?;
-    *decoder = ahead;
+    decoder.small()?;
+    decoder.open_type()?;
     Ok(())
 }
 
 /// A CHOICE of NULLs, by the index of its last root alternative.
 pub fn skip_null_choice(decoder: &mut Decoder<'_>, last: u32) -> Result<(), ReadFault>
-    ensures { Gives (null_choice last).reading decoder.old result decoder.new }
+    ensures { Parses (null_choice last).reading decoder.old result decoder.new }
 {
-    let mut ahead = decoder.ahead();
-    if ahead.boolean()? {
-        unknown_alternative(&mut ahead)?;
+    if decoder.boolean()? {
+        unknown_alternative(decoder)?;
     } else {
-        ahead.choice_index(last)?;
+        decoder.choice_index(last)?;
     }
-    *decoder = ahead;
     Ok(())
 }
 
 /// H221NonStandard (H.225.0).
 #[tactic(auto, unfolding(ras_grammar::specs::Sequences::h221_non_standard))]
 pub fn h221_non_standard(decoder: &mut Decoder<'_>) -> Result<(), ReadFault>
-    ensures { Gives h221_non_standard.reading decoder.old result decoder.new }
+    ensures { Parses h221_non_standard.reading decoder.old result decoder.new }
 {
-    let mut ahead = decoder.ahead();
-    let extended = ahead.boolean()?;
-    ahead.whole(0, 255)?;
-    ahead.whole(0, 255)?;
-    ahead.whole(0, 65535)?;
-    skip_additions(&mut ahead, extended)?;
-    *decoder = ahead;
-    Ok(())
+    let extended = decoder.boolean()?;
+    decoder.whole(0, 255)?;
+    decoder.whole(0, 255)?;
+    decoder.whole(0, 65535)?;
+    skip_additions(decoder, extended)
 }
 
 /// NonStandardIdentifier (H.225.0).
 #[tactic(auto, unfolding(ras_grammar::specs::Sequences::non_standard_identifier))]
 fn non_standard_identifier(decoder: &mut Decoder<'_>) -> Result<(), ReadFault>
-    ensures { Gives non_standard_identifier.reading decoder.old result decoder.new }
+    ensures { Parses non_standard_identifier.reading decoder.old result decoder.new }
 {
-    let mut ahead = decoder.ahead();
-    if ahead.boolean()? {
-        unknown_alternative(&mut ahead)?;
-    } else if ahead.choice_index(1)? == 0 {
-        octet_string(&mut ahead)?;
+    if decoder.boolean()? {
+        unknown_alternative(decoder)?;
+    } else if decoder.choice_index(1)? == 0 {
+        octet_string(decoder)?;
     } else {
-        h221_non_standard(&mut ahead)?;
+        h221_non_standard(decoder)?;
     }
-    *decoder = ahead;
     Ok(())
 }
 
 /// NonStandardParameter (H.225.0).
 #[tactic(auto, unfolding(ras_grammar::specs::Sequences::non_standard_parameter))]
 pub fn non_standard_parameter(decoder: &mut Decoder<'_>) -> Result<(), ReadFault>
-    ensures { Gives non_standard_parameter.reading decoder.old result decoder.new }
+    ensures { Parses non_standard_parameter.reading decoder.old result decoder.new }
 {
-    let mut ahead = decoder.ahead();
-    non_standard_identifier(&mut ahead)?;
-    octet_string(&mut ahead)?;
-    *decoder = ahead;
+    non_standard_identifier(decoder)?;
+    octet_string(decoder)?;
     Ok(())
 }
 
 /// nonStandardData, if it is there.
 pub fn skip_non_standard_data(decoder: &mut Decoder<'_>, present: bool) -> Result<(), ReadFault>
-    ensures { Gives (skipped present non_standard_parameter).reading decoder.old result
+    ensures { Parses (skipped present non_standard_parameter).reading decoder.old result
         decoder.new }
 {
     if present {
@@ -190,7 +169,7 @@ pub fn skip_non_standard_data(decoder: &mut Decoder<'_>, present: bool) -> Resul
 
 /// A fixed number of octets.
 pub fn octet_array<const N: usize>(decoder: &mut Decoder<'_>) -> Result<[u8; N], ReadFault>
-    ensures { Gives (octets N).reading decoder.old result decoder.new }
+    ensures { Parses (octets N).reading decoder.old result decoder.new }
 {
     let mut array = [0; N];
     array.copy_from_slice(decoder.octets(N)?);

@@ -3,6 +3,7 @@ use Rattle.std.proofs.Common.{◌≡◌, ◌≤◌, ◌↔◌, ℕ, Bool, List, 
 use Rattle.std.specs.Bool.{Decides}
 use Rattle.std.proofs.lemmas.Bool.Decides.{same_from_decides}
 use Rattle.ras_module.specs.declared.reply.Reply.{Reply}
+use Rattle.ras_module.specs.declared.reply.TheConstants.Reply as reply_octets
 use Rattle.ras_module.proofs.Deciding.{reply_decides}
 use Rattle.ras_writing.specs.Encoded.{IsEncoded, reply_of, reply_read, same_reply}
 use Rattle.ras_writing.specs.Properties.{ReadsBack}
@@ -18,7 +19,7 @@ pub read_from : (reply : Reply) (octets : List ℕ) → ReadsBack reply
 read_from reply octets h written = ap reply_of written ∙ read_again reply h
 
 pub encoded : (reply : Reply) (octets : List ℕ) → ReadsBack reply → octets ≡ encoding_of reply
-    → length octets ≤ 20000 → IsEncoded octets
+    → length octets ≤ reply_octets.MOST → IsEncoded octets
 encoded reply octets h is few = record {
   written = ap encoding_of (read_from reply octets h is) ∙ sym is;
   few = few;

@@ -28,6 +28,7 @@ use Rattle.ras_module.specs.declared.reply.RegistrationConfirm.{RegistrationConf
 use Rattle.ras_module.specs.declared.reply.Reply.{Reply}
 use Rattle.ras_module.specs.declared.reply.Reply.TheVariants.{Gcf, Grj, Rcf, Rrj, Ucf, Urj, Acf}
 use Rattle.ras_module.specs.declared.reply.Reply.TheVariants.{Arj, Bcf, Brj, Dcf, Drj, Irq, Rip}
+use Rattle.ras_module.specs.declared.reply.TheConstants.Reply as reply_octets
 use Rattle.ras_module.specs.Rooms.{room_of}
 use Rattle.ras_writing.specs.Encoding.{Encoding, in_order, padded_octets, boolean, bits, whole}
 use Rattle.ras_writing.specs.Encoding.{small}
@@ -363,7 +364,7 @@ room_enough reply h =
       (components_fit reply h).here 0 (omega arith),
     )
 
-room_most : (reply : Reply) → IsReply reply → room_of reply ≤ 20000
+room_most : (reply : Reply) → IsReply reply → room_of reply ≤ reply_octets.MOST
 room_most (Gcf confirm) h = omega arith
 room_most (Grj seq reason) h = omega arith
 room_most (Rcf confirm) h = omega (arith, h.named.few)
@@ -385,5 +386,5 @@ room_most (Irq seq) h = omega arith
 room_most (Rip seq delay) h = omega arith
 
 -- the octets that a datagram has room for
-pub few_octets : (reply : Reply) → IsReply reply → length (encoding_of reply) ≤ 20000
+pub few_octets : (reply : Reply) → IsReply reply → length (encoding_of reply) ≤ reply_octets.MOST
 few_octets reply h = omega (arith, room_enough reply h, room_most reply h)

@@ -5,6 +5,7 @@ use Rattle.ras_grammar.specs.declared.fault.ReadFault.{ReadFault}
 use Rattle.ras_grammar.specs.Grammar.{value_of}
 use Rattle.ras_module.specs.declared.reply.Reply.{Reply}
 use Rattle.ras_module.specs.declared.reply.Reply.TheVariants.{Ucf}
+use Rattle.ras_module.specs.declared.reply.TheConstants.Reply as reply_octets
 use Rattle.ras_module.specs.contracts.reply.ReplyPartialEq.TheImpl as reply_eq
 use Rattle.ras_writing.specs.Replies.{encoding_of}
 use Rattle.ras_writing.specs.ReplyGrammar.{reply_message}
@@ -25,4 +26,4 @@ same_reply a b = (reply_eq.ghosts).eq a b
 -- these octets are what is written for the reply as which they are read
 pub record IsEncoded (octets : List ℕ) : Type 0 where
   pub written : encoding_of (reply_of octets) ≡ octets
-  pub few : length octets ≤ 20000
+  pub few : length octets ≤ reply_octets.MOST

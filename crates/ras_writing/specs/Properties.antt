@@ -6,6 +6,7 @@ use Rattle.per_bits.specs.Bits.{bits_of}
 use Rattle.ras_grammar.specs.Grammar.{value_of}
 use Rattle.ras_module.specs.declared.alias.Alias.{Alias}
 use Rattle.ras_module.specs.declared.alias.Alias.TheVariants.{Digits, H323Id}
+use Rattle.ras_module.specs.declared.alias_list.TheConstants.ReplyAliases as reply_aliases
 use Rattle.ras_module.specs.declared.reason.RegistrationRejectReason.{RegistrationRejectReason}
 use Rattle.ras_module.specs.declared.reason.RegistrationRejectReason.TheVariants.{DuplicateAlias}
 use Rattle.ras_module.specs.DialledDigits.{AreDialled}
@@ -45,7 +46,7 @@ IsAlias (H323Id text) = IsH323Id text
 
 -- what the type of a reply's aliases keeps
 pub record AreAliases (aliases : List Alias) : Type 0 where
-  pub few : length aliases ≤ 32
+  pub few : length aliases ≤ reply_aliases.MOST
   pub each : AllByRecursion IsAlias aliases
 
 abbrev pub IsSeq : ℕ → Type 0

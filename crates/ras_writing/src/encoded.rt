@@ -12,7 +12,7 @@ use std::alloc::AllocError;
 use std::marker::Model;
 
 /// A reply, as the octets that are sent for it (ITU-T H.225.0). A RegistrationConfirm takes a tenth
-/// of the memory so, and none takes more than 20,000 octets. Contracts see the reply.
+/// of the memory so, and none takes more than `Reply::MOST` octets. Contracts see the reply.
 #[derive(Drop)]
 pub struct EncodedReply {
     octets: Vec<u8>,
@@ -21,13 +21,14 @@ pub struct EncodedReply {
 impl Model for EncodedReply {
     ghost use Rattle.std.specs.Prelude.{◌≤◌, vec_capacity};
     ghost use Rattle.ras_module.specs.declared.reply.Reply.{Reply};
+    ghost use Rattle.ras_module.specs.declared.reply.TheConstants.Reply as reply_octets;
     ghost use Rattle.ras_writing.specs.Encoded.{IsEncoded, reply_of};
 
     ghost Value = { Reply };
 
     ghost view = { λ e. reply_of e.octets.items };
 
-    ghost invariant = { λ e. IsEncoded e.octets.items × (vec_capacity e.octets ≤ 20000) };
+    ghost invariant = { λ e. IsEncoded e.octets.items × (vec_capacity e.octets ≤ reply_octets.MOST) };
 }
 
 impl EncodedReply {
@@ -36,9 +37,9 @@ impl EncodedReply {
     pub fn new(buffer: Vec<u8>, reply: &Reply, octets: &[u8]) -> Self
         requires empty { buffer.items ≡ [] }
         requires room { length octets.now ≤ vec_capacity buffer }
-        requires bounded { vec_capacity buffer ≤ 20000 }
+        requires bounded { vec_capacity buffer ≤ Reply.MOST }
         requires written { octets.now ≡ encoding_of reply.now }
-        requires few { length octets.now ≤ 20000 }
+        requires few { length octets.now ≤ Reply.MOST }
         requires reads_back { ReadsBack reply.now }
         ensures { result ≡ reply.now }
     {
@@ -51,7 +52,7 @@ impl EncodedReply {
     pub fn as_slice(&self) -> &[u8]
         ensures octets { result.now ≡ encoding_of self.now }
         ensures read { reply_of result.now ≡ self.now }
-        ensures few { length result.now ≤ 20000 }
+        ensures few { length result.now ≤ Reply.MOST }
     {
         &self.octets
     }

@@ -16,7 +16,7 @@ ghost use Rattle.std.specs.List.{AllByRecursion};
 ghost use Rattle.ras_module.specs.declared.alias.Alias.TheVariants as alias;
 
 use per_bits::BitWriter;
-use ras_module::{Address, Alias, DialledDigits, H323Id, RequestSeqNum};
+use ras_module::{Address, Alias, DialledDigits, H323Id, ReplyAliases, RequestSeqNum};
 
 /// A message before the extension marker of RasMessage, by its index.
 pub fn root_message(writer: &mut BitWriter, index: u32)
@@ -227,9 +227,9 @@ fn alias_addresses(writer: &mut BitWriter, aliases: &[Alias])
     }
 }
 
-/// SEQUENCE OF AliasAddress, of at most 32 aliases.
+/// SEQUENCE OF AliasAddress, of no more aliases than a reply has.
 pub fn alias_list(writer: &mut BitWriter, aliases: &[Alias])
-    requires few { length aliases.now ≤ 32 }
+    requires few { length aliases.now ≤ ReplyAliases.MOST }
     requires room { 23 + 4128 * length aliases.now ≤ writer.old.room }
     ensures writes { Writes (23 + 4128 * length aliases.now) (alias_list aliases.now) writer.old
         writer.new }

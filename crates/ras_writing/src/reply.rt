@@ -28,7 +28,7 @@ use per_bits::BitWriter;
 use ras_module::{
     Address, AdmissionRejectReason, Alias, BandRejectReason, Delay, DisengageRejectReason,
     GatekeeperConfirm, GatekeeperRejectReason, RegistrationConfirm, RegistrationRejectReason,
-    Reply, RequestSeqNum, TimeToLive, UnregRejectReason,
+    Reply, ReplyAliases, RequestSeqNum, TimeToLive, UnregRejectReason,
 };
 use std::alloc::AllocError;
 use std::mem;
@@ -165,7 +165,7 @@ fn registration_confirm_additions(writer: &mut BitWriter, granted: TimeToLive)
 /// terminalAlias, if there are aliases.
 #[tactic(auto, unfolding(crate::specs::Replies::terminal_alias))]
 fn terminal_alias(writer: &mut BitWriter, aliases: &[Alias])
-    requires few { length aliases.now ≤ 32 }
+    requires few { length aliases.now ≤ ReplyAliases.MOST }
     requires room { 23 + 4128 * length aliases.now ≤ writer.old.room }
     ensures writes { Writes (23 + 4128 * length aliases.now) (terminal_alias aliases.now)
         writer.old writer.new }
@@ -454,7 +454,7 @@ pub fn write_reserved(reply: &Reply, octets: &mut Vec<u8>)
     requires { vec_len octets.old + room_of reply.now ≤ vec_capacity octets.old }
     ensures written { octets.new.items ≡ octets.old.items ++ encoding_of reply.now }
     ensures room { length (encoding_of reply.now) ≤ room_of reply.now }
-    ensures most { length (encoding_of reply.now) ≤ 20000 }
+    ensures most { length (encoding_of reply.now) ≤ Reply.MOST }
     ensures reads_back { ReadsBack reply.now }
 {
     let empty = Vec::new(*octets.allocator());
@@ -473,7 +473,7 @@ pub fn write_into(reply: &Reply, octets: &mut Vec<u8>) -> Result<(), AllocError>
     ensures succeeds { vec_len octets.old + room_of reply.now ≤ vec_capacity octets.old
         → IsOk result }
     ensures room { OnOk result (length (encoding_of reply.now) ≤ room_of reply.now) }
-    ensures most { OnOk result (length (encoding_of reply.now) ≤ 20000) }
+    ensures most { OnOk result (length (encoding_of reply.now) ≤ Reply.MOST) }
     ensures reads_back { OnOk result (ReadsBack reply.now) }
 {
     octets.reserve(reply.room())?;

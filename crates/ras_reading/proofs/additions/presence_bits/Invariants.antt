@@ -6,6 +6,6 @@ use Rattle.ras_reading.proofs.additions.presence_bits.Given as goal
 abbrev pub invariant-loop-i : goal.invariant-loop-i
 invariant-loop-i l = record {
   full : length l.present ≡ 64;
-  so_far : folded adding boolean.reading (l.count - l.i) (take l.i l.present) l.ahead
-      ≡ folded adding boolean.reading l.count [] l.decoder;
+  so_far : folded adding boolean.reading (l.count - l.i) (take l.i l.present) l.decoder
+      ≡ folded adding boolean.reading l.count [] l.initial.decoder;
 }

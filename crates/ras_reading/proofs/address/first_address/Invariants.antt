@@ -6,5 +6,5 @@ use Rattle.ras_reading.proofs.address.first_address.Given as goal
 
 abbrev pub invariant-loop : goal.invariant-loop
 invariant-loop l = folded option_or transport_address.reading
-    (l.count - l.counter) l.first l.ahead ≡ folded option_or transport_address.reading l.count
-    None l.decoder
+    (l.count - l.counter) l.first l.decoder ≡ folded option_or transport_address.reading l.count
+    None l.initial.decoder

@@ -4,5 +4,5 @@ use Rattle.ras_reading.proofs.Each.{folded, dropping}
 use Rattle.ras_reading.proofs.address.skip_route.Given as goal
 
 abbrev pub invariant-loop : goal.invariant-loop
-invariant-loop l = folded dropping (octets 4).reading (l.count - l.counter) tt l.ahead
-    ≡ folded dropping (octets 4).reading l.count tt l.decoder
+invariant-loop l = folded dropping (octets 4).reading (l.count - l.counter) tt l.decoder
+    ≡ folded dropping (octets 4).reading l.count tt l.initial.decoder

@@ -1,4 +1,4 @@
-use Rattle.std.proofs.Common.{◌≡◌, ◌<◌, arith, ◌∙◌, refl, length, length-set}
+use Rattle.std.proofs.Common.{◌≡◌, ◌<◌, arith, ◌∙◌, length, length-set}
 use Rattle.std.proofs.lemmas.Result.{err_from_is_err_and}
 use Rattle.ras_grammar.specs.Aliases.{digit}
 use Rattle.ras_grammar.proofs.Dialled.{AreDialled-more}
@@ -9,12 +9,9 @@ use Rattle.ras_reading.proofs.alias.digits.Goals as goal
 pub returns-in_err-digits-clause-gives : goal.returns-in_err-digits-clause-gives
 returns-in_err-digits-clause-gives c =
     let p = err_from_is_err_and c.from_residual.result c.from_residual.ensures.1 in
-    rw (p.1, p.2) (
-      each-fault adding digit c.args.count c.loop-i.i _ _ c.args.decoder.now
-          c.loop-i.ahead c.loop-i.invariant.so_far _ c.loop-i-test.true
-          c.in_err-digits.ensures.gives.0,
-      refl,
-    )
+    rw (p.1, p.2) (each-fault adding digit c.args.count c.loop-i.i _ _ c.args.decoder.now
+    c.loop-i.decoder c.loop-i.invariant.so_far _ c.loop-i-test.true
+    c.in_err-digits.ensures.gives)
 
 pub loop-i-preserved : goal.loop-i-preserved
 loop-i-preserved c =
@@ -22,7 +19,7 @@ loop-i-preserved c =
     record {
       full = length-set c.loop-i.digits c.loop-i.i c.in_ok-digits.field-0 ∙ c.loop-i.invariant.full;
       so_far = array-more digit c.args.count c.loop-i.i c.loop-i.digits c.args.decoder.now
-          c.loop-i.ahead c.loop-i.invariant.so_far c.in_ok-digits.field-0 c.digit.new.decoder
+          c.loop-i.decoder c.loop-i.invariant.so_far c.in_ok-digits.field-0 c.digit.new.decoder
           c.loop-i-test.true within c.in_ok-digits.ensures.gives;
       dialled = AreDialled-more c.loop-i.digits c.loop-i.i c.in_ok-digits.field-0 within
           c.loop-i.invariant.dialled c.in_ok-digits.ensures.dialled;
@@ -32,7 +29,7 @@ loop-i-preserved c =
 
 pub returns-clause-gives : goal.returns-clause-gives
 returns-clause-gives c = array-done digit c.args.count c.loop-i.i c.loop-i.digits
-    c.args.decoder.now c.loop-i.ahead c.loop-i.invariant.so_far (omega arith)
+    c.args.decoder.now c.loop-i.decoder c.loop-i.invariant.so_far (omega arith)
 
 pub returns-clause-padded : goal.returns-clause-padded
 returns-clause-padded c =

@@ -5,5 +5,5 @@ use Rattle.ras_grammar.specs.Aliases.{keeping}
 use Rattle.ras_reading.proofs.alias.served_aliases.Given as goal
 
 abbrev pub invariant-loop : goal.invariant-loop
-invariant-loop l = folded keeping alias_address.reading (l.count - l.counter) l.aliases l.ahead
-    ≡ folded keeping alias_address.reading l.count [] l.decoder
+invariant-loop l = folded keeping alias_address.reading (l.count - l.counter) l.aliases l.decoder
+    ≡ folded keeping alias_address.reading l.count [] l.initial.decoder

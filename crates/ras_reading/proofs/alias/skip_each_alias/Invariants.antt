@@ -4,5 +4,5 @@ use Rattle.ras_reading.proofs.Each.{folded, dropping}
 use Rattle.ras_reading.proofs.alias.skip_each_alias.Given as goal
 
 abbrev pub invariant-loop : goal.invariant-loop
-invariant-loop l = folded dropping alias_address.reading (l.count - l.counter) tt l.ahead
-    ≡ folded dropping alias_address.reading l.count tt l.decoder
+invariant-loop l = folded dropping alias_address.reading (l.count - l.counter) tt l.decoder
+    ≡ folded dropping alias_address.reading l.count tt l.initial.decoder

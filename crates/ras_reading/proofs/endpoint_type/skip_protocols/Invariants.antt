@@ -4,5 +4,5 @@ use Rattle.ras_reading.proofs.Each.{folded, dropping}
 use Rattle.ras_reading.proofs.endpoint_type.skip_protocols.Given as goal
 
 abbrev pub invariant-loop : goal.invariant-loop
-invariant-loop l = folded dropping supported_protocols.reading (l.count - l.counter) tt l.ahead
-    ≡ folded dropping supported_protocols.reading l.count tt l.decoder
+invariant-loop l = folded dropping supported_protocols.reading (l.count - l.counter) tt l.decoder
+    ≡ folded dropping supported_protocols.reading l.count tt l.initial.decoder

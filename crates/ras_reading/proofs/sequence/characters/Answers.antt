@@ -1,4 +1,4 @@
-use Rattle.std.proofs.Common.{◌≡◌, ◌<◌, arith, ◌∙◌, refl, length, length-set}
+use Rattle.std.proofs.Common.{◌≡◌, ◌<◌, arith, ◌∙◌, length, length-set}
 use Rattle.std.proofs.lemmas.Result.{err_from_is_err_and}
 use Rattle.ras_grammar.specs.Grammar.{bits}
 use Rattle.ras_reading.proofs.Each.{adding, each-fault, array-more, array-done}
@@ -8,12 +8,9 @@ use Rattle.ras_reading.proofs.sequence.characters.Goals as goal
 pub returns-in_err-characters-clause-gives : goal.returns-in_err-characters-clause-gives
 returns-in_err-characters-clause-gives g c =
     let p = err_from_is_err_and c.from_residual.result c.from_residual.ensures.1 in
-    rw (p.1, p.2) (
-      each-fault adding (bits 16) c.args.count c.loop-i.i _ _ c.args.decoder.now
-          c.loop-i.ahead c.loop-i.invariant.so_far _ c.loop-i-test.true
-          c.in_err-characters.ensures.gives.0,
-      refl,
-    )
+    rw (p.1, p.2) (each-fault adding (bits 16) c.args.count c.loop-i.i _ _ c.args.decoder.now
+    c.loop-i.decoder c.loop-i.invariant.so_far _ c.loop-i-test.true
+    c.in_err-characters.ensures.gives.0)
 
 pub loop-i-preserved : goal.loop-i-preserved
 loop-i-preserved g c =
@@ -22,7 +19,7 @@ loop-i-preserved g c =
       full = length-set c.loop-i.characters c.loop-i.i c.in_ok-characters.field-0
           ∙ c.loop-i.invariant.full;
       so_far = array-more (bits 16) c.args.count c.loop-i.i c.loop-i.characters c.args.decoder.now
-          c.loop-i.ahead c.loop-i.invariant.so_far c.in_ok-characters.field-0 c.bits.new.self
+          c.loop-i.decoder c.loop-i.invariant.so_far c.in_ok-characters.field-0 c.bits.new.self
           c.loop-i-test.true within c.in_ok-characters.ensures.gives;
       zeros = zeros_after c.loop-i.characters c.loop-i.i g.row.MOST c.in_ok-characters.field-0
           c.loop-i.invariant.zeros;
@@ -30,7 +27,7 @@ loop-i-preserved g c =
 
 pub returns-clause-gives : goal.returns-clause-gives
 returns-clause-gives g c = array-done (bits 16) c.args.count c.loop-i.i c.loop-i.characters
-    c.args.decoder.now c.loop-i.ahead c.loop-i.invariant.so_far (omega arith)
+    c.args.decoder.now c.loop-i.decoder c.loop-i.invariant.so_far (omega arith)
 
 pub returns-clause-padded : goal.returns-clause-padded
 returns-clause-padded g c =
