@@ -1,8 +1,7 @@
 -- What is due of the endpoints, and what a search through them says of it.
 use Rattle.std.proofs.Common.{◌≡◌, ℕ, ◌<◌, List, length, refl, sym, ◌∙◌, ap, subst, cond, Some}
-use Rattle.std.proofs.Common.{None, Option, Bool, true, false, nat_eq, arith}
-use Rattle.std.specs.Prelude.{slice_get, IsTrue}
-use Rattle.std.specs.Option.{IsSomeAnd}
+use Rattle.std.proofs.Common.{None, Bool, true, false, nat_eq, arith}
+use Rattle.std.specs.Prelude.{slice_get}
 use Rattle.std.specs.FinMap as fin
 use Rattle.std.proofs.lemmas.Bool.Decides.{Decides-eqb}
 use Rattle.std.proofs.lemmas.Cmp.{nat_list_cmp_total}
@@ -13,22 +12,15 @@ use Rattle.keyed.proofs.Rows.{IsMapOf-rows, len_rows}
 use Rattle.admission.specs.Calls.{OpenCalls, legs_of}
 use Rattle.registrations.specs.Registry.{Live, Registry, IsConsistent, IsNumbered, identifier_of}
 use Rattle.registrations.specs.declared.registration.Registration.{Registration}
-use Rattle.expiry.specs.Due.{IsEndpointItem, IsInCall, IsLiveAnd, IsNoEndpointDue}
-use Rattle.expiry.specs.Due.{is_to_be_asked, is_silent}
+use Rattle.registrations.specs.Silence.{is_to_be_asked, is_silent}
 use Rattle.expiry.specs.inside.Searched.{item_of}
 use Rattle.registrations.specs.declared.times.Times.{Times}
 use Rattle.zone_events.specs.declared.due_item.DueItem.{DueItem}
 use Rattle.zone_events.specs.declared.due_item.DueItem.TheVariants.{RegistrationOver, Interrogate}
 use Rattle.zone_events.specs.declared.due_item.DueItem.TheVariants.{Silent, Retry}
 use Rattle.zone_events.specs.declared.due_item.DueItem.TheVariants.{KeptOver, PoolTurn}
-
-pub the_live : (test : Registration → Bool) (live : Live) (id : List ℕ) → IsLiveAnd test live id
-    → (r : Registration) × (fin.get live id ≡ Some r) × (test r ≡ true)
-the_live test live id h = cases (fin.get live id) refl h where
-  cases : (w : Option Registration) → fin.get live id ≡ w → IsSomeAnd w (λ r. IsTrue (test r))
-      → (r : Registration) × (fin.get live id ≡ Some r) × (test r ≡ true)
-  cases None is h = absurd h
-  cases (Some r) is h = (r, is, h)
+use Rattle.zone_tables.specs.EndpointsDue.{IsEndpointItem, IsInCall, IsLiveAnd, IsNoEndpointDue}
+use Rattle.zone_tables.proofs.Ending.{the_live}
 
 -- no registration passes if all are later
 pub none_live : (test : Registration → Bool) (live : Live) (id : List ℕ)

@@ -7,7 +7,8 @@ use Rattle.kept_replies.specs.Kept.{KeptTable, IsConsistent, NonePasses, is_over
 use Rattle.kept_replies.proofs.Births.{none_passes}
 use Rattle.registrations.specs.Registry.{Live}
 use Rattle.registrations.specs.declared.registration.Registration.{Registration}
-use Rattle.expiry.specs.Due.{IsDue, IsNoEndpointDue, IsNothingDue, is_deadline_past}
+use Rattle.zone_tables.specs.EndpointsDue.{IsNoEndpointDue}
+use Rattle.expiry.specs.Due.{IsDue, IsNothingDue, is_deadline_past}
 use Rattle.registrations.specs.declared.times.Times.{Times}
 use Rattle.zone_events.specs.declared.due_item.DueItem.{DueItem}
 use Rattle.zone_events.specs.declared.due_item.DueItem.TheVariants.{RegistrationOver, Interrogate}

@@ -2,14 +2,15 @@
 
 ghost use Rattle.std.specs.Prelude.{◌↔◌, IsTrue};
 ghost use Rattle.kept_replies.specs.Kept.{Passes, is_over, is_retry};
-ghost use Rattle.expiry.specs.Due.{IsDue, IsInCall, IsLiveAnd, is_deadline_past};
-ghost use Rattle.expiry.specs.Due.{is_silent, is_to_be_asked};
+ghost use Rattle.registrations.specs.Silence.{is_silent, is_to_be_asked};
+ghost use Rattle.zone_tables.specs.EndpointsDue.{IsLiveAnd};
+ghost use Rattle.expiry.specs.Due.{IsDue, is_deadline_past};
 
-use crate::due_search::{is_in_call, is_silent, is_to_be_asked};
+use crate::due_search::is_in_call;
 use admission::Calls;
 use kept_replies::Kept;
 use ras_module::EndpointId;
-use registrations::{Registrations, Times};
+use registrations::{Registrations, Times, is_silent, is_to_be_asked};
 use zone_events::DueItem;
 
 /// Whether this item is due now. The pools' next turn is at the moment `next_turn`. Moments are in

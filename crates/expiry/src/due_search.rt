@@ -1,8 +1,8 @@
 //! The search for what is due.
 
-ghost use Rattle.std.specs.Prelude.{◌≡◌, ◌+◌, ◌↔◌, nat_le, IsTrue, MatchOption};
-ghost use Rattle.expiry.specs.Due.{IsDue, IsEndpointItem, IsInCall, IsNoEndpointDue, IsNothingDue};
-ghost use Rattle.expiry.specs.Due.{is_to_be_asked, is_silent, item_in_call};
+ghost use Rattle.std.specs.Prelude.{◌≡◌, ◌↔◌, IsTrue, MatchOption};
+ghost use Rattle.zone_tables.specs.EndpointsDue.{IsEndpointItem, IsInCall, IsNoEndpointDue};
+ghost use Rattle.expiry.specs.Due.{IsDue, IsNothingDue};
 ghost use Rattle.registrations.specs.declared.times.Times.{Times};
 ghost use Rattle.admission.specs.Calls.{OpenCalls};
 ghost use Rattle.expiry.specs.inside.Searched.{item_of};
@@ -12,6 +12,7 @@ use kept_replies::Kept;
 use ras_module::EndpointId;
 use registrations::{Registration, Registrations, Times};
 use zone_events::DueItem;
+use zone_tables::item_in_call;
 
 /// Something that is due now: any one item that is due. None if and only if nothing is due. The
 /// pools' next turn is at the moment `next_turn`. Moments are in milliseconds. This takes no
@@ -103,41 +104,4 @@ pub(crate) fn is_in_call(calls: &Calls, endpoint: &EndpointId) -> bool
     ensures { IsTrue result ↔ IsInCall calls.now.calls endpoint.now }
 {
     calls.legs_of(endpoint) > 0
-}
-
-/// What is due of this endpoint if it takes part in a call.
-pub fn item_in_call(registration: &Registration, now: u64, times: &Times) -> Option<DueItem>
-    ensures { result ≡ item_in_call now times.now registration.now }
-{
-    if is_to_be_asked(registration, now, times) {
-        return Some(DueItem::Interrogate(registration.identifier));
-    }
-    if is_silent(registration, now, times) {
-        return Some(DueItem::Silent(registration.identifier));
-    }
-    None
-}
-
-/// Whether an endpoint in a call is to be asked for a sign of life.
-pub(crate) fn is_to_be_asked(registration: &Registration, now: u64, times: &Times) -> bool
-    ensures { result ≡ is_to_be_asked times.now now registration.now }
-{
-    if registration.tries == 0 {
-        return has_passed(registration.heard, times.silence, now);
-    }
-    registration.tries < times.asks && has_passed(registration.asked, times.ask_wait, now)
-}
-
-/// Whether an endpoint in a call was interrogated `asks` times and gave no sign of life.
-pub(crate) fn is_silent(registration: &Registration, now: u64, times: &Times) -> bool
-    ensures { result ≡ is_silent times.now now registration.now }
-{
-    registration.tries == times.asks && has_passed(registration.asked, times.ask_wait, now)
-}
-
-/// Whether the time `wait` has passed since a moment.
-const fn has_passed(since: u64, wait: u64, now: u64) -> bool
-    ensures { result ≡ nat_le (since + wait) now }
-{
-    since <= now && wait <= now - since
 }

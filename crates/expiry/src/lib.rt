@@ -6,6 +6,6 @@ mod due_item;
 mod due_search;
 
 pub use due_item::is_due;
-pub use due_search::{due, due_beside, item_in_call};
+pub use due_search::{due, due_beside};
 pub use registrations::Times;
 pub use zone_events::DueItem;

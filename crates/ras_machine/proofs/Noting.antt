@@ -7,7 +7,7 @@ use Rattle.std.proofs.lemmas.Bool.Decides.{nat_tests}
 use Rattle.registrations.specs.declared.registration.Registration.{Registration}
 use Rattle.zone_events.specs.declared.due_item.DueItem.{DueItem}
 use Rattle.registrations.specs.declared.times.Times.{Times}
-use Rattle.expiry.specs.Due.{is_to_be_asked}
+use Rattle.registrations.specs.Silence.{is_to_be_asked}
 use Rattle.zone_events.specs.declared.outcome.Datagram.{Datagram}
 use Rattle.zone_events.specs.declared.outcome.Note.TheVariants as note
 use Rattle.zone_events.specs.declared.outcome.Outcome.{Outcome}

@@ -1,6 +1,7 @@
 -- When the silence of an endpoint ends: an endpoint that takes part in a call and gives no sign of
--- life until then is asked for one (H.323, 8.4.2, status).
-use Rattle.std.specs.Prelude.{◌+◌, ◌^◌, ◌≤◌, ℕ, List, Option, Some, None}
+-- life until then is asked for one (H.323, 8.4.2, status), a number of times in a row. If it answers
+-- none of them, it counts as silent.
+use Rattle.std.specs.Prelude.{◌+◌, ◌^◌, ◌≤◌, ◌&&◌, ◌||◌, ℕ, Bool, List, Option, Some, None}
 use Rattle.std.specs.Prelude.{nat_eq, nat_le, nat_lt, if◌then◌else◌}
 use Rattle.std.specs.Option.{IsSomeAnd, option_and_then}
 use Rattle.std.specs.FinMap.{get}
@@ -32,3 +33,24 @@ end_at times live legs id =
 -- its silence has ended
 abbrev pub HasEnded : ℕ → Times → Live → LegCounts → List ℕ → Type 0
 HasEnded now times live legs id = IsSomeAnd (end_at times live legs id) (λ moment. moment ≤ now)
+
+-- nothing was heard for some time, and it wasn't asked since
+abbrev pub is_unheard : Times → ℕ → Registration → Bool
+is_unheard times now r = nat_eq r.tries 0 && nat_le (r.heard + times.silence) now
+
+-- it was asked, and the time for an answer is over
+abbrev pub is_unanswered : Times → ℕ → Registration → Bool
+is_unanswered times now r = nat_le (r.asked + times.ask_wait) now
+
+-- it may be asked once more
+abbrev pub is_asked_less : Times → Registration → Bool
+is_asked_less times r = nat_le 1 r.tries && nat_lt r.tries times.asks
+
+-- if it is in a call, it is to be asked for a sign of life
+abbrev pub is_to_be_asked : Times → ℕ → Registration → Bool
+is_to_be_asked times now r =
+    is_unheard times now r || is_asked_less times r && is_unanswered times now r
+
+-- it was interrogated `asks` times and gave no sign of life
+abbrev pub is_silent : Times → ℕ → Registration → Bool
+is_silent times now r = nat_eq r.tries times.asks && is_unanswered times now r

@@ -14,5 +14,6 @@ mod times;
 pub use fault::AddFault;
 pub use list::RegistrationList;
 pub use registration::Registration;
+pub use silence::{is_silent, is_to_be_asked};
 pub use table::Registrations;
 pub use times::Times;

@@ -1,9 +1,9 @@
-//! When the silence of an endpoint ends.
+//! When the silence of an endpoint ends, and what is due of it then.
 
-ghost use Rattle.std.specs.Prelude.{◌≡◌, ◌<◌};
+ghost use Rattle.std.specs.Prelude.{◌≡◌, ◌+◌, ◌<◌, nat_le};
 ghost use Rattle.std.specs.FinMap as map;
 ghost use Rattle.keyed.specs.Maps.{Changed};
-ghost use Rattle.registrations.specs.Silence.{end_in_call, end_of};
+ghost use Rattle.registrations.specs.Silence.{end_in_call, end_of, is_silent, is_to_be_asked};
 
 use crate::registration::Registration;
 use crate::times::Times;
@@ -31,6 +31,31 @@ fn end_in_call(registration: &Registration, times: &Times) -> Option<u64>
         return None;
     }
     registration.asked.checked_add(times.ask_wait)
+}
+
+/// Whether an endpoint in a call is to be asked for a sign of life. Moments are in milliseconds.
+pub fn is_to_be_asked(registration: &Registration, now: u64, times: &Times) -> bool
+    ensures { result ≡ is_to_be_asked times.now now registration.now }
+{
+    if registration.tries == 0 {
+        return has_passed(registration.heard, times.silence, now);
+    }
+    registration.tries < times.asks && has_passed(registration.asked, times.ask_wait, now)
+}
+
+/// Whether an endpoint in a call was interrogated `asks` times and gave no sign of life. Moments
+/// are in milliseconds.
+pub fn is_silent(registration: &Registration, now: u64, times: &Times) -> bool
+    ensures { result ≡ is_silent times.now now registration.now }
+{
+    registration.tries == times.asks && has_passed(registration.asked, times.ask_wait, now)
+}
+
+/// Whether the time `wait` has passed since a moment.
+const fn has_passed(since: u64, wait: u64, now: u64) -> bool
+    ensures { result ≡ nat_le (since + wait) now }
+{
+    since <= now && wait <= now - since
 }
 
 /// Gives this place the moment, or none.

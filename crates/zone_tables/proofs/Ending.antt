@@ -9,14 +9,12 @@ use Rattle.std.specs.FinMap as fin
 use Rattle.std.proofs.lemmas.Bool.{leb-true}
 use Rattle.std.proofs.lemmas.Bool.Decides.{Decides-eqb, nat_tests}
 use Rattle.keyed.proofs.Decide.{by_place, some_none, test_false}
-use Rattle.expiry.proofs.Endpoints.{the_live}
 use Rattle.admission.specs.Calls.{OpenCalls, legs_of}
-use Rattle.expiry.specs.Due.{IsEndpointItem, IsInCall, IsLiveAnd, IsNoEndpointDue, item_in_call}
-use Rattle.expiry.specs.Due.{is_silent, is_to_be_asked}
 use Rattle.registrations.specs.declared.times.Times.{Times}
 use Rattle.registrations.specs.Registry.{LegCounts, Live}
 use Rattle.registrations.specs.declared.registration.Registration.{Registration}
 use Rattle.registrations.specs.Silence.{HasEnded, end_at, end_in_call, end_of}
+use Rattle.registrations.specs.Silence.{is_silent, is_to_be_asked}
 use Rattle.zone_config.proofs.RangesKept.{keys_inside, passes}
 use Rattle.zone_config.specs.Keys.{all_keys}
 use Rattle.zone_config.specs.Ranges.{is_outside, range_fault}
@@ -27,7 +25,18 @@ use Rattle.zone_events.specs.declared.due_item.DueItem.{DueItem}
 use Rattle.zone_events.specs.declared.due_item.DueItem.TheVariants.{RegistrationOver, Interrogate}
 use Rattle.zone_events.specs.declared.due_item.DueItem.TheVariants.{Silent, Retry}
 use Rattle.zone_events.specs.declared.due_item.DueItem.TheVariants.{KeptOver, PoolTurn}
+use Rattle.zone_tables.specs.EndpointsDue.{IsEndpointItem, IsInCall, IsLiveAnd, IsNoEndpointDue}
+use Rattle.zone_tables.specs.EndpointsDue.{item_in_call}
 use Rattle.zone_tables.specs.inside.Counted.{AreCounted}
+
+-- the registration that passes a test
+pub the_live : (test : Registration → Bool) (live : Live) (id : List ℕ) → IsLiveAnd test live id
+    → (r : Registration) × (fin.get live id ≡ Some r) × (test r ≡ true)
+the_live test live id h = cases (fin.get live id) refl h where
+  cases : (w : Option Registration) → fin.get live id ≡ w → IsSomeAnd w (λ r. IsTrue (test r))
+      → (r : Registration) × (fin.get live id ≡ Some r) × (test r ≡ true)
+  cases None is h = absurd h
+  cases (Some r) is h = (r, is, h)
 
 -- if no key of a list passes, the one at this place doesn't
 none_passes : (p : Key → Bool) (keys : List Key) (i : ℕ) → find p keys ≡ None → i < length keys

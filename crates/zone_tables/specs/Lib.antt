@@ -8,4 +8,5 @@ pub mod Leaving
 pub mod Disengaging
 pub mod Translation
 pub mod Silence
+pub mod EndpointsDue
 pub mod inside

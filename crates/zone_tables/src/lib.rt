@@ -6,6 +6,7 @@
 mod bandwidth;
 mod change;
 mod endpoints;
+mod endpoints_due;
 mod entry;
 mod lender;
 mod pool_figures;
@@ -13,6 +14,7 @@ mod tables;
 mod unit_request;
 
 pub use change::{CallChange, Change, EndpointChange};
+pub use endpoints_due::item_in_call;
 pub use entry::Entry;
 pub use lender::Lender;
 pub use pool_figures::PoolFigures;

@@ -25,19 +25,19 @@ ghost use Rattle.zone_tables.specs.UnitRequests.{calls_after_answer, leg_of_purp
 ghost use Rattle.zone_tables.specs.Changes.{after_change, heard};
 ghost use Rattle.zone_tables.specs.Soundness.{HasCounts, SoundTables};
 ghost use Rattle.zone_tables.specs.Silence.{times_of};
-ghost use Rattle.expiry.specs.Due.{IsEndpointItem, IsNoEndpointDue};
+ghost use Rattle.zone_tables.specs.EndpointsDue.{IsEndpointItem, IsNoEndpointDue};
 
 use crate::bandwidth::Bandwidth;
 use crate::change::{CallChange, Change, EndpointChange};
 use crate::endpoints::Endpoints;
+use crate::endpoints_due::item_in_call;
 use crate::lender::Lender;
 use crate::pool_figures::PoolFigures;
 use crate::unit_request::UnitRequest;
 use admission::Calls;
-use expiry::{Times, item_in_call};
 use pools::{Figures, Lend};
 use ras_module::{Address, Alias, EndpointId, ReplyAliases};
-use registrations::Registrations;
+use registrations::{Registrations, Times};
 use std::alloc::{AllocError, Global};
 use std::marker::Model;
 use zone_config::{Config, Moment};

@@ -2,9 +2,9 @@
 use Rattle.std.specs.Prelude.{ℕ, Option, None, nat_eq, if◌then◌else◌}
 use Rattle.admission.specs.Calls.{OpenCalls, legs_of}
 use Rattle.registrations.specs.declared.registration.Registration.{Registration}
-use Rattle.expiry.specs.Due.{item_in_call}
 use Rattle.registrations.specs.declared.times.Times.{Times}
 use Rattle.zone_events.specs.declared.due_item.DueItem.{DueItem}
+use Rattle.zone_tables.specs.EndpointsDue.{item_in_call}
 
 abbrev pub item_of : ℕ → Times → OpenCalls → Registration → Option DueItem
 item_of now times calls r =

@@ -1,6 +1,6 @@
 use Rattle.std.proofs.Common.{subst}
 use Rattle.std.specs.Prelude.{MatchOption}
-use Rattle.expiry.specs.Due.{IsEndpointItem, IsNoEndpointDue}
+use Rattle.zone_tables.specs.EndpointsDue.{IsEndpointItem, IsNoEndpointDue}
 use Rattle.expiry.proofs.Nothing.{nothing_due}
 use Rattle.expiry.proofs.due_search.due_beside.Goals as goal
 

@@ -2,7 +2,8 @@ use Rattle.std.proofs.Common.{◌∙◌, ℕ, ap, subst, sym}
 use Rattle.std.specs.Prelude.{MatchOption}
 use Rattle.admission.specs.Calls.{OpenCalls}
 use Rattle.registrations.specs.declared.times.Times.{Times}
-use Rattle.expiry.specs.Due.{IsDue, IsEndpointItem, IsNoEndpointDue, IsNothingDue}
+use Rattle.expiry.specs.Due.{IsDue, IsNothingDue}
+use Rattle.zone_tables.specs.EndpointsDue.{IsEndpointItem, IsNoEndpointDue}
 use Rattle.kept_replies.specs.Kept.{KeptReplies}
 use Rattle.registrations.specs.Registry.{Live}
 use Rattle.zone_tables.specs.Silence.{times_of}

@@ -1,8 +1,8 @@
 use Rattle.std.proofs.Common.{◌∙◌, ap, refl, subst, sym, arith}
 use Rattle.std.specs.Prelude.{MatchOption}
 use Rattle.std.specs.FinMap as fin
-use Rattle.expiry.specs.Due.{IsEndpointItem, IsNoEndpointDue, item_in_call}
 use Rattle.registrations.specs.Silence.{HasEnded}
+use Rattle.zone_tables.specs.EndpointsDue.{IsEndpointItem, IsNoEndpointDue, item_in_call}
 use Rattle.zone_tables.specs.Silence.{times_of}
 use Rattle.zone_tables.specs.Tables.{Tables}
 use Rattle.zone_tables.proofs.Ending.{ended_item, nothing_ended, some_asks}
