@@ -5,6 +5,7 @@ use Rattle.std.specs.Prelude.{None}
 use Rattle.std.specs.Option.{IsSomeAnd}
 use Rattle.std.specs.FinMap.{get}
 use Rattle.kept_replies.specs.Kept.{NonePasses, births, is_over}
+use Rattle.ras_module.specs.declared.reply.TheConstants.Reply as reply_octets
 use Rattle.ras_module.specs.declared.request.Request.{Request}
 use Rattle.zone_events.specs.declared.due_item.DueItem.{DueItem}
 use Rattle.zone_events.specs.declared.due_item.DueItem.TheVariants.{RegistrationOver, Retry, Silent}
@@ -108,7 +109,7 @@ may_return_units_in other = false
 
 -- it can be done
 abbrev pub Stands : State → ℕ → code.Course → Type 0
-Stands s now (course.Repeating datagram) = length datagram.bytes ≤ 20000
+Stands s now (course.Repeating datagram) = length datagram.bytes ≤ reply_octets.MOST
 Stands s now (course.Serving task) = IsTask s now task
 Stands s now other = Unit {0}
 

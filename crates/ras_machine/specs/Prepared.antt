@@ -2,6 +2,7 @@
 use Rattle.std.specs.Prelude.{ℕ, ◌≡◌, nat_lt, List, length, Option, None, Some, Result, Ok, Err}
 use Rattle.std.specs.Prelude.{if◌then◌else◌}
 use Rattle.ras_module.specs.declared.request.Request.{Request}
+use Rattle.ras_module.specs.declared.request.TheConstants.Request as request_octets
 use Rattle.ras_reading.specs.Messages.{message_reading}
 use Rattle.ras_grammar.specs.declared.fault.ReadFault.{ReadFault}
 use Rattle.zone_events.specs.declared.event.Event.{Event}
@@ -17,10 +18,10 @@ message_by (Err fault) = message.Unreadable
 message_by (Ok None) = message.NotServed
 message_by (Ok (Some request)) = message.Request request
 
--- what the octets of a datagram are; of more than 4,096 octets none is read
+-- what the octets of a datagram are; of more than a request has at most, none is read
 abbrev pub message_in : List ℕ → Message
 message_in bytes =
-    if nat_lt 4096 (length bytes)
+    if nat_lt request_octets.MOST (length bytes)
     then message.TooLong
     else message_by (message_reading bytes)
 

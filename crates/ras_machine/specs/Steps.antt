@@ -1,5 +1,6 @@
 -- Steps of the machine.
 use Rattle.std.specs.Prelude.{ℕ, ◌≡◌, ◌≤◌, List, length, Some, Option, None, IfSome}
+use Rattle.ras_module.specs.declared.reply.TheConstants.Reply as reply_octets
 use Rattle.pools.specs.declared.interface.Figures.{Figures}
 use Rattle.pools.specs.declared.interface.Lend.{Lend}
 use Rattle.pools.specs.Account.{IsAnswer}
@@ -96,7 +97,7 @@ IsAskedOnce lends old pools (Some ask) (Some answer) new = lends old pools ask a
 IsAskedOnce lends old pools (Some ask) None new = ⊥
 IsAskedOnce lends old pools None answer new = new ≡ old
 
--- an output has at most 20,000 octets
+-- an output has at most the octets of the longest reply
 abbrev pub HasFewOctets : Option Datagram → Type 0
 HasFewOctets None = Unit {0}
-HasFewOctets (Some datagram) = length datagram.bytes ≤ 20000
+HasFewOctets (Some datagram) = length datagram.bytes ≤ reply_octets.MOST

@@ -117,7 +117,7 @@ impl Machine {
     fn kept_datagram(&self, to: Source, reply: &KeptReply) -> Result<Datagram, AllocError>
         ensures encoded { IfOk result (λ datagram.
             datagram ≡ record { to = to; bytes = encoding_of reply.now }) }
-        ensures few { IfOk result (λ datagram. length datagram.bytes ≤ 20000) }
+        ensures few { IfOk result (λ datagram. length datagram.bytes ≤ Reply.MOST) }
     {
         let bytes = Vec::from_slice(self.alloc, reply.as_slice())?;
         Ok(Datagram {
@@ -130,7 +130,7 @@ impl Machine {
     pub(crate) fn datagram(&self, to: Source, reply: &Reply) -> Result<Datagram, AllocError>
         ensures encoded { IfOk result (λ datagram.
             datagram ≡ record { to = to; bytes = encoding_of reply.now }) }
-        ensures few { IfOk result (λ datagram. length datagram.bytes ≤ 20000) }
+        ensures few { IfOk result (λ datagram. length datagram.bytes ≤ Reply.MOST) }
         ensures reads_back { IsOk result → ReadsBack reply.now }
     {
         let mut bytes = Vec::with_capacity(self.alloc, reply.room())?;

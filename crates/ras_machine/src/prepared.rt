@@ -12,13 +12,10 @@ use std::marker::Model;
 use zone_config::Moment;
 use zone_events::Event;
 
-/// The octets that a datagram has at most.
-const MOST_OCTETS: usize = 4096;
-
 /// What the octets of a datagram are.
 #[derive(Drop)]
 pub enum Message {
-    /// More than 4,096 octets: they aren't read.
+    /// More octets than `Request::MOST`: they aren't read.
     TooLong,
     /// No RAS message of the profile.
     Unreadable,
@@ -78,7 +75,7 @@ pub fn prepare(alloc: Global, event: Event) -> Result<Prepared, AllocError>
 fn message_in(alloc: Global, octets: &[u8]) -> Result<Message, AllocError>
     ensures { IfOk result (λ message. message ≡ message_in octets.now) }
 {
-    if octets.len() > MOST_OCTETS {
+    if octets.len() > Request::MOST {
         return Ok(Message::TooLong);
     }
     match read(alloc, octets) {

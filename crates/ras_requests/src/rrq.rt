@@ -95,14 +95,14 @@ fn keep_alive(
 /// with its square.
 fn distinct(alloc: Global, aliases: &AliasList) -> Result<Option<ReplyAliases>, AllocError>
     ensures { IfOk result (λ found. MatchOption found
-        (32 < length (without_doubles aliases.now)) (λ kept. kept ≡ without_doubles aliases.now)) }
+        (ReplyAliases.MOST < length (without_doubles aliases.now)) (λ kept. kept ≡ without_doubles aliases.now)) }
 {
     // room for no more than are kept: what is registered holds this list as long as it lives
     let room = aliases.len().min(ReplyAliases::MOST);
     let mut kept = AliasList::from_vec(Vec::with_capacity(alloc, room)?);
     for alias in aliases.as_slice() {
         if !has(&kept, alias) {
-            if kept.len() == 32 {
+            if kept.len() == ReplyAliases::MOST {
                 return Ok(None);
             }
             kept.push(*alias)?;

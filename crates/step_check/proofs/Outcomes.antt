@@ -1,10 +1,10 @@
 -- The derived test of equality of outcomes decides whether they are equal.
 use Rattle.std.proofs.Common.{◌≡◌, ℕ, false, true, List, Option, nat_eq, ap, rules}
-use Rattle.std.specs.Bool.{Settles}
+use Rattle.std.specs.Bool.{Decides}
 use Rattle.std.specs.Option.{option_eq}
 use Rattle.std.specs.Cmp.Lexicographic.{pointwise}
 use Rattle.std.proofs.lemmas.Bool.{and_parts, and_from}
-use Rattle.std.proofs.lemmas.Bool.Decides.{Settles-eqb}
+use Rattle.std.proofs.lemmas.Bool.Decides.{Decides-eqb}
 use Rattle.pools.specs.declared.interface.Lend.{Lend}
 use Rattle.pools.specs.declared.interface.Lend.TheVariants.{Lent, Refused, Wait}
 use Rattle.pools.specs.contracts.interface.LendPartialEq.TheImpl as lend_eq
@@ -27,13 +27,13 @@ use Rattle.zone_events.specs.contracts.outcome.OutcomePartialEq.TheImpl as outco
 never : {A : Type 0} → false ≡ true → A
 never h = absurd (cc h)
 
-lends_decide : (a b : Lend) → Settles ((lend_eq.ghosts).eq a b) (a ≡ b)
+lends_decide : (a b : Lend) → Decides ((lend_eq.ghosts).eq a b) (a ≡ b)
 lends_decide (Lent a) (Lent b) = search rules
 lends_decide Refused Refused = search rules
 lends_decide Wait Wait = search rules
 lends_decide a b = (λ h. never h, λ e. absurd (cc e))
 
-datagrams_decide : (a b : Datagram) → Settles ((datagram_eq.ghosts).eq a b) (a ≡ b)
+datagrams_decide : (a b : Datagram) → Decides ((datagram_eq.ghosts).eq a b) (a ≡ b)
 datagrams_decide a b = (
   λ h.
       (let both = and_parts _ _ h in
@@ -44,7 +44,7 @@ datagrams_decide a b = (
       ((texts_decide a.bytes b.bytes).1 (ap (λ d. d.bytes) e)),
 )
 
-causes_decide : (a b : IgnoredCause) → Settles ((cause_eq.ghosts).eq a b) (a ≡ b)
+causes_decide : (a b : IgnoredCause) → Decides ((cause_eq.ghosts).eq a b) (a ≡ b)
 causes_decide cause.TooLong cause.TooLong = search rules
 causes_decide cause.Unreadable cause.Unreadable = search rules
 causes_decide cause.NotServed cause.NotServed = search rules
@@ -52,7 +52,7 @@ causes_decide cause.Busy cause.Busy = search rules
 causes_decide cause.UnknownEndpoint cause.UnknownEndpoint = search rules
 causes_decide a b = (λ h. never h, λ e. absurd (cc e))
 
-items_decide : (a b : DueItem) → Settles ((item_eq.ghosts).eq a b) (a ≡ b)
+items_decide : (a b : DueItem) → Decides ((item_eq.ghosts).eq a b) (a ≡ b)
 items_decide (item.RegistrationOver a) (item.RegistrationOver b) =
     (λ h. ap item.RegistrationOver ((texts_decide a b).0 h), λ e. (texts_decide a b).1 (cc e))
 items_decide (item.Interrogate a) (item.Interrogate b) =
@@ -64,7 +64,7 @@ items_decide (item.KeptOver a) (item.KeptOver b) = search rules
 items_decide item.PoolTurn item.PoolTurn = search rules
 items_decide a b = (λ h. never h, λ e. absurd (cc e))
 
-notes_decide : (a b : Note) → Settles ((note_eq.ghosts).eq a b) (a ≡ b)
+notes_decide : (a b : Note) → Decides ((note_eq.ghosts).eq a b) (a ≡ b)
 notes_decide note.Served note.Served = search rules
 notes_decide note.Kept note.Kept = search rules
 notes_decide (note.Ignored a) (note.Ignored b) =
@@ -75,19 +75,19 @@ notes_decide note.Idle note.Idle = search rules
 notes_decide (note.Replaced a) (note.Replaced b) = search rules
 notes_decide a b = (λ h. never h, λ e. absurd (cc e))
 
-answers : (a b : Option Lend) → Settles (option_eq (lend_eq.ghosts).eq a b) (a ≡ b)
+answers : (a b : Option Lend) → Decides (option_eq (lend_eq.ghosts).eq a b) (a ≡ b)
 answers a b = options_decide (lend_eq.ghosts).eq lends_decide a b
 
-outputs : (a b : Option Datagram) → Settles (option_eq (datagram_eq.ghosts).eq a b) (a ≡ b)
+outputs : (a b : Option Datagram) → Decides (option_eq (datagram_eq.ghosts).eq a b) (a ≡ b)
 outputs a b = options_decide (datagram_eq.ghosts).eq datagrams_decide a b
 
-births : (a b : Option ℕ) → Settles (option_eq nat_eq a b) (a ≡ b)
-births a b = options_decide nat_eq Settles-eqb a b
+births : (a b : Option ℕ) → Decides (option_eq nat_eq a b) (a ≡ b)
+births a b = options_decide nat_eq Decides-eqb a b
 
-identifiers : (a b : Option (List ℕ)) → Settles (option_eq (pointwise nat_eq) a b) (a ≡ b)
+identifiers : (a b : Option (List ℕ)) → Decides (option_eq (pointwise nat_eq) a b) (a ≡ b)
 identifiers a b = options_decide (pointwise nat_eq) texts_decide a b
 
-pub outcomes_decide : (a b : Outcome) → Settles ((outcome_eq.ghosts).eq a b) (a ≡ b)
+pub outcomes_decide : (a b : Outcome) → Decides ((outcome_eq.ghosts).eq a b) (a ≡ b)
 outcomes_decide a b = (
   λ h.
       (let h1 = and_parts _ _ h in

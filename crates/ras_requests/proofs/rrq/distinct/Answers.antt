@@ -3,7 +3,7 @@ use Rattle.ras_module.specs.Aliases.{without_doubles}
 use Rattle.ras_module.proofs.Doubles.{kept_and_new, none_kept, goes_on_with_double}
 use Rattle.ras_module.proofs.Doubles.{goes_on_with_new}
 use Rattle.ras_requests.proofs.rrq.distinct.Goals as goal
-use Rattle.ras_requests.proofs.rrq.distinct.Goals.{then-not-has+else-len-eq32+in_ok-push}
+use Rattle.ras_requests.proofs.rrq.distinct.Goals.{then-not-has+else-len-eq-MOST+in_ok-push}
 use Rattle.ras_requests.proofs.rrq.distinct.Goals.{else-not-has}
 
 pub loop-alias-init : goal.loop-alias-init
@@ -20,7 +20,7 @@ loop-alias-preserved c =
     let x = c.alias-item.result in
     let kept = c.loop-alias.kept in
     elim c.if-not-has.branch [
-      | then-not-has+else-len-eq32+in_ok-push w ↦
+      | then-not-has+else-len-eq-MOST+in_ok-push w ↦
           ap (λ k. kept_and_new k (drop (i + 1) items)) (w.kept-is ∙ w.in_ok-push.ensures.ok)
           ∙ goes_on_with_new items i x kept (without_doubles c.args.aliases.now)
           c.loop-alias-test.true c.alias-item.is (sym c.has.ensures ∙ w.if-not-has.true)
