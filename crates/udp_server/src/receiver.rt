@@ -1,6 +1,7 @@
 //! The workers that receive datagrams.
 
 ghost use Rattle.std.specs.Prelude.{◌≡◌, IfOk};
+ghost use Rattle.udp_server.specs.Working.{IsReceived, IsTurnOfLoop, standing};
 
 use crate::datagrams::{Datagrams, DeviceFault, MOST_RECEIVED, Received};
 use crate::gate::Gate;
@@ -59,18 +60,40 @@ pub(crate) fn work<
     };
     if shared.board.may_begin(shared.rt) {
         for _ in shared.rt.forever() {
-            match receive_next(shared, &mut receiver, &mut worker) {
-                Next::Event(event) => {
-                    if let StepResult::Closed = worker.step(shared, event) {
-                        break;
-                    }
-                }
-                Next::Nothing => {}
-                Next::End => break,
+            if !serve_next(shared, &mut receiver, &mut worker) {
+                break;
             }
         }
     }
     worker.end(shared, Vec::new(shared.alloc))
+}
+
+/// Waits for a datagram, and makes a step of it, if one comes. Whether the worker goes on.
+fn serve_next<
+    P: Pool,
+    D: Hall,
+    T: Ledger,
+    U: Ledger,
+    V: Ledger,
+    R: Wait,
+    N: Datagrams,
+    G: Gate,
+    C: Moments,
+>(
+    shared: &Shared<'_, P, D, T, U, V, R, G>,
+    receiver: &mut Receiver<N>,
+    worker: &mut Worker<D, T, U, V, C>,
+) -> bool
+    ensures { IsTurnOfLoop D.opened receiver.new.buffer
+        (N.faults receiver.old.end) (N.faults receiver.new.end)
+        (standing worker.old.seat worker.old.outlet worker.old.counts)
+        (standing worker.new.seat worker.new.outlet worker.new.counts) }
+{
+    match receive_next(shared, receiver, worker) {
+        Next::Event(event) => !matches!(worker.step(shared, event), StepResult::Closed),
+        Next::Nothing => true,
+        Next::End => false,
+    }
 }
 
 /// Waits for a datagram.
@@ -88,7 +111,12 @@ fn receive_next<
     shared: &Shared<'_, P, D, T, U, V, R, G>,
     receiver: &mut Receiver<N>,
     worker: &mut Worker<D, T, U, V, C>,
-) -> Next {
+) -> Next
+    ensures { IsReceived receiver.new.buffer
+        (N.faults receiver.old.end) (N.faults receiver.new.end) result
+        (standing worker.old.seat worker.old.outlet worker.old.counts)
+        (standing worker.new.seat worker.new.outlet worker.new.counts) }
+{
     match receiver.end.receive(&mut receiver.buffer) {
         Ok(Received::Stopped) => Next::End,
         Ok(Received::Quiet) => {

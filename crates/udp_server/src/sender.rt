@@ -1,10 +1,15 @@
 //! The sender.
 
+ghost use Rattle.std.specs.Prelude.{◌≡◌, IsFalse, IsTrue};
+ghost use Rattle.reply_queues.specs.Rings.{datagrams_taken};
+ghost use Rattle.udp_server.specs.Sending.{IsNextSent, IsSendCounted};
+
 use crate::board::Board;
 use crate::datagrams::{Datagrams, DeviceFault};
 use reply_queues::Inlet;
 use std::sync::Wait;
 use std::thread::yield_now;
+use zone_events::Datagram;
 
 /// How often the sender looks for one more reply before it sleeps: for some microseconds. To sleep
 /// and to be woken takes longer, for it and for the worker that wakes it.
@@ -74,14 +79,36 @@ impl<N: Datagrams> Sender<N> {
     fn has_sent(&mut self, inlets: &mut [Inlet]) -> bool {
         let mut is_any = false;
         for inlet in inlets.iter_mut() {
-            if let Some(reply) = inlet.take() {
+            if self.has_sent_next(inlet) {
                 is_any = true;
-                match self.end.send(&reply) {
-                    Ok(()) => self.sent.replies = self.sent.replies.saturating_add(1),
-                    Err(DeviceFault) => self.sent.faults = self.sent.faults.saturating_add(1),
-                }
             }
         }
         is_any
+    }
+
+    /// Sends the next reply of a ring, if there is one. Whether there was one.
+    fn has_sent_next(&mut self, inlet: &mut Inlet) -> bool
+        ensures none { IsFalse result → datagrams_taken inlet.new ≡ datagrams_taken inlet.old }
+        ensures same { IsFalse result → self.new.sent ≡ self.old.sent }
+        ensures next { IsTrue result
+            → IsNextSent (datagrams_taken inlet.old) (datagrams_taken inlet.new)
+            (N.faults self.old.end) (N.faults self.new.end) self.old.sent self.new.sent }
+    {
+        let Some(reply) = inlet.take() else {
+            return false;
+        };
+        self.send(&reply);
+        true
+    }
+
+    /// Sends a reply, and counts it, or that the send failed.
+    fn send(&mut self, reply: &Datagram)
+        ensures { IsSendCounted (N.faults self.old.end) (N.faults self.new.end)
+            self.old.sent self.new.sent }
+    {
+        match self.end.send(reply) {
+            Ok(()) => self.sent.replies = self.sent.replies.saturating_add(1),
+            Err(DeviceFault) => self.sent.faults = self.sent.faults.saturating_add(1),
+        }
     }
 }

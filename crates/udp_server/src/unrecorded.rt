@@ -2,6 +2,7 @@
 
 ghost use Rattle.std.specs.Prelude.{◌≡◌};
 ghost use Rattle.zone_lock.specs.Held.{IsClosed};
+ghost use Rattle.udp_server.specs.Working.{CameOf, standing};
 
 use crate::gate::{Gate, Stage};
 use crate::moments::Moments;
@@ -25,7 +26,10 @@ impl<D: Hall, T: Ledger, U: Ledger, V: Ledger, C: Moments> Worker<D, T, U, V, C>
         shared: &Shared<'_, P, D, T, U, V, R, G>,
         event: Event,
     ) -> StepResult
-        ensures { result ≡ StepResult.Closed → IsClosed D.opened }
+        ensures came { CameOf D.opened event result
+            (standing self.old.seat self.old.outlet self.old.counts)
+            (standing self.new.seat self.new.outlet self.new.counts) }
+        ensures closed { result ≡ StepResult.Closed → IsClosed D.opened }
     {
         if shared.plan.is_recorded() {
             return self.step_recorded(shared, event);

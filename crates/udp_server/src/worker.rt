@@ -1,11 +1,12 @@
 //! One who makes steps of the zone, and hands the replies to the sender.
 
-ghost use Rattle.std.specs.Prelude.{◌≡◌, ◌<◌, ◌+◌, min, IfOk, vec_capacity, vec_len};
+ghost use Rattle.std.specs.Prelude.{◌≡◌, ◌<◌, ◌+◌, min, IfOk, Some, vec_capacity, vec_len};
 ghost use Rattle.std.specs.Option.{ForSome};
 ghost use Rattle.ras_machine.specs.Steps.{HasFewOctets};
 ghost use Rattle.zone_lock.specs.Held.{IsClosed};
 ghost use Rattle.udp_server.specs.Ends.{fault_count, most_count};
 ghost use Rattle.udp_server.specs.Rooms.{IsRoom};
+ghost use Rattle.udp_server.specs.Working.{CameOf, IsHandedOn, standing};
 
 use crate::board::Board;
 use crate::gate::{Gate, Stage};
@@ -131,7 +132,10 @@ impl<D: Hall, T: Ledger, U: Ledger, V: Ledger, C: Moments> Worker<D, T, U, V, C>
         shared: &Shared<'_, P, D, T, U, V, R, G>,
         event: Event,
     ) -> StepResult
-        ensures { result ≡ StepResult.Closed → IsClosed D.opened }
+        ensures came { CameOf D.opened event result
+            (standing self.old.seat self.old.outlet self.old.counts)
+            (standing self.new.seat self.new.outlet self.new.counts) }
+        ensures closed { result ≡ StepResult.Closed → IsClosed D.opened }
     {
         match self.ready(shared, event) {
             Ok((prepared, buffer)) => self.apply(shared, prepared, buffer),
@@ -152,6 +156,8 @@ impl<D: Hall, T: Ledger, U: Ledger, V: Ledger, C: Moments> Worker<D, T, U, V, C>
         ensures event { IfOk result (λ ready. ready.0 ≡ event) }
         ensures room { IfOk result (λ ready. ForSome ready.1 (λ buffer.
             IsRoom buffer self.new.receipts)) }
+        ensures same { standing self.new.seat self.new.outlet self.new.counts
+            ≡ standing self.old.seat self.old.outlet self.old.counts }
     {
         let prepared = prepare(shared.alloc, event)?;
         if !shared.plan.receipts {
@@ -171,7 +177,10 @@ impl<D: Hall, T: Ledger, U: Ledger, V: Ledger, C: Moments> Worker<D, T, U, V, C>
         buffer: Option<Vec<u8>>,
     ) -> StepResult
         requires { ForSome buffer (λ buffer. IsRoom buffer self.old.receipts) }
-        ensures { result ≡ StepResult.Closed → IsClosed D.opened }
+        ensures came { CameOf D.opened prepared result
+            (standing self.old.seat self.old.outlet self.old.counts)
+            (standing self.new.seat self.new.outlet self.new.counts) }
+        ensures closed { result ≡ StepResult.Closed → IsClosed D.opened }
     {
         shared.gate.pass(self.number, Stage::BeforeApply);
         let receipt = match shared.lock.apply(shared.rt, &mut self.seat, prepared) {
@@ -185,9 +194,8 @@ impl<D: Hall, T: Ledger, U: Ledger, V: Ledger, C: Moments> Worker<D, T, U, V, C>
         shared.gate.pass(self.number, Stage::AfterApply);
         let place = receipt.place;
         let is_idle = matches!(receipt.outcome.note, Note::Idle);
-        if let Some(reply) = self.reply_of(receipt, buffer) {
-            self.post(shared, reply);
-        }
+        let reply = self.reply_of(receipt, buffer);
+        self.hand_on(shared, reply);
         shared.gate.pass(self.number, Stage::AfterPost);
         StepResult::Made {
             place: Some(place),
@@ -231,7 +239,9 @@ impl<D: Hall, T: Ledger, U: Ledger, V: Ledger, C: Moments> Worker<D, T, U, V, C>
     fn reply_of(&mut self, receipt: Receipt, buffer: Option<Vec<u8>>) -> Option<Datagram>
         requires few { HasFewOctets receipt.outcome.output }
         requires room { ForSome buffer (λ buffer. IsRoom buffer self.old.receipts) }
-        ensures { result ≡ receipt.outcome.output }
+        ensures output { result ≡ receipt.outcome.output }
+        ensures same { standing self.new.seat self.new.outlet self.new.counts
+            ≡ standing self.old.seat self.old.outlet self.old.counts }
     {
         let Some(buffer) = buffer else {
             return match output_of(receipt) {
@@ -250,6 +260,8 @@ impl<D: Hall, T: Ledger, U: Ledger, V: Ledger, C: Moments> Worker<D, T, U, V, C>
     /// Keeps a receipt, for which there is room.
     fn keep(&mut self, receipt: Receipt)
         requires { vec_len self.old.receipts < vec_capacity self.old.receipts }
+        ensures { standing self.new.seat self.new.outlet self.new.counts
+            ≡ standing self.old.seat self.old.outlet self.old.counts }
     {
         self.receipts.push_reserved(receipt);
     }
@@ -257,7 +269,9 @@ impl<D: Hall, T: Ledger, U: Ledger, V: Ledger, C: Moments> Worker<D, T, U, V, C>
     /// The same reply in memory of its own length, if there is any: the seat gets the buffer back,
     /// in which there is room for the longest one.
     fn short(&mut self, reply: Datagram) -> Datagram
-        ensures { result ≡ reply }
+        ensures reply { result ≡ reply }
+        ensures same { standing self.new.seat self.new.outlet self.new.counts
+            ≡ standing self.old.seat self.old.outlet self.old.counts }
     {
         let Ok(bytes) = reply.bytes.copy() else {
             return reply;
@@ -267,16 +281,45 @@ impl<D: Hall, T: Ledger, U: Ledger, V: Ledger, C: Moments> Worker<D, T, U, V, C>
         Datagram { to, bytes }
     }
 
+    /// Hands what is sent to the sender, if anything is.
+    pub(crate) fn hand_on<P: Pool, R: Wait, G: Gate>(
+        &mut self,
+        shared: &Shared<'_, P, D, T, U, V, R, G>,
+        reply: Option<Datagram>,
+    )
+        ensures { IsHandedOn reply
+            (standing self.old.seat self.old.outlet self.old.counts)
+            (standing self.new.seat self.new.outlet self.new.counts) }
+    {
+        if let Some(reply) = reply {
+            self.post(shared, reply);
+        }
+    }
+
     /// Hands a reply to the sender. One that finds no place in the ring is dropped.
     pub(crate) fn post<P: Pool, R: Wait, G: Gate>(
         &mut self,
         shared: &Shared<'_, P, D, T, U, V, R, G>,
         reply: Datagram,
-    ) {
-        if self.outlet.offer(reply).is_err() {
-            self.counts.dropped = self.counts.dropped.saturating_add(1);
-        }
+    )
+        ensures { IsHandedOn (Some reply)
+            (standing self.old.seat self.old.outlet self.old.counts)
+            (standing self.new.seat self.new.outlet self.new.counts) }
+    {
+        self.put(reply);
         shared.board.wake_sender();
+    }
+
+    /// Puts a reply behind those in the ring. One that finds no place there is dropped, and counted.
+    fn put(&mut self, reply: Datagram)
+        ensures { IsHandedOn (Some reply)
+            (standing self.old.seat self.old.outlet self.old.counts)
+            (standing self.new.seat self.new.outlet self.new.counts) }
+    {
+        match self.outlet.offer(reply) {
+            Ok(()) => {}
+            Err(_) => self.counts.dropped = self.counts.dropped.saturating_add(1),
+        }
     }
 
     /// Hands nothing more to the sender, and says so.
