@@ -8,7 +8,8 @@ use crate::gate::{Gate, Stage};
 use crate::moments::Moments;
 use crate::worker::{Shared, StepResult, Worker};
 use pools::Pool;
-use ras_core::{Event, StepFault, prepare};
+use ras_core::{Event, Prepared, StepFault, prepare};
+use std::alloc::AllocError;
 use std::sync::Wait;
 use std::sync::ledger::Ledger;
 use zone_events::{Datagram, Note};
@@ -34,10 +35,26 @@ impl<D: Hall, T: Ledger, U: Ledger, V: Ledger, C: Moments> Worker<D, T, U, V, C>
         if shared.plan.is_recorded() {
             return self.step_recorded(shared, event);
         }
-        let Ok(prepared) = prepare(shared.alloc, event) else {
-            self.counts.refuse();
-            return StepResult::Refused;
-        };
+        match prepare(shared.alloc, event) {
+            Ok(prepared) => self.step_prepared(shared, prepared),
+            Err(AllocError) => {
+                self.counts.refuse();
+                StepResult::Refused
+            }
+        }
+    }
+
+    /// Makes a step that is prepared, of which nothing is recorded.
+    fn step_prepared<P: Pool, R: Wait, G: Gate>(
+        &mut self,
+        shared: &Shared<'_, P, D, T, U, V, R, G>,
+        prepared: Prepared,
+    ) -> StepResult
+        ensures came { CameOf D.opened prepared result
+            (standing self.old.seat self.old.outlet self.old.counts)
+            (standing self.new.seat self.new.outlet self.new.counts) }
+        ensures closed { result ≡ StepResult.Closed → IsClosed D.opened }
+    {
         shared.gate.pass(self.number, Stage::BeforeApply);
         let lock = shared.lock;
         match lock.step(shared.rt, &mut self.seat, prepared, &mut self.outcome) {
@@ -49,19 +66,25 @@ impl<D: Hall, T: Ledger, U: Ledger, V: Ledger, C: Moments> Worker<D, T, U, V, C>
             Err(StepFault::Closed) => return StepResult::Closed,
         }
         shared.gate.pass(self.number, Stage::AfterApply);
-        if let Some(reply) = self.take_reply() {
-            self.post(shared, reply);
-        }
+        let reply = self.take_reply();
+        self.hand_on(shared, reply);
         shared.gate.pass(self.number, Stage::AfterPost);
         StepResult::Made {
             place: None,
-            is_idle: matches!(self.outcome.note, Note::Idle),
+            is_idle: self.was_idle(),
         }
+    }
+
+    /// Whether nothing was due in the last step.
+    fn was_idle(&self) -> bool {
+        matches!(self.outcome.note, Note::Idle)
     }
 
     /// Takes what is sent out of the outcome of the last step. Its octets aren't copied.
     fn take_reply(&mut self) -> Option<Datagram>
-        ensures { result ≡ self.old.outcome.output }
+        ensures output { result ≡ self.old.outcome.output }
+        ensures same { standing self.new.seat self.new.outlet self.new.counts
+            ≡ standing self.old.seat self.old.outlet self.old.counts }
     {
         self.outcome.output.take()
     }
