@@ -1,4 +1,5 @@
 pub mod Checks
+pub mod Clocks
 pub mod Inputs
 pub mod Replays
 pub mod Serves
