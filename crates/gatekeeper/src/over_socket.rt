@@ -1,6 +1,7 @@
 //! Serving a zone over a socket.
 
-ghost use Rattle.std.specs.Prelude.{◌≤◌, IfOk};
+ghost use Rattle.std.specs.Prelude.{◌≡◌, ◌≤◌, All, IfOk, vec_len};
+ghost use Rattle.gatekeeper.specs.Clocks.{beginning};
 ghost use Rattle.udp_server.specs.Plans.{IsPlan};
 ghost use Rattle.udp_server.specs.Served.{IsServed};
 
@@ -37,7 +38,11 @@ fn clocks_of<'a, R: Clock>(
     alloc: Global,
     start: Option<Instant>,
     count: usize,
-) -> Result<Vec<Stopwatch<'a, R>>, AllocError> {
+) -> Result<Vec<Stopwatch<'a, R>>, AllocError>
+    ensures count { IfOk result (λ clocks. vec_len clocks ≡ count) }
+    ensures beginning { IfOk result
+        (λ clocks. All (λ clock. beginning clock ≡ start) clocks.items) }
+{
     let mut clocks = Vec::with_capacity(alloc, count)?;
     for _clock in 0..count {
         clocks.push_reserved(Stopwatch::new(rt, start));
@@ -45,17 +50,18 @@ fn clocks_of<'a, R: Clock>(
     Ok(clocks)
 }
 
-/// Ends of a socket, as many as the service has receivers.
+/// Ends of a socket, as many as the service has receivers, each for as many receives as are set.
 fn ends_of<'a, S: Stop>(
     alloc: Global,
     socket: &'a BoundSocket,
     service: Service,
     stop: &'a S,
-) -> Result<Vec<SocketEnd<'a, S>>, AllocError> {
+) -> Result<Vec<SocketEnd<'a, S>>, AllocError>
+    ensures { IfOk result (λ ends. vec_len ends ≡ service.receivers) }
+{
     let mut ends = Vec::with_capacity(alloc, service.receivers)?;
     for _end in 0..service.receivers {
-        ends.push(socket.end(service.receives, stop))
-            .map_err(AllocError::from)?;
+        ends.push_reserved(socket.end(service.receives, stop));
     }
     Ok(ends)
 }

@@ -1,6 +1,8 @@
 //! What is printed of a server's run.
 
-ghost use Rattle.std.specs.Prelude.{IsTrue, OnOk};
+ghost use Rattle.std.specs.Prelude.{◌↔◌, IsTrue, OnOk};
+ghost use Rattle.std.specs.Io.KnownBytes.{Appends};
+ghost use Rattle.gatekeeper.specs.Reports.{HasFaults, count_line, report_text};
 
 use pools::Pool;
 use script::Output;
@@ -12,25 +14,31 @@ pub fn print_report<P: Pool, W: Write + Drop>(
     report: &Report<P>,
     out: &mut Output<W>,
 ) -> io::Result<()>
-    ensures { OnOk result (IsTrue out.new.flushed) }
+    ensures written { OnOk result (Appends out.old.contents out.new.contents
+        (report_text report.now)) }
+    ensures flushed { OnOk result (IsTrue out.new.flushed) }
 {
-    let counts = [
-        ("datagrams", report.datagrams),
-        ("turns", report.turns),
-        ("sent", report.sent),
-        ("dropped", report.dropped),
-        ("refused", report.refused),
-        ("receive faults", report.receive_faults),
-        ("send faults", report.send_faults),
-    ];
-    for (name, count) in counts {
-        writeln!(out, "{name} {count}")?;
-    }
+    write_count("datagrams", report.datagrams, out)?;
+    write_count("turns", report.turns, out)?;
+    write_count("sent", report.sent, out)?;
+    write_count("dropped", report.dropped, out)?;
+    write_count("refused", report.refused, out)?;
+    write_count("receive faults", report.receive_faults, out)?;
+    write_count("send faults", report.send_faults, out)?;
     out.flush()
 }
 
+/// Writes a count on a line of its own, behind its name.
+fn write_count<W: Write + Drop>(name: &str, count: u64, out: &mut Output<W>) -> io::Result<()>
+    ensures { OnOk result (Appends out.old.contents out.new.contents (count_line name.now count)) }
+{
+    writeln!(out, "{name} {count}")
+}
+
 /// Whether anything that should have been done wasn't.
-pub fn has_faults<P: Pool>(report: &Report<P>) -> bool {
+pub fn has_faults<P: Pool>(report: &Report<P>) -> bool
+    ensures { IsTrue result ↔ HasFaults report.now }
+{
     report.dropped != 0
         || report.refused != 0
         || report.receive_faults != 0

@@ -1,5 +1,8 @@
 //! The clock of a server.
 
+ghost use Rattle.std.specs.Prelude.{◌≡◌, IsNone};
+ghost use Rattle.gatekeeper.specs.Clocks.{beginning, last_moment, moment_told};
+
 use crate::elapsed::milliseconds_since;
 use std::rt::Clock;
 use std::time::Instant;
@@ -16,7 +19,10 @@ pub struct Stopwatch<'a, R> {
 
 impl<'a, R: Clock> Stopwatch<'a, R> {
     /// A clock that began at this moment; None if the system's clock couldn't be read then.
-    pub fn new(rt: &'a R, start: Option<Instant>) -> Self {
+    pub fn new(rt: &'a R, start: Option<Instant>) -> Self
+        ensures beginning { beginning result ≡ start }
+        ensures last { last_moment result ≡ 0 }
+    {
         Stopwatch {
             rt,
             start,
@@ -26,12 +32,24 @@ impl<'a, R: Clock> Stopwatch<'a, R> {
 }
 
 impl<R: Clock> Moments for Stopwatch<'_, R> {
-    fn now(&mut self) -> Moment {
-        if let Some(milliseconds) = milliseconds_since(self.rt, self.start) {
-            if let Some(moment) = Moment::new(milliseconds) {
-                self.last = moment;
-            }
-        }
-        self.last
+    fn now(&mut self) -> Moment
+        ensures beginning { beginning self.new ≡ beginning self.old }
+        ensures last { last_moment self.new ≡ result }
+        ensures still { IsNone (beginning self.old) → result ≡ last_moment self.old }
+    {
+        let told = moment_told(self.last, milliseconds_since(self.rt, self.start));
+        self.last = told;
+        told
+    }
+}
+
+/// What a clock tells that told `last` before and now reads so many milliseconds: that moment; but
+/// `last` if it can't be read, or if the milliseconds are no moment.
+fn moment_told(last: Moment, milliseconds: Option<u64>) -> Moment
+    ensures { result ≡ moment_told last milliseconds }
+{
+    match milliseconds {
+        Some(milliseconds) => Moment::new(milliseconds).unwrap_or(last),
+        None => last,
     }
 }
