@@ -3,4 +3,5 @@ pub mod Stored
 pub mod Due
 pub mod Births
 pub mod Told
+pub mod ToldTexts
 pub mod Rows

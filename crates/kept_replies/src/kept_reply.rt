@@ -4,6 +4,7 @@ ghost use Rattle.std.specs.Prelude.{◌≡◌, ◌≤◌, [], IfOk, None, length
 ghost use Rattle.std.specs.Cmp.{decided, partial_equiv_from_equiv};
 ghost use Rattle.std.specs.Option.{option_copied};
 ghost use Rattle.ras_module.proofs.Deciding.{reply_decides};
+ghost use Rattle.ras_module.specs.declared.reply.Reply.TheVariants.{Rcf};
 ghost use Rattle.ras_writing.specs.Encoded.{same_reply};
 ghost use Rattle.ras_writing.specs.Properties.{ReadsBack};
 ghost use Rattle.ras_writing.specs.Replies.{encoding_of};
@@ -11,7 +12,7 @@ ghost use Rattle.kept_replies.specs.Told.{identifier_in};
 
 use crate::told_id::ToldId;
 use ras_module::Reply;
-use ras_writing::EncodedReply;
+use ras_writing::{EncodedReply, LentConfirm};
 use std::alloc::{AllocError, Global};
 use std::marker::Model;
 
@@ -48,6 +49,25 @@ impl KeptReply {
         Ok(KeptReply {
             encoded: EncodedReply::new(buffer, reply, octets),
             told,
+        })
+    }
+
+    /// A RegistrationConfirm whose values are lent, for which these octets were written.
+    pub fn of_confirm(
+        alloc: Global,
+        confirm: &LentConfirm<'_>,
+        octets: &[u8],
+    ) -> Result<Self, AllocError>
+        requires written { octets.now ≡ encoding_of (Rcf confirm.now) }
+        requires few { length octets.now ≤ Reply.MOST }
+        requires reads_back { ReadsBack (Rcf confirm.now) }
+        ensures { IfOk result (λ kept. kept ≡ Rcf confirm.now) }
+    {
+        let buffer = Vec::with_capacity(alloc, octets.len())?;
+        let told = ToldId::of(alloc, confirm.endpoint)?;
+        Ok(KeptReply {
+            encoded: EncodedReply::of_confirm(buffer, confirm, octets),
+            told: Some(told),
         })
     }
 

@@ -7,22 +7,34 @@ use ras_module::{BmpString, EndpointId};
 use std::alloc::{AllocError, Global};
 use std::marker::Model;
 
-/// An identifier in memory of its own length: of a few octets where an [`EndpointId`] has 264.
-/// Contracts see the list of its characters.
+/// The most characters of an identifier that stands in its place and takes no memory. The
+/// gatekeeper hands out longer ones only after a hundred million.
+const MOST_IN_PLACE: usize = 8;
+
+/// An identifier in a few octets, where an [`EndpointId`] has 264. Contracts see the list of its
+/// characters.
 #[derive(Drop)]
 pub struct ToldId {
-    characters: Vec<u16>,
+    text: ToldText,
+}
+
+/// The characters: a few of them in their place, more in memory of their own length.
+#[derive(Drop)]
+pub(crate) enum ToldText {
+    InPlace(BmpString<MOST_IN_PLACE>),
+    Apart(Vec<u16>),
 }
 
 impl Model for ToldId {
     ghost use Rattle.std.specs.Prelude.{ℕ, List};
     ghost use Rattle.ras_module.specs.Texts.{IsText};
+    ghost use Rattle.kept_replies.specs.inside.ToldTexts.{characters_of};
 
     ghost Value = { List ℕ };
 
-    ghost view = { λ t. t.characters.items };
+    ghost view = { λ t. characters_of t.text };
 
-    ghost invariant = { λ t. IsText 128 t.characters.items };
+    ghost invariant = { λ t. IsText 128 (characters_of t.text) };
 }
 
 impl ToldId {
@@ -30,8 +42,12 @@ impl ToldId {
     pub(crate) fn of(alloc: Global, id: &EndpointId) -> Result<Self, AllocError>
         ensures { IfOk result (λ told. told ≡ id.now) }
     {
-        let characters = Vec::from_slice(alloc, id.as_slice())?;
-        Ok(ToldId { characters })
+        let characters = id.as_slice();
+        let text = match BmpString::new(characters) {
+            Some(text) => ToldText::InPlace(text),
+            None => ToldText::Apart(Vec::from_slice(alloc, characters)?),
+        };
+        Ok(ToldId { text })
     }
 
     /// The characters.
@@ -39,7 +55,10 @@ impl ToldId {
         ensures items { result.now ≡ self.now }
         ensures text { IsText 128 self.now }
     {
-        &self.characters
+        match &self.text {
+            ToldText::InPlace(text) => text.as_slice(),
+            ToldText::Apart(characters) => characters,
+        }
     }
 
     /// The identifier as endpoints are looked up by it. This takes no memory.
@@ -53,7 +72,12 @@ impl ToldId {
     pub(crate) fn copy(&self) -> Result<Self, AllocError>
         ensures { IfOk result (λ copy. copy ≡ self.now) }
     {
-        let characters = Vec::from_slice(*self.characters.allocator(), &self.characters)?;
-        Ok(ToldId { characters })
+        let text = match &self.text {
+            ToldText::InPlace(text) => ToldText::InPlace(*text),
+            ToldText::Apart(characters) => {
+                ToldText::Apart(Vec::from_slice(*characters.allocator(), characters)?)
+            }
+        };
+        Ok(ToldId { text })
     }
 }

@@ -7,4 +7,4 @@ mod laws;
 pub use laws::{one_reply, room_is_enough, written_reads_back};
 pub use ras_grammar::ReadFault;
 pub use ras_reading::read;
-pub use ras_writing::{write_into, write_reserved};
+pub use ras_writing::{LentConfirm, write_confirm, write_into, write_reserved};

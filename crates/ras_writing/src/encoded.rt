@@ -3,10 +3,12 @@
 ghost use Rattle.std.specs.Prelude.{◌≡◌, ◌≤◌, ◌↔◌, [], IfOk, IsTrue, length, vec_capacity};
 ghost use Rattle.std.specs.Cmp.{decided, partial_equiv_from_equiv};
 ghost use Rattle.ras_module.proofs.Deciding.{reply_decides};
+ghost use Rattle.ras_module.specs.declared.reply.Reply.TheVariants.{Rcf};
 ghost use Rattle.ras_writing.specs.Encoded.{same_reply, reply_of};
 ghost use Rattle.ras_writing.specs.Properties.{ReadsBack};
 ghost use Rattle.ras_writing.specs.Replies.{encoding_of};
 
+use crate::confirm::LentConfirm;
 use ras_module::Reply;
 use std::alloc::AllocError;
 use std::marker::Model;
@@ -43,6 +45,22 @@ impl EncodedReply {
         requires reads_back { ReadsBack reply.now }
         ensures { result ≡ reply.now }
     {
+        EncodedReply {
+            octets: filled(buffer, octets),
+        }
+    }
+
+    /// The same of a RegistrationConfirm whose values are lent.
+    pub fn of_confirm(buffer: Vec<u8>, confirm: &LentConfirm<'_>, octets: &[u8]) -> Self
+        requires empty { buffer.items ≡ [] }
+        requires room { length octets.now ≤ vec_capacity buffer }
+        requires bounded { vec_capacity buffer ≤ Reply.MOST }
+        requires written { octets.now ≡ encoding_of (Rcf confirm.now) }
+        requires few { length octets.now ≤ Reply.MOST }
+        requires reads_back { ReadsBack (Rcf confirm.now) }
+        ensures { result ≡ Rcf confirm.now }
+    {
+        let _ = confirm;
         EncodedReply {
             octets: filled(buffer, octets),
         }

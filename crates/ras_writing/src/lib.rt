@@ -2,9 +2,11 @@
 //! (ITU-T X.691).
 #![tactic(auto)]
 
+mod confirm;
 mod encoded;
 mod encoder;
 mod reply;
 
+pub use confirm::LentConfirm;
 pub use encoded::EncodedReply;
-pub use reply::{write_into, write_reserved};
+pub use reply::{write_confirm, write_into, write_reserved};

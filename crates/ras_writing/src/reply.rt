@@ -20,6 +20,7 @@ ghost use Rattle.ras_writing.specs.Properties.{IsSeq, IsAddress, AreAliases, IsR
 ghost use Rattle.ras_writing.specs.Properties.{ReadsBack};
 ghost use Rattle.ras_module.specs.Rooms.{room_of};
 
+use crate::confirm::LentConfirm;
 use crate::encoder::{
     alias_list, band_width, identifier, null_choice, null_extension, protocol_identifier,
     request_seq_num, root_message, transport_address, zero_octet,
@@ -27,7 +28,7 @@ use crate::encoder::{
 use per_bits::BitWriter;
 use ras_module::{
     Address, AdmissionRejectReason, Alias, BandRejectReason, Delay, DisengageRejectReason,
-    GatekeeperConfirm, GatekeeperRejectReason, RegistrationConfirm, RegistrationRejectReason,
+    GatekeeperConfirm, GatekeeperRejectReason, RegistrationRejectReason,
     Reply, ReplyAliases, RequestSeqNum, TimeToLive, UnregRejectReason,
 };
 use std::alloc::AllocError;
@@ -204,7 +205,7 @@ fn registration_confirm_front(
 /// RegistrationConfirm: its front, its aliases, the identifiers of the gatekeeper and of the
 /// endpoint, its additions.
 #[tactic(auto, using(crate::proofs::Behind::behind_append), unfolding(crate::specs::Replies::registration_confirm))]
-pub fn registration_confirm(writer: &mut BitWriter, confirm: &RegistrationConfirm)
+pub fn registration_confirm(writer: &mut BitWriter, confirm: &LentConfirm<'_>)
     requires { 8 * room_of (reply.Rcf confirm.now) ≤ writer.old.room }
     ensures writes { Writes (8 * room_of (reply.Rcf confirm.now))
         (components (reply.Rcf confirm.now)) writer.old writer.new }
@@ -428,7 +429,7 @@ fn write_components(writer: &mut BitWriter, reply: &Reply)
     match reply {
         Reply::Gcf(confirm) => gatekeeper_confirm(writer, confirm.get()),
         Reply::Grj { seq, reason } => gatekeeper_reject(writer, *seq, *reason),
-        Reply::Rcf(confirm) => registration_confirm(writer, confirm.get()),
+        Reply::Rcf(confirm) => registration_confirm(writer, &LentConfirm::of(confirm.get())),
         Reply::Rrj { seq, reason } => registration_reject(writer, *seq, reason),
         Reply::Ucf { seq } => unregistration_confirm(writer, *seq),
         Reply::Urj { seq, reason } => unregistration_reject(writer, *seq, *reason),
@@ -460,6 +461,22 @@ pub fn write_reserved(reply: &Reply, octets: &mut Vec<u8>)
     let empty = Vec::new(*octets.allocator());
     let mut writer = BitWriter::new(mem::replace(octets, empty));
     write_components(&mut writer, reply);
+    *octets = writer.finish();
+}
+
+/// Writes a RegistrationConfirm whose values are lent, as `write_reserved` writes it.
+#[tactic(auto, using(crate::proofs::Rooms::room_enough, crate::proofs::Rooms::few_octets, crate::proofs::RepliesRead::reads_back))]
+pub fn write_confirm(confirm: &LentConfirm<'_>, octets: &mut Vec<u8>)
+    requires { vec_len octets.old + room_of (reply.Rcf confirm.now) ≤ vec_capacity octets.old }
+    ensures written { octets.new.items
+        ≡ octets.old.items ++ encoding_of (reply.Rcf confirm.now) }
+    ensures room { length (encoding_of (reply.Rcf confirm.now)) ≤ room_of (reply.Rcf confirm.now) }
+    ensures most { length (encoding_of (reply.Rcf confirm.now)) ≤ Reply.MOST }
+    ensures reads_back { ReadsBack (reply.Rcf confirm.now) }
+{
+    let empty = Vec::new(*octets.allocator());
+    let mut writer = BitWriter::new(mem::replace(octets, empty));
+    registration_confirm(&mut writer, confirm);
     *octets = writer.finish();
 }
 
