@@ -18,7 +18,8 @@ use Rattle.ras_requests.specs.Plans.{Plan, Served, Settled, Naming, Asking}
 use Rattle.ras_requests.specs.Requests.{plan_of, HasReply}
 use Rattle.zone_tables.specs.Soundness.{CountsOneMore}
 use Rattle.zone_tables.specs.Changes.{heard}
-use Rattle.ras_requests.specs.Planned.{IsPlanOf, RequestsUnits, may_return_units_by, served}
+use Rattle.ras_requests.specs.Planned.{IsPlanOf, Renews, RequestsUnits, may_return_units_by, served}
+use Rattle.ras_requests.specs.declared.plan.GrantedTime.{GrantedTime}
 use Rattle.ras_requests.specs.declared.plan.Settlement.{Settlement}
 use Rattle.zone_tables.specs.declared.unit_request.UnitRequest.{UnitRequest}
 use Rattle.zone_tables.specs.Leaving.{AreSameButLent}
@@ -142,6 +143,7 @@ pub record IsChosen (s : State) (now : ℕ) (event : Event) (called : code.Cours
 -- an unused identifier is handed out, if one is called for
 abbrev pub MayBeGiven : State → CodePlan → Option (List ℕ) → Type 0
 MayBeGiven s (code_plan.Settled settlement) given = Unit {0}
+MayBeGiven s (code_plan.Renewing time) given = Unit {0}
 MayBeGiven s (code_plan.Naming newcomer) given = IsSomeAnd given (IsUnusedIn s)
 MayBeGiven s (code_plan.Asking unit_request) given = Unit {0}
 
@@ -163,6 +165,12 @@ abbrev pub CarriesOut : State → ℕ → Job → Request → Settlement → Opt
     → Type 0
 CarriesOut old now job request settlement given outcome new = (plan : Plan)
     → resolved plan given ≡ Some (served old.tables now request settlement)
+    → Does old now (serving job now request plan) outcome new
+
+-- a registration is kept alive for this time by a plan that says so
+abbrev pub KeepsAlive : State → ℕ → Job → Request → GrantedTime → Outcome → State → Type 0
+KeepsAlive old now job request time outcome new = (plan : Plan)
+    → Renews old.tables now request plan time
     → Does old now (serving job now request plan) outcome new
 
 -- a request is served by a plan in which these units are requested

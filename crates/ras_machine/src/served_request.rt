@@ -1,15 +1,17 @@
 //! Serving requests: the plan is carried out, and the reply is kept.
 
-ghost use Rattle.std.specs.Prelude.{◌≡◌, ◌^◌, All, IfSome, IsSome, None, OnErr, OnOk, Some};
+ghost use Rattle.std.specs.Prelude.{◌≡◌, ◌^◌, All, IfOk, IfSome, IsSome, None, OnErr, OnOk, Some};
 ghost use Rattle.ras_requests.specs.Requests.{endpoint_of};
 ghost use Rattle.zone_tables.specs.Changes.{IsPossible, IsRegistered};
-ghost use Rattle.ras_requests.specs.Planned.{asker_of};
+ghost use Rattle.std.specs.FinMap as fin;
+ghost use Rattle.ras_requests.specs.Planned.{asker_of, renewal_of};
 ghost use Rattle.zone_tables.specs.UnitRequests.{IsUnitRequest, leg_of_purpose, units_requested};
 ghost use Rattle.zone_tables.specs.Parts.{usage_of};
 ghost use Rattle.zone_tables.specs.Soundness.{SoundTables};
 ghost use Rattle.ras_machine.specs.Soundness.{Sound};
 ghost use Rattle.ras_machine.specs.Steps.{IsAskedOnce, IsTimely, IsUnusedIn};
-ghost use Rattle.ras_machine.specs.Courses.{CarriesOut, IsAskedFor, IsPlacedIn, IsTask};
+ghost use Rattle.ras_machine.specs.Courses.{CarriesOut, IsAskedFor, IsPlacedIn, IsTask, KeepsAlive};
+ghost use Rattle.ras_machine.specs.inside.Written.{IsWritten};
 ghost use Rattle.ras_machine.specs.Courses.{MayBeGiven, Serves, ServesByUnits, heard_at};
 
 use crate::course::Task;
@@ -17,13 +19,21 @@ use crate::job::{Job, Occasion};
 use crate::kept_entry::{keep, reserve, state_after};
 use crate::machine::Machine;
 use kept_replies::{KeptReply, KeptState};
-use ras_codec::write_reserved;
-use ras_module::{Octets, Reply, Request};
-use ras_requests::{Plan, Settlement, endpoint_of, seq_of, unit_reply};
+use ras_codec::{LentConfirm, write_confirm, write_reserved};
+use ras_module::{Octets, Reply, Request, Source};
+use ras_requests::{GrantedTime, Plan, Settlement, endpoint_of, seq_of, unit_reply};
+use registrations::Registration;
 use std::alloc::AllocError;
 use zone_config::Moment;
 use zone_events::{Datagram, Outcome};
-use zone_tables::{Lender, UnitRequest, ZoneTables};
+use zone_tables::{Change, EndpointChange, Lender, UnitRequest, ZoneTables};
+
+/// A reply that is written: as it is sent, and as it is kept.
+#[derive(Drop)]
+struct Written {
+    output: Datagram,
+    reply: KeptReply,
+}
 
 impl Machine {
     /// Serves a request: its plan is carried out, and its reply is kept. A new endpoint gets
@@ -54,6 +64,10 @@ impl Machine {
             Plan::Settled(settlement) => {
                 outcome.given = None;
                 self.carry_out(now, job, &request, settlement, outcome)
+            }
+            Plan::Renewing(time) => {
+                outcome.given = None;
+                self.renew(now, job, &request, time, outcome)
             }
             Plan::Naming(newcomer) => {
                 let id = outcome.given.as_ref().unwrap();
@@ -89,22 +103,100 @@ impl Machine {
     {
         let Settlement { reply, change } = settlement;
         let output = self.datagram(job.key.source, &reply)?;
-        let kept_reply = KeptReply::new(self.alloc, &reply, output.bytes.as_slice())?;
-        let term = self.tables.config().term(now);
+        let reply = KeptReply::new(self.alloc, &reply, output.bytes.as_slice())?;
+        self.complete(now, job, request, change, Written { output, reply }, outcome)
+    }
+
+    /// Keeps alive the registration of the endpoint that a request names, and keeps the reply, which
+    /// is written from the registration where it stands.
+    fn renew(
+        &mut self,
+        now: Moment,
+        job: Job,
+        request: &Request,
+        time: GrantedTime,
+        outcome: &mut Outcome,
+    ) -> Result<(), AllocError>
+        requires names { IsSome (endpoint_of request.now) }
+        requires registered { IsSome (fin.get self.old.tables.live (asker_of request.now)) }
+        requires none_given { outcome.old.given ≡ None }
+        requires placed { IsPlacedIn self.old job }
+        requires timely { IsTimely self.old now job.occasion }
+        requires sound { Sound self.old }
+        ensures does { OnOk result (KeepsAlive self.old now job request.now time
+            outcome.new self.new) }
+        ensures none_given { OnOk result (outcome.new.given ≡ None) }
+        ensures answer { OnOk result (outcome.new.answer ≡ None) }
+        ensures err { OnErr result (self.new ≡ self.old) }
+    {
+        let endpoint = endpoint_of(request).unwrap();
+        let registration = self.tables.registrations().get(endpoint).unwrap();
+        let written = self.confirmed(job.key.source, time, registration)?;
+        let change = EndpointChange::Renewal(registration.call_signal, time.deadline);
+        self.complete(now, job, request, Change::Endpoint(change), written, outcome)
+    }
+
+    /// The RegistrationConfirm of an endpoint that is granted a new time to live.
+    fn confirmed(
+        &self,
+        to: Source,
+        time: GrantedTime,
+        registration: &Registration,
+    ) -> Result<Written, AllocError>
+        ensures reply { IfOk result (λ written.
+            written.reply ≡ (renewal_of self.now.tables time registration.now).reply) }
+        ensures written { IfOk result (IsWritten to) }
+    {
+        let confirm = LentConfirm {
+            seq: time.seq,
+            call_signal: registration.call_signal,
+            aliases: &registration.aliases,
+            gatekeeper: &self.tables.config().parts().identifier,
+            endpoint: &registration.identifier,
+            granted: time.granted,
+        };
+        let mut bytes = Vec::with_capacity(self.alloc, confirm.room())?;
+        write_confirm(&confirm, &mut bytes);
+        let reply = KeptReply::of_confirm(self.alloc, &confirm, &bytes)?;
+        let bytes = Octets::from_vec(bytes);
+        Ok(Written {
+            output: Datagram { to, bytes },
+            reply,
+        })
+    }
+
+    /// Makes the change of a request whose reply is written, and keeps the reply. All that may want
+    /// memory comes before the first change.
+    fn complete(
+        &mut self,
+        now: Moment,
+        job: Job,
+        request: &Request,
+        change: Change,
+        written: Written,
+        outcome: &mut Outcome,
+    ) -> Result<(), AllocError>
+        requires possible { IsPossible self.old.tables (endpoint_of request.now) change }
+        requires written { IsWritten job.key.source written }
+        requires unused { IfSome outcome.old.given (IsUnusedIn self.old) }
+        requires placed { IsPlacedIn self.old job }
+        requires timely { IsTimely self.old now job.occasion }
+        requires sound { Sound self.old }
+        ensures does { OnOk result (CarriesOut self.old now job request.now
+            (record { reply = written.reply; change = change })
+            outcome.old.given outcome.new self.new) }
+        ensures given { OnOk result (outcome.new.given ≡ outcome.old.given) }
+        ensures answer { OnOk result (outcome.new.answer ≡ None) }
+        ensures err { OnErr result (self.new ≡ self.old) }
+    {
+        let Written { output, reply } = written;
+        let until = self.tables.config().term(now).until;
         let occasion = job.occasion;
         reserve(&mut self.kept, &job)?;
         self.tables.apply(now, endpoint_of(request), change)?;
         hear(&mut self.tables, occasion, now, request);
-        let until = term.until;
-        keep(
-            &mut self.kept,
-            job,
-            self.steps,
-            KeptState::Done {
-                reply: kept_reply,
-                until,
-            },
-        );
+        let state = KeptState::Done { reply, until };
+        keep(&mut self.kept, job, self.steps, state);
         outcome.answer = None;
         outcome.output = Some(output);
         outcome.note = occasion.note();

@@ -7,7 +7,7 @@ use Rattle.std.specs.FinMap as fin
 use Rattle.keyed.specs.Maps.{update}
 use Rattle.keyed.proofs.Decide.{some_none}
 use Rattle.ras_module.specs.declared.address.Address.{Address}
-use Rattle.ras_module.specs.declared.reply.Reply.{Reply}
+use Rattle.ras_module.specs.declared.reply.Reply.TheVariants.{Rcf}
 use Rattle.ras_module.specs.declared.request.Request.TheVariants.{Rrq}
 use Rattle.ras_module.specs.declared.reason.RegistrationRejectReason.TheVariants as reject
 use reject.{FullRegistrationRequired}
@@ -15,25 +15,23 @@ use Rattle.ras_module.specs.declared.request.RegistrationRequest.{RegistrationRe
 use Rattle.registrations.specs.declared.registration.Registration.{Registration}
 use Rattle.registrations.specs.Registry.{IsConsistent, at_address, with_deadline}
 use Rattle.registrations.proofs.Consistent.{IsAt-found}
-use Rattle.zone_tables.specs.declared.change.Change.TheVariants.{Endpoint}
-use Rattle.zone_tables.specs.declared.change.EndpointChange.TheVariants.{Renewal}
 use Rattle.zone_tables.specs.Tables.{Tables, identifier_at, identifier_or_none, with_live}
 use Rattle.ras_requests.specs.Rrq.{keep_alive, named, has_moved, confirmation, deadline}
-use Rattle.ras_requests.specs.Rrq.{rejection}
+use Rattle.ras_requests.specs.Rrq.{granted, rejection}
 use Rattle.ras_requests.specs.Urq.{leaving}
-use Rattle.ras_requests.specs.Planned.{Settles}
+use Rattle.ras_requests.specs.declared.plan.GrantedTime.{GrantedTime}
+use Rattle.ras_requests.specs.Planned.{Renews, Settles, renewal_of}
 use Rattle.ras_requests.specs.Plans.{Settled}
 use Rattle.zone_tables.proofs.Addressed.{found_at}
 use Rattle.zone_tables.proofs.Answered.{is_there}
 
 -- a registration is kept alive
-pub Settles-renewal : (z : Tables) (now : ℕ) (q : RegistrationRequest) (id : List ℕ)
-    (r : Registration) (reply : Reply) (until : ℕ) → IsConsistent z.live
+Settles-renewal : (z : Tables) (now : ℕ) (q : RegistrationRequest) (id : List ℕ)
+    (r : Registration) (g : GrantedTime) → IsConsistent z.live
     → q.endpoint ≡ Some id → fin.get z.live id ≡ Some r → has_moved r q.ras ≡ false
-    → reply ≡ confirmation z q r.call_signal r.aliases r.identifier → until ≡ deadline z now q
-    → Settles z now (Rrq q) (keep_alive z now q (named z q.endpoint))
-    (record { reply = reply; change = Endpoint (Renewal r.call_signal until) })
-Settles-renewal z now q id r reply until sound names there stays reply_is until_is =
+    → g.seq ≡ q.seq → g.granted ≡ granted z q.time_to_live → g.deadline ≡ deadline z now q
+    → Settles z now (Rrq q) (keep_alive z now q (named z q.endpoint)) (renewal_of z g r)
+Settles-renewal z now q id r g sound names there stays seq_is granted_is until_is =
     let at = found_at z.live sound id r there in
     let here : identifier_at z.live r.call_signal ≡ r.identifier = ap identifier_or_none at in
     record {
@@ -45,10 +43,30 @@ Settles-renewal z now q id r reply until sound names there stays reply_is until_
                 (with_deadline (deadline z now q)));
           })) stays
           ∙ (λ i. Settled (record {
-            reply = sym reply_is i;
+            reply = Rcf (record {
+              seq = sym seq_is i;
+              call_signal = r.call_signal;
+              aliases = r.aliases;
+              gatekeeper = z.config.identifier;
+              endpoint = r.identifier;
+              granted = sym granted_is i;
+            });
             tables = with_live z (update z.live (sym here i) (with_deadline (sym until_is i)));
           }));
     }
+
+pub Renews-known : (z : Tables) (now : ℕ) (q : RegistrationRequest) (id : List ℕ)
+    (r : Registration) (g : GrantedTime) → IsConsistent z.live
+    → q.endpoint ≡ Some id → fin.get z.live id ≡ Some r → has_moved r q.ras ≡ false
+    → g.seq ≡ q.seq → g.granted ≡ granted z q.time_to_live → g.deadline ≡ deadline z now q
+    → Renews z now (Rrq q) (keep_alive z now q (named z q.endpoint)) g
+Renews-known z now q id r g sound names there stays seq_is granted_is until_is = record {
+  id = id;
+  registration = r;
+  names = names;
+  registered = there;
+  settles = Settles-renewal z now q id r g sound names there stays seq_is granted_is until_is;
+}
 
 -- what holds of a registration that is found holds of the one that is lent
 pub some_lent : (w : Option (Bor Registration)) (v : Option Registration)

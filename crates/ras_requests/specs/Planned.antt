@@ -1,5 +1,5 @@
--- What the code plans about a request: a reply with a change; a new endpoint; or a request to a
--- pool.
+-- What the code plans about a request: a reply with a change; a registration that is kept alive; a
+-- new endpoint; or a request to a pool.
 use Rattle.std.specs.Prelude.{◌≡◌, ℕ, List, [], Bool, false, None, Some, IfSome, IsSome}
 use Rattle.std.specs.Option.{unwrap_or}
 use Rattle.std.specs.FinMap.{get}
@@ -8,8 +8,9 @@ use Rattle.ras_module.specs.declared.request.Request.{Request}
 use Rattle.ras_module.specs.declared.request.Request.TheVariants.{Grq, Rrq}
 use Rattle.registrations.specs.declared.registration.Registration.{Registration}
 use Rattle.zone_tables.specs.declared.change.Change.TheVariants.{Endpoint}
-use Rattle.zone_tables.specs.declared.change.EndpointChange.TheVariants.{Addition}
+use Rattle.zone_tables.specs.declared.change.EndpointChange.TheVariants.{Addition, Renewal}
 use Rattle.ras_requests.specs.declared.plan.Settlement.{Settlement}
+use Rattle.ras_requests.specs.declared.plan.GrantedTime.{GrantedTime}
 use Rattle.ras_requests.specs.declared.plan.Newcomer.{Newcomer}
 use Rattle.zone_tables.specs.declared.unit_request.UnitRequest.{UnitRequest}
 use Rattle.ras_requests.specs.declared.plan.Plan.{Plan as CodePlan}
@@ -73,6 +74,30 @@ pub record Names (z : Tables) (now : ℕ) (request : Request) (plan : Plan) (n :
       → IsPossible z (endpoint_of request) (settlement_under n id).change
   pub is : plan ≡ Naming (named_by z now request n)
 
+-- what a registration that is kept alive comes to: its RegistrationConfirm, and its new time to
+-- live
+abbrev pub renewal_of : Tables → GrantedTime → Registration → Settlement
+renewal_of z g r = record {
+  reply = Rcf (record {
+    seq = g.seq;
+    call_signal = r.call_signal;
+    aliases = r.aliases;
+    gatekeeper = z.config.identifier;
+    endpoint = r.identifier;
+    granted = g.granted;
+  });
+  change = Endpoint (Renewal r.call_signal g.deadline);
+}
+
+-- The request names an endpoint that is registered, which is granted a new time to live.
+pub record Renews (z : Tables) (now : ℕ) (request : Request) (plan : Plan) (g : GrantedTime)
+    : Type 0 where
+  pub id : List ℕ
+  pub registration : Registration
+  pub names : endpoint_of request ≡ Some id
+  pub registered : get z.live id ≡ Some registration
+  pub settles : Settles z now request plan (renewal_of z g registration)
+
 -- the endpoint that a request names; the empty list if it names none
 abbrev pub asker_of : Request → List ℕ
 asker_of request = unwrap_or (endpoint_of request) []
@@ -98,12 +123,14 @@ pub record RequestsUnits (z : Tables) (request : Request) (plan : Plan) (q : Uni
 -- a plan of the code is this plan, and can be carried out
 abbrev pub IsPlan : Tables → ℕ → Request → Plan → CodePlan → Type 0
 IsPlan z now request plan (code_plan.Settled d) = Settles z now request plan d
+IsPlan z now request plan (code_plan.Renewing g) = Renews z now request plan g
 IsPlan z now request plan (code_plan.Naming n) = Names z now request plan n
 IsPlan z now request plan (code_plan.Asking q) = RequestsUnits z request plan q
 
 -- units may come back to a pool only by a change that settles a request
 abbrev pub may_return_units_by : CodePlan → Bool
 may_return_units_by (code_plan.Settled d) = may_return_units d.change
+may_return_units_by (code_plan.Renewing g) = false
 may_return_units_by (code_plan.Naming n) = false
 may_return_units_by (code_plan.Asking q) = false
 
@@ -112,9 +139,9 @@ abbrev pub IsPlanOf : Tables → ℕ → Request → CodePlan → Type 0
 IsPlanOf z now request p =
     (plan : Plan) → plan_of z now request ≡ Some plan → IsPlan z now request plan p
 
--- Memory is wanted for a plan at most if it is that of a discovery or a registration that names no
--- other gatekeeper: for a confirm, and for the aliases that are registered.
+-- Memory is wanted for a plan at most if it is that of a discovery or a full registration that names
+-- no other gatekeeper: for a confirm, and for the aliases that are registered.
 abbrev pub MayWantMemory : Tables → Request → Type 0
 MayWantMemory z (Grq q) = is_foreign z q.gatekeeper ≡ false
-MayWantMemory z (Rrq q) = is_foreign z q.gatekeeper ≡ false
+MayWantMemory z (Rrq q) = (is_foreign z q.gatekeeper ≡ false) × (q.keep_alive ≡ false)
 MayWantMemory z other = ⊥

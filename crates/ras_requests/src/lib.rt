@@ -1,6 +1,6 @@
 //! What each request to a gatekeeper comes to (ITU-T H.225.0, RAS), as it is decided by look-ups in
-//! the tables of the zone: a reply with a change; or a new endpoint, for which an identifier is
-//! chosen; or units that are requested of a pool.
+//! the tables of the zone: a reply with a change; or a registration that is kept alive; or a new
+//! endpoint, for which an identifier is chosen; or units that are requested of a pool.
 #![tactic(auto)]
 
 mod arq;
@@ -13,6 +13,6 @@ mod requests;
 mod rrq;
 mod urq;
 
-pub use plan::{Newcomer, Plan, Settlement};
+pub use plan::{GrantedTime, Newcomer, Plan, Settlement};
 pub use replies::unit_reply;
 pub use requests::{endpoint_of, plan_of, seq_of};

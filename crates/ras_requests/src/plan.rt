@@ -95,11 +95,22 @@ impl Newcomer {
     }
 }
 
-/// How a request is served: it is settled at once; or an unused identifier is chosen for a new
-/// endpoint; or a pool is asked for units.
+/// A registration that is kept alive (H.225.0, RRQ with keepAlive): a new time to live for the
+/// endpoint that the request names. What its RegistrationConfirm tells stands in the registration.
+#[derive(Clone, Copy)]
+pub struct GrantedTime {
+    pub seq: RequestSeqNum,
+    pub granted: TimeToLive,
+    /// When the registration ends, in milliseconds.
+    pub deadline: u64,
+}
+
+/// How a request is served: it is settled at once; or a registration is kept alive; or an unused
+/// identifier is chosen for a new endpoint; or a pool is asked for units.
 #[derive(Drop)]
 pub enum Plan {
     Settled(Settlement),
+    Renewing(GrantedTime),
     Naming(Boxed<Newcomer>),
     Asking(UnitRequest),
 }
@@ -111,7 +122,7 @@ impl Plan {
     {
         match self {
             Plan::Settled(settlement) => settlement.change.may_return_units(),
-            Plan::Naming(_) | Plan::Asking(_) => false,
+            Plan::Renewing(_) | Plan::Naming(_) | Plan::Asking(_) => false,
         }
     }
 }

@@ -7,11 +7,11 @@ ghost use Rattle.registrations.specs.Agreement.{registered_elsewhere};
 ghost use Rattle.ras_requests.specs.Rrq.{confirmation, deadline, granted, has_moved};
 ghost use Rattle.ras_requests.specs.Rrq.{entering, full_registration};
 ghost use Rattle.ras_requests.specs.Rrq.{keep_alive, named, registration};
-ghost use Rattle.ras_requests.specs.Planned.{IsPlan, Settles};
+ghost use Rattle.ras_requests.specs.Planned.{IsPlan};
 ghost use Rattle.ras_requests.specs.Grq.{is_foreign};
 
 use crate::grq::is_foreign;
-use crate::plan::{Newcomer, Plan, Settlement};
+use crate::plan::{GrantedTime, Newcomer, Plan, Settlement};
 use ras_module::{
     Address, Alias, AliasList, Boxed, EndpointId, RegistrationConfirm, RegistrationRejectReason,
     RegistrationRequest, Reply, ReplyAliases, Request, TimeToLive,
@@ -63,30 +63,24 @@ fn confirmation(
     Ok(Reply::Rcf(Boxed::new(alloc, confirm)?))
 }
 
-/// A registration is kept alive if it is known and the endpoint hasn't moved.
-fn keep_alive(
-    alloc: Global,
-    tables: &ZoneTables,
-    now: Moment,
-    q: &RegistrationRequest,
-) -> Result<Settlement, AllocError>
-    ensures { IfOk result (Settles tables.now now (Request.Rrq q.now)
-        (keep_alive tables.now now q.now (named tables.now q.now.endpoint))) }
+/// A registration is kept alive if it is known and the endpoint hasn't moved. This takes no memory.
+fn keep_alive(tables: &ZoneTables, now: Moment, q: &RegistrationRequest) -> Plan
+    ensures { IsPlan tables.now now (Request.Rrq q.now)
+        (keep_alive tables.now now q.now (named tables.now q.now.endpoint)) result }
 {
     let Some(id) = &q.endpoint else {
-        return Ok(rejection(q, RegistrationRejectReason::FullRegistrationRequired));
+        return rejected(q, RegistrationRejectReason::FullRegistrationRequired);
     };
     let Some(r) = tables.registrations().get(id) else {
-        return Ok(rejection(q, RegistrationRejectReason::FullRegistrationRequired));
+        return rejected(q, RegistrationRejectReason::FullRegistrationRequired);
     };
     if has_moved(r, q.ras) {
-        return Ok(rejection(q, RegistrationRejectReason::FullRegistrationRequired));
+        return rejected(q, RegistrationRejectReason::FullRegistrationRequired);
     }
-    let told = r.aliases.copy()?;
-    let renewal = EndpointChange::Renewal(r.call_signal, deadline(tables, now, q));
-    Ok(Settlement {
-        reply: confirmation(alloc, tables, q, r.call_signal, told, &r.identifier)?,
-        change: Change::Endpoint(renewal),
+    Plan::Renewing(GrantedTime {
+        seq: q.seq,
+        granted: granted(tables, q.time_to_live),
+        deadline: deadline(tables, now, q),
     })
 }
 
@@ -195,26 +189,17 @@ pub(crate) fn register(
 ) -> Result<Plan, AllocError>
     ensures plans { IfOk result (IsPlan tables.now now (Request.Rrq q.now)
         (registration tables.now now q.now)) }
-    ensures memory { OnErr result (is_foreign tables.now q.now.gatekeeper ≡ false) }
+    ensures foreign { OnErr result (is_foreign tables.now q.now.gatekeeper ≡ false) }
+    ensures full { OnErr result (q.now.keep_alive ≡ false) }
 {
     if is_foreign(tables, &q.gatekeeper) {
         return Ok(rejected(q, RegistrationRejectReason::DiscoveryRequired));
     }
     if q.keep_alive {
-        Ok(Plan::Settled(keep_alive(alloc, tables, now, q)?))
+        Ok(keep_alive(tables, now, q))
     } else {
         register_fully(alloc, tables, now, q)
     }
-}
-
-/// A RegistrationReject.
-fn rejection(q: &RegistrationRequest, reason: RegistrationRejectReason) -> Settlement
-    ensures { result ≡ record {
-      reply = Reply.Rrj q.now.seq reason;
-      change = Change.Nothing;
-    } }
-{
-    Settlement::reply(Reply::Rrj { seq: q.seq, reason })
 }
 
 /// A request that is settled by a RegistrationReject.
@@ -224,7 +209,7 @@ fn rejected(q: &RegistrationRequest, reason: RegistrationRejectReason) -> Plan
       change = Change.Nothing;
     }) }
 {
-    Plan::Settled(rejection(q, reason))
+    Plan::Settled(Settlement::reply(Reply::Rrj { seq: q.seq, reason }))
 }
 
 /// Whether an address was given that is not the endpoint's.
