@@ -1,4 +1,5 @@
 pub mod Dropping
+pub mod Renewing
 pub mod Retrying
 pub mod Planning
 pub mod Calling

@@ -8,8 +8,9 @@ use Rattle.zone_tables.specs.Tables.{Tables}
 use Rattle.ras_requests.specs.Plans.{Plan}
 use Rattle.ras_requests.specs.Requests.{HasReply, endpoint_of, plan_of}
 use Rattle.zone_tables.specs.Changes.{IsPossible}
+use Rattle.ras_requests.specs.declared.plan.GrantedTime.{GrantedTime}
 use Rattle.ras_requests.specs.declared.plan.Newcomer.{Newcomer}
-use Rattle.ras_requests.specs.Planned.{RequestsUnits, IsPlanOf, Names}
+use Rattle.ras_requests.specs.Planned.{Renews, RequestsUnits, IsPlanOf, Names}
 use Rattle.ras_machine.proofs.Retrying.{plan_there}
 
 module _ (z : Tables) (now : ℕ) (request : Request) (served : HasReply request) where
@@ -20,6 +21,11 @@ module _ (z : Tables) (now : ℕ) (request : Request) (served : HasReply request
   pub possible_of : (d : Settlement) → IsPlanOf z now request (code_plan.Settled d)
       → IsPossible z (endpoint_of request) d.change
   possible_of d is = (is its_plan.0 its_plan.1).possible
+
+  -- a registration may be kept alive
+  pub renews_of : (time : GrantedTime) → IsPlanOf z now request (code_plan.Renewing time)
+      → Renews z now request its_plan.0 time
+  renews_of time is = is its_plan.0 its_plan.1
 
   -- and units may be requested
   pub requests_units_of : (q : UnitRequest) → IsPlanOf z now request (code_plan.Asking q)

@@ -1,5 +1,5 @@
 -- No units come back to a pool in a course that says so.
-use Rattle.std.proofs.Common.{◌≡◌, ◌∙◌, ◌+◌, ℕ, List, refl, sym, ap, subst, true, false, Some}
+use Rattle.std.proofs.Common.{◌≡◌, ◌∙◌, ◌+◌, ℕ, List, refl, sym, ap, subst, false, Some}
 use Rattle.std.proofs.Common.{None}
 use Rattle.std.specs.Prelude.{Option}
 use Rattle.ras_module.specs.declared.request.Request.{Request}
@@ -10,7 +10,6 @@ use Rattle.zone_events.specs.declared.due_item.DueItem.TheVariants.{Registration
 use Rattle.zone_events.specs.declared.due_item.DueItem.TheVariants.{Silent, Retry}
 use Rattle.zone_events.specs.declared.due_item.DueItem.TheVariants.{KeptOver, PoolTurn}
 use Rattle.zone_events.specs.declared.outcome.Outcome.{Outcome}
-use Rattle.zone_tables.specs.declared.change.CallChange.{CallChange}
 use Rattle.zone_tables.specs.declared.change.CallChange.TheVariants.{Opening, Joining, Lowering}
 use Rattle.zone_tables.specs.declared.change.CallChange.TheVariants.{Leaving}
 use Rattle.zone_tables.specs.declared.change.Change.{Change}
@@ -21,8 +20,9 @@ use Rattle.zone_tables.specs.Tables.{Tables}
 use Rattle.ras_requests.specs.declared.plan.Plan.{Plan as CodePlan}
 use Rattle.ras_requests.specs.declared.plan.Plan.TheVariants as code_plan
 use Rattle.ras_requests.specs.Plans.{Plan, Served, Settled, Naming, Asking, with_heard}
-use Rattle.ras_requests.specs.Planned.{IsPlan, granted_by, may_return_units_by, named_by}
-use Rattle.ras_requests.specs.Planned.{refused_by, served}
+use Rattle.ras_requests.specs.declared.plan.Settlement.{Settlement}
+use Rattle.ras_requests.specs.Planned.{IsPlan, Settles, granted_by, may_return_units_by, named_by}
+use Rattle.ras_requests.specs.Planned.{refused_by, renewal_of, served}
 use Rattle.zone_tables.specs.UnitRequests.{units_requested}
 use Rattle.ras_requests.specs.Requests.{endpoint_of}
 use Rattle.ras_machine.specs.declared.course.Course as code
@@ -134,14 +134,22 @@ module _ (s : State) (now : ℕ) (outcome : Outcome) (new : State) where
   abbrev Does : Course → Type 0
   Does c = Comes (course_ending s now c (choices_of outcome)) → Keeps (ask_in c)
 
-  by_plan : (job : Job) (request : Request) (plan : Plan) (c : CodePlan)
-      → IsPlan s.tables now request plan c → may_return_units_by c ≡ false
+  by_settlement : (job : Job) (request : Request) (plan : Plan) (d : Settlement)
+      → Settles s.tables now request plan d → may_return_units d.change ≡ false
       → Does (serving job now request plan)
-  by_plan job request plan (code_plan.Settled d) is still =
+  by_settlement job request plan d is still =
       subst (λ p. Does (serving job now request p)) (sym is.is)
       (settled_at (task_of job request (Settled (served s.tables now request d))) job.occasion
       (endpoint_of request) _
       (change_keeps s.tables now (endpoint_of request) d.change still))
+
+  by_plan : (job : Job) (request : Request) (plan : Plan) (c : CodePlan)
+      → IsPlan s.tables now request plan c → may_return_units_by c ≡ false
+      → Does (serving job now request plan)
+  by_plan job request plan (code_plan.Settled d) is still =
+      by_settlement job request plan d is still
+  by_plan job request plan (code_plan.Renewing time) is still =
+      by_settlement job request plan (renewal_of s.tables time is.registration) is.settles refl
   by_plan job request plan (code_plan.Naming n) is still =
       subst (λ p. Does (serving job now request p)) (sym is.is)
       (named_at (task_of job request (Naming (named_by s.tables now request n))) job.occasion

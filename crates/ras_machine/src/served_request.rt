@@ -4,14 +4,14 @@ ghost use Rattle.std.specs.Prelude.{◌≡◌, ◌^◌, All, IfOk, IfSome, IsSom
 ghost use Rattle.ras_requests.specs.Requests.{endpoint_of};
 ghost use Rattle.zone_tables.specs.Changes.{IsPossible, IsRegistered};
 ghost use Rattle.std.specs.FinMap as fin;
-ghost use Rattle.ras_requests.specs.Planned.{asker_of, renewal_of};
+ghost use Rattle.ras_requests.specs.Planned.{asker_of};
 ghost use Rattle.zone_tables.specs.UnitRequests.{IsUnitRequest, leg_of_purpose, units_requested};
 ghost use Rattle.zone_tables.specs.Parts.{usage_of};
 ghost use Rattle.zone_tables.specs.Soundness.{SoundTables};
 ghost use Rattle.ras_machine.specs.Soundness.{Sound};
 ghost use Rattle.ras_machine.specs.Steps.{IsAskedOnce, IsTimely, IsUnusedIn};
 ghost use Rattle.ras_machine.specs.Courses.{CarriesOut, IsAskedFor, IsPlacedIn, IsTask, KeepsAlive};
-ghost use Rattle.ras_machine.specs.inside.Written.{IsWritten};
+ghost use Rattle.ras_machine.specs.inside.Written.{IsRenewal, IsWritten};
 ghost use Rattle.ras_machine.specs.Courses.{MayBeGiven, Serves, ServesByUnits, heard_at};
 
 use crate::course::Task;
@@ -20,9 +20,8 @@ use crate::kept_entry::{keep, reserve, state_after};
 use crate::machine::Machine;
 use kept_replies::{KeptReply, KeptState};
 use ras_codec::{LentConfirm, write_confirm, write_reserved};
-use ras_module::{Octets, Reply, Request, Source};
+use ras_module::{EndpointId, Octets, Reply, Request, Source};
 use ras_requests::{GrantedTime, Plan, Settlement, endpoint_of, seq_of, unit_reply};
-use registrations::Registration;
 use std::alloc::AllocError;
 use zone_config::Moment;
 use zone_events::{Datagram, Outcome};
@@ -107,8 +106,7 @@ impl Machine {
         self.complete(now, job, request, change, Written { output, reply }, outcome)
     }
 
-    /// Keeps alive the registration of the endpoint that a request names, and keeps the reply, which
-    /// is written from the registration where it stands.
+    /// Keeps alive the registration of the endpoint that a request names, and keeps the reply.
     fn renew(
         &mut self,
         now: Moment,
@@ -130,23 +128,24 @@ impl Machine {
         ensures err { OnErr result (self.new ≡ self.old) }
     {
         let endpoint = endpoint_of(request).unwrap();
-        let registration = self.tables.registrations().get(endpoint).unwrap();
-        let written = self.confirmed(job.key.source, time, registration)?;
-        let change = EndpointChange::Renewal(registration.call_signal, time.deadline);
-        self.complete(now, job, request, Change::Endpoint(change), written, outcome)
+        let (change, written) = self.renewal(job.key.source, time, endpoint)?;
+        self.complete(now, job, request, change, written, outcome)
     }
 
-    /// The RegistrationConfirm of an endpoint that is granted a new time to live.
-    fn confirmed(
+    /// A registration that is kept alive: its change, and its RegistrationConfirm, which is written
+    /// from the registration where it stands.
+    fn renewal(
         &self,
         to: Source,
         time: GrantedTime,
-        registration: &Registration,
-    ) -> Result<Written, AllocError>
-        ensures reply { IfOk result (λ written.
-            written.reply ≡ (renewal_of self.now.tables time registration.now).reply) }
-        ensures written { IfOk result (IsWritten to) }
+        endpoint: &EndpointId,
+    ) -> Result<(Change, Written), AllocError>
+        requires { IsSome (fin.get self.now.tables.live endpoint.now) }
+        ensures renewal { IfOk result (λ made.
+            IsRenewal self.now.tables time endpoint.now made.0 made.1) }
+        ensures written { IfOk result (λ made. IsWritten to made.1) }
     {
+        let registration = self.tables.registrations().get(endpoint).unwrap();
         let confirm = LentConfirm {
             seq: time.seq,
             call_signal: registration.call_signal,
@@ -159,10 +158,9 @@ impl Machine {
         write_confirm(&confirm, &mut bytes);
         let reply = KeptReply::of_confirm(self.alloc, &confirm, &bytes)?;
         let bytes = Octets::from_vec(bytes);
-        Ok(Written {
-            output: Datagram { to, bytes },
-            reply,
-        })
+        let output = Datagram { to, bytes };
+        let change = EndpointChange::Renewal(registration.call_signal, time.deadline);
+        Ok((Change::Endpoint(change), Written { output, reply }))
     }
 
     /// Makes the change of a request whose reply is written, and keeps the reply. All that may want

@@ -133,6 +133,7 @@ module _ (s : State) (now : ℕ) where
         ≡ Some (outcome, after)
         → MayBeGiven s made outcome.given
     planned_given task plan (code_plan.Settled d) plans allowed is = tt
+    planned_given task plan (code_plan.Renewing time) plans allowed is = tt
     planned_given task plan (code_plan.Naming n) plans allowed is =
         occasion_given (record {
           job = task.job;

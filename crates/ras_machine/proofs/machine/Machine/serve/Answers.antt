@@ -1,16 +1,18 @@
 use Rattle.std.proofs.Common.{◌∙◌, List, ℕ, Some, None, ap, subst, sym}
-use Rattle.std.specs.Prelude.{Option}
-use Rattle.std.specs.Option.{IsSomeAnd, option_copied}
+use Rattle.std.specs.Prelude.{Option, []}
+use Rattle.std.specs.Option.{IsSomeAnd, option_copied, unwrap_or}
+use Rattle.std.specs.FinMap.{get}
 use Rattle.ras_requests.specs.declared.plan.Settlement.{Settlement}
 use Rattle.zone_tables.specs.Changes.{IsPossible}
 use Rattle.zone_tables.specs.Pools.{RequestedUnits}
-use Rattle.ras_requests.specs.Planned.{IsPlanOf, settlement_under, served}
+use Rattle.ras_requests.specs.Planned.{IsPlanOf, asker_of, renewal_of, settlement_under, served}
 use Rattle.ras_requests.specs.Requests.{endpoint_of}
 use Rattle.ras_machine.specs.Steps.{IsAskedOnce, IsUnusedIn}
 use Rattle.ras_machine.specs.Courses.{MayBeGiven, resolved}
 use Rattle.ras_machine.proofs.Asking.{asks_by}
 use Rattle.ras_machine.proofs.Carrying.{asked_nothing, asks_nothing, on_ok_with}
-use Rattle.ras_machine.proofs.Planning.{requests_units_of, names_of, possible_of}
+use Rattle.ras_machine.proofs.Planning.{requests_units_of, names_of, possible_of, renews_of}
+use Rattle.zone_tables.proofs.Answered.{is_there}
 use Rattle.ras_machine.proofs.machine.Machine.serve.Goals as goal
 
 pub carry_out-requires-clause-possible : goal.carry_out-requires-clause-possible
@@ -65,6 +67,45 @@ returns-in-Settled-clause-asks g c =
     c.carry_out.new.outcome.answer
     (asks_nothing z now request c.in-Settled.settlement job.occasion (endpoint_of request) plan None
     (ap (λ p. resolved p None) (plans plan planned).is)))
+
+pub renew-requires-clause-names : goal.renew-requires-clause-names
+renew-requires-clause-names g c =
+    let renews = renews_of c.args.self.now.tables c.args.now c.args.task.request
+    c.requires.task.served c.in-Renewing.time
+    (subst (IsPlanOf c.args.self.now.tables c.args.now c.args.task.request) c.in-Renewing.is
+    c.requires.task.plans) in
+    is_there (endpoint_of c.args.task.request) renews.id renews.names
+
+pub renew-requires-clause-registered : goal.renew-requires-clause-registered
+renew-requires-clause-registered g c =
+    let z = c.args.self.now.tables in
+    let renews = renews_of z c.args.now c.args.task.request
+    c.requires.task.served c.in-Renewing.time
+    (subst (IsPlanOf z c.args.now c.args.task.request) c.in-Renewing.is
+    c.requires.task.plans) in
+    is_there (get z.live (asker_of c.args.task.request)) renews.registration
+    (ap (λ (who : Option (List ℕ)). get z.live (unwrap_or who [])) renews.names ∙ renews.registered)
+
+pub returns-in-Renewing-clause-does : goal.returns-in-Renewing-clause-does
+returns-in-Renewing-clause-does g c =
+    let plans = subst (IsPlanOf c.args.self.now.tables c.args.now c.args.task.request)
+    c.in-Renewing.is c.requires.task.plans in
+    on_ok_with c.renew.result c.renew.ensures.does
+    (λ does plan planned. does plan (plans plan planned))
+
+pub returns-in-Renewing-clause-asks : goal.returns-in-Renewing-clause-asks
+returns-in-Renewing-clause-asks g c =
+    let now = c.args.now in
+    let job = c.args.task.job in
+    let request = c.args.task.request in
+    let z = c.args.self.now.tables in
+    let plans = subst (IsPlanOf z now request) c.in-Renewing.is c.requires.task.plans in
+    on_ok_with c.renew.result c.renew.ensures.does
+    (λ does plan planned.
+    let renews = plans plan planned in
+    asked_nothing g.L.Lender.lends _ z.pools _ c.renew.new.outcome.answer
+    (asks_nothing z now request (renewal_of z c.in-Renewing.time renews.registration) job.occasion
+    (endpoint_of request) plan None (ap (λ p. resolved p None) renews.settles.is)))
 
 pub returns-in-Asking-clause-asks : goal.returns-in-Asking-clause-asks
 returns-in-Asking-clause-asks g c =

@@ -11,6 +11,7 @@ use Rattle.zone_config.specs.declared.config.ConfigParts.{ConfigParts}
 use Rattle.zone_config.specs.Terms.{term_of}
 use Rattle.ras_machine.specs.Keeping.{dropped_for, kept_with, plan_at}
 use Rattle.ras_machine.specs.Machine.{Serving, note_at}
+use Rattle.ras_requests.specs.declared.plan.Settlement.{Settlement}
 use Rattle.ras_requests.specs.Planned.{served}
 use Rattle.ras_requests.specs.Requests.{endpoint_of}
 use Rattle.zone_tables.specs.Changes.{after_change}
@@ -19,7 +20,7 @@ use Rattle.ras_machine.specs.Soundness.{AreBornBefore}
 use Rattle.ras_machine.specs.Steps.{IsTimely, IsUnusedIn}
 use Rattle.zone_tables.proofs.Answered.{on_ok}
 use Rattle.ras_machine.proofs.Carrying.{does_carried, tables_after}
-use Rattle.ras_machine.proofs.machine.Machine.carry_out.Goals as goal
+use Rattle.ras_machine.proofs.machine.Machine.complete.Goals as goal
 
 pub invariant_of-self-2 : goal.invariant_of-self-2
 invariant_of-self-2 c = record {
@@ -39,7 +40,8 @@ returns-clause-does c plan is =
     let job = c.args.job in
     let request = c.args.request.now in
     let endpoint = endpoint_of request in
-    let d = c.args.settlement in
+    let written = c.args.written in
+    let d : Settlement = record { reply = written.reply; change = c.args.change } in
     let given = c.args.outcome.now.given in
     let old =
     state_of i.tables i.kept.kept i.clock i.interrogation_number i.next_pool_turn i.steps in
@@ -51,16 +53,16 @@ returns-clause-does c plan is =
     let tables_is : tables
     ≡ tables_after i.tables now job.occasion endpoint d.change =
     c.hear.ensures.heard ∙ ap (λ (z : Tables). heard_at z job.occasion now endpoint) applied in
-    let until_is : c.term-term.result.until ≡ now + i.tables.config.window =
-    ap (λ t. t.until) (c.term-term.ensures.same
+    let until_is : c.term-until.result.until ≡ now + i.tables.config.window =
+    ap (λ t. t.until) (c.term-until.ensures.same
     ∙ ap (λ (config : ConfigParts). term_of config now) c.config.ensures.same) in
     let kept_is : kept ≡ kept_with i.kept.kept job.key job.occasion i.steps
     (Done d.reply (now + i.tables.config.window)) =
     c.keep.ensures.kept
     ∙ (λ j. kept_with (c.reserve.ensures.kept j) job.key job.occasion i.steps
-    (Done (c.in_ok-kept_reply.ensures j) (until_is j))) in
-    let few = subst (λ (o : Datagram). length o.bytes ≤ 20000) c.in_ok-output.ensures.encoded
-    c.in_ok-output.ensures.few in
+    (Done written.reply (until_is j))) in
+    let few = subst (λ (o : Datagram). length o.bytes ≤ 20000) c.requires.written.sent
+    c.requires.written.few in
     let back = sym c.self.view_is in
     let does = does_carried old now job endpoint d given tables kept
     (subst (λ (m : State). IfSome given (IsUnusedIn m)) back c.requires.unused)
@@ -83,14 +85,14 @@ returns-clause-does c plan is =
     } in
     let outcome : Outcome = record {
       answer = None;
-      output = Some c.in_ok-output.output;
+      output = Some written.output;
       note = c.note-outcome.result;
       dropped = c.dropped-outcome.result;
       given = given;
     } in
     let outcome_is : due ≡ outcome = λ j. record {
       answer = None;
-      output = Some (sym c.in_ok-output.ensures.encoded j);
+      output = Some (sym c.requires.written.sent j);
       note = sym c.note-outcome.ensures j;
       dropped = sym c.dropped-outcome.ensures j;
       given = given;
