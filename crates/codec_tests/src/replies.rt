@@ -1,6 +1,6 @@
 //! Replies: octets that were written by hand from the standards.
 
-use ras_codec::{write_into, write_reserved};
+use ras_codec::{LentConfirm, write_confirm, write_into, write_reserved};
 use ras_module::{
     Address, AdmissionRejectReason, Alias, AliasList, BandRejectReason, BmpString, Boxed, Delay,
     DialledDigits, DisengageRejectReason, EndpointId, GatekeeperConfirm, GatekeeperRejectReason,
@@ -71,16 +71,19 @@ fn replies_about_the_gatekeeper(rt: HostRuntime) -> Result<(), Fail> {
     Ok(())
 }
 
-fn registration_confirm(alloc: Global, host: u8, last: u8) -> Result<Reply, Fail> {
-    let confirm = RegistrationConfirm {
+fn confirm_of(alloc: Global, host: u8, last: u8) -> Result<RegistrationConfirm, Fail> {
+    Ok(RegistrationConfirm {
         seq: seq(2),
         call_signal: endpoint_address(host),
         aliases: alias_list(alloc, last)?,
         gatekeeper: Name::new(&[0x67, 0x6B]).unwrap(),
         endpoint: EndpointId::new(BmpString::new(&[48, 48, 48, u16::from(last)]).unwrap()),
         granted: TimeToLive::new(60).unwrap(),
-    };
-    Ok(Reply::Rcf(Boxed::new(alloc, confirm)?))
+    })
+}
+
+fn registration_confirm(alloc: Global, host: u8, last: u8) -> Result<Reply, Fail> {
+    Ok(Reply::Rcf(Boxed::new(alloc, confirm_of(alloc, host, last)?)?))
 }
 
 #[test]
@@ -208,6 +211,24 @@ fn a_reply_that_has_its_room(rt: HostRuntime) -> Result<(), Fail> {
     let octets = reserved(rt.alloc(), &Reply::Ucf { seq: seq(6) })?;
     let expected: &[u8] = &UCF;
     assert!(rt; octets.as_slice() == expected);
+    Ok(())
+}
+
+/// The octets of a RegistrationConfirm whose values are lent, for which there is room.
+fn lent(alloc: Global, confirm: &RegistrationConfirm) -> Result<Vec<u8>, AllocError> {
+    let confirm = LentConfirm::of(confirm);
+    let mut octets = Vec::with_capacity(alloc, confirm.room())?;
+    write_confirm(&confirm, &mut octets);
+    Ok(octets)
+}
+
+#[test]
+fn a_confirm_whose_values_are_lent(rt: HostRuntime) -> Result<(), Fail> {
+    let confirm = confirm_of(rt.alloc(), 5, b'1')?;
+    let octets = lent(rt.alloc(), &confirm);
+    drop(confirm);
+    let expected: &[u8] = &RCF_0001;
+    assert!(rt; octets?.as_slice() == expected);
     Ok(())
 }
 

@@ -63,7 +63,8 @@ impl KeptReply {
         requires reads_back { ReadsBack (Rcf confirm.now) }
         ensures { IfOk result (λ kept. kept ≡ Rcf confirm.now) }
     {
-        let buffer = Vec::with_capacity(alloc, octets.len())?;
+        let room = octets.len();
+        let buffer = Vec::with_capacity(alloc, room)?;
         let told = ToldId::of(alloc, confirm.endpoint)?;
         Ok(KeptReply {
             encoded: EncodedReply::of_confirm(buffer, confirm, octets),

@@ -103,7 +103,14 @@ impl Machine {
         let Settlement { reply, change } = settlement;
         let output = self.datagram(job.key.source, &reply)?;
         let reply = KeptReply::new(self.alloc, &reply, output.bytes.as_slice())?;
-        self.complete(now, job, request, change, Written { output, reply }, outcome)
+        self.complete(
+            now,
+            job,
+            request,
+            change,
+            Written { output, reply },
+            outcome,
+        )
     }
 
     /// Keeps alive the registration of the endpoint that a request names, and keeps the reply.

@@ -28,8 +28,8 @@ use crate::encoder::{
 use per_bits::BitWriter;
 use ras_module::{
     Address, AdmissionRejectReason, Alias, BandRejectReason, Delay, DisengageRejectReason,
-    GatekeeperConfirm, GatekeeperRejectReason, RegistrationRejectReason,
-    Reply, ReplyAliases, RequestSeqNum, TimeToLive, UnregRejectReason,
+    GatekeeperConfirm, GatekeeperRejectReason, RegistrationRejectReason, Reply, ReplyAliases,
+    RequestSeqNum, TimeToLive, UnregRejectReason,
 };
 use std::alloc::AllocError;
 use std::mem;
@@ -474,8 +474,8 @@ pub fn write_confirm(confirm: &LentConfirm<'_>, octets: &mut Vec<u8>)
     ensures most { length (encoding_of (reply.Rcf confirm.now)) ≤ Reply.MOST }
     ensures reads_back { ReadsBack (reply.Rcf confirm.now) }
 {
-    let empty = Vec::new(*octets.allocator());
-    let mut writer = BitWriter::new(mem::replace(octets, empty));
+    let none = Vec::new(*octets.allocator());
+    let mut writer = BitWriter::new(mem::replace(octets, none));
     registration_confirm(&mut writer, confirm);
     *octets = writer.finish();
 }
