@@ -2,9 +2,14 @@
 //! that a reply waits for the sender.
 
 use std::rt::Clock;
+use std::sync::atomic::{AtomicBool, Ordering};
 use std::sync::{Condvar, Mutex, Wait};
-use std::thread::Parker;
+use std::thread::{Parker, yield_now};
 use std::time::Duration;
+
+/// How often the sender looks for one more reply before it sleeps: for some microseconds. To sleep
+/// and to be woken takes longer, for it and for the worker that wakes it.
+const LOOKS: usize = 64;
 
 /// Whether the workers may begin.
 #[derive(Clone, Copy, PartialEq, Eq)]
@@ -22,6 +27,10 @@ pub(crate) struct Board {
     ended: Mutex<usize>,
     ending: Condvar,
     sender: Parker,
+    // whether a reply was handed over since the sender looked last, and whether it may sleep: each
+    // side writes its own mark before it reads the other's, so that none is missed
+    has_reply: AtomicBool,
+    may_sleep: AtomicBool,
 }
 
 impl Board {
@@ -33,6 +42,8 @@ impl Board {
             ended: Mutex::new(0),
             ending: Condvar::new(),
             sender: Parker::new(),
+            has_reply: AtomicBool::new(false),
+            may_sleep: AtomicBool::new(false),
         }
     }
 
@@ -61,15 +72,34 @@ impl Board {
         matches!(*start, Start::Given)
     }
 
-    /// Tells the sender that a reply waits.
+    /// Tells the sender that a reply waits, and wakes it if it may sleep.
     pub(crate) fn wake_sender(&self) {
-        self.sender.unpark();
+        self.has_reply.store(true, Ordering::SeqCst);
+        if self.may_sleep.load(Ordering::SeqCst) {
+            self.sender.unpark();
+        }
+    }
+
+    /// Whether a reply was handed over since this was asked last, or is within some microseconds.
+    pub(crate) fn has_reply_soon(&self) -> bool {
+        for _ in 0..LOOKS {
+            if self.has_reply.load(Ordering::SeqCst) {
+                self.has_reply.store(false, Ordering::SeqCst);
+                return true;
+            }
+            yield_now();
+        }
+        false
     }
 
     /// Waits for a reply, or for the end of a worker. It returns at once if there was one since it
     /// returned last.
     pub(crate) fn wait_for_reply(&self, rt: &impl Wait) {
-        self.sender.park(rt);
+        self.may_sleep.store(true, Ordering::SeqCst);
+        if !self.has_reply.load(Ordering::SeqCst) {
+            self.sender.park(rt);
+        }
+        self.may_sleep.store(false, Ordering::SeqCst);
     }
 
     /// One more worker has ended: it hands nothing more to the sender.

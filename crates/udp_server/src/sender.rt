@@ -8,12 +8,7 @@ use crate::board::Board;
 use crate::datagrams::{Datagrams, DeviceFault};
 use reply_queues::Inlet;
 use std::sync::Wait;
-use std::thread::yield_now;
 use zone_events::Datagram;
-
-/// How often the sender looks for one more reply before it sleeps: for some microseconds. To sleep
-/// and to be woken takes longer, for it and for the worker that wakes it.
-const LOOKS: usize = 64;
 
 /// An end that sends, and how many replies were sent and how many sends have failed.
 #[derive(Drop)]
@@ -47,11 +42,14 @@ pub(crate) fn send_all<R: Wait, N: Datagrams>(
     };
     let mut is_last = false;
     for _ in rt.forever() {
-        if sender.has_sent_soon(&mut inlets) {
+        if sender.has_sent(&mut inlets) {
             continue;
         }
         if is_last {
             break;
+        }
+        if board.has_reply_soon() {
+            continue;
         }
         // Who has ended hands nothing over any more, so one more look at the rings is the last one.
         is_last = board.have_ended(rt, workers);
@@ -63,18 +61,6 @@ pub(crate) fn send_all<R: Wait, N: Datagrams>(
 }
 
 impl<N: Datagrams> Sender<N> {
-    /// Sends the next reply of each ring, and waits a little for one if there is none. Whether
-    /// there was any.
-    fn has_sent_soon(&mut self, inlets: &mut [Inlet]) -> bool {
-        for _ in 0..LOOKS {
-            if self.has_sent(inlets) {
-                return true;
-            }
-            yield_now();
-        }
-        false
-    }
-
     /// Sends the next reply of each ring. Whether there was any.
     fn has_sent(&mut self, inlets: &mut [Inlet]) -> bool {
         let mut is_any = false;
