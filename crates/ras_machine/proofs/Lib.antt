@@ -1,6 +1,6 @@
 pub mod Dropping
 pub mod Retrying
-pub mod Planning
+pub mod Tasks
 pub mod Calling
 pub mod Choosing
 pub mod Carrying

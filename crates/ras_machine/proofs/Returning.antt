@@ -1,5 +1,5 @@
 -- No units come back to a pool in a course that says so.
-use Rattle.std.proofs.Common.{◌≡◌, ◌∙◌, ◌+◌, ℕ, List, refl, sym, ap, subst, true, false, Some}
+use Rattle.std.proofs.Common.{◌≡◌, ◌∙◌, ◌+◌, ℕ, List, refl, sym, ap, subst, false, Some}
 use Rattle.std.proofs.Common.{None}
 use Rattle.std.specs.Prelude.{Option}
 use Rattle.ras_module.specs.declared.request.Request.{Request}
@@ -10,7 +10,6 @@ use Rattle.zone_events.specs.declared.due_item.DueItem.TheVariants.{Registration
 use Rattle.zone_events.specs.declared.due_item.DueItem.TheVariants.{Silent, Retry}
 use Rattle.zone_events.specs.declared.due_item.DueItem.TheVariants.{KeptOver, PoolTurn}
 use Rattle.zone_events.specs.declared.outcome.Outcome.{Outcome}
-use Rattle.zone_tables.specs.declared.change.CallChange.{CallChange}
 use Rattle.zone_tables.specs.declared.change.CallChange.TheVariants.{Opening, Joining, Lowering}
 use Rattle.zone_tables.specs.declared.change.CallChange.TheVariants.{Leaving}
 use Rattle.zone_tables.specs.declared.change.Change.{Change}
