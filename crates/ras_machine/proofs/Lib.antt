@@ -1,7 +1,7 @@
 pub mod Dropping
 pub mod Renewing
 pub mod Retrying
-pub mod Planning
+pub mod Tasks
 pub mod Calling
 pub mod Choosing
 pub mod Carrying

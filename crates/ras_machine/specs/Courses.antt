@@ -23,10 +23,7 @@ use Rattle.ras_requests.specs.declared.plan.GrantedTime.{GrantedTime}
 use Rattle.ras_requests.specs.declared.plan.Settlement.{Settlement}
 use Rattle.zone_tables.specs.declared.unit_request.UnitRequest.{UnitRequest}
 use Rattle.zone_tables.specs.Leaving.{AreSameButLent}
-use Rattle.zone_tables.specs.Pools.{RequestedUnits}
 use Rattle.zone_tables.specs.Tables.{Tables}
-use Rattle.pools.specs.declared.interface.Figures.{Figures}
-use Rattle.pools.specs.declared.interface.Lend.{Lend}
 use Rattle.ras_machine.specs.declared.course.Course as code
 use Rattle.ras_machine.specs.declared.course.Course.TheVariants as course
 use Rattle.ras_machine.specs.declared.course.Task as code_task
@@ -40,7 +37,7 @@ use Rattle.ras_machine.specs.Machine.{Choices, Course, Ignoring, Hearing, Repeat
 use Rattle.ras_machine.specs.Machine.{Idle, at_moment, course_at}
 use Rattle.ras_machine.specs.Machine.{course_ending, retry_course, serving}
 use Rattle.ras_machine.specs.Steps.{HasFewOctets, IsAllowed, IsTimely, IsUnusedIn}
-use Rattle.ras_machine.specs.Steps.{IsAskedOnce, ask_in, choices_of, pools_after_ask}
+use Rattle.ras_machine.specs.Steps.{ask_in, choices_of, pools_after_ask}
 use Rattle.ras_machine.specs.inside.Room.{IsPlaced}
 
 -- an endpoint is heard as its request is served for the first time
@@ -178,20 +175,6 @@ abbrev pub ServesByUnits : State → ℕ → Job → Request → UnitRequest →
 ServesByUnits old now job request unit_request outcome new = (plan : Plan)
     → RequestsUnits old.tables request plan unit_request
     → Does old now (serving job now request plan) outcome new
-
--- a request that is served makes this of the gatekeeper
-abbrev pub Serves : State → ℕ → Job → Request → Outcome → State → Type 0
-Serves old now job request outcome new =
-    (plan : Plan) → plan_of old.tables now request ≡ Some plan
-    → Does old now (serving job now request plan) outcome new
-
--- and who lends is asked for it once, if a pool is to be asked
-abbrev pub IsAskedFor : {L : Type 0} → (L → List Figures → RequestedUnits → Lend → L → Type 0)
-    → State → ℕ → Job → Request → Outcome → L → L → Type 0
-IsAskedFor lends s now job request outcome old new =
-    (plan : Plan) → plan_of s.tables now request ≡ Some plan
-    → IsAskedOnce lends old s.tables.pools
-    (ask_in (serving job now request plan)) outcome.answer new
 
 -- this request may be served again, and that is what is to be done
 pub record IsAgain (s : State) (now born : ℕ) (job : Job) (request : Request) : Type 0 where

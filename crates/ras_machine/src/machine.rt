@@ -9,7 +9,7 @@ ghost use Rattle.ras_machine.specs.Courses.{Does, IsReady, MayBeNamed, Performs,
 ghost use Rattle.ras_machine.specs.Steps.{IsAskedOnce, IsUnusedIn, ask_in};
 ghost use Rattle.ras_machine.specs.Soundness.{AreBornBefore, Sound};
 
-use crate::course::Course;
+use crate::course::{Course, Task};
 use kept_replies::Kept;
 use ras_module::{EndpointId, RequestSeqNum};
 use ras_requests::Plan;
@@ -223,42 +223,40 @@ impl Machine {
         ensures not_asked { OnErr result (lender.new ≡ lender.old) }
     {
         let steps = self.steps + 1;
-        self.do_course(now, course, lender, outcome)?;
-        self.clock = now;
-        self.steps = steps;
-        Ok(())
-    }
-
-    /// The deed: what a course calls for is done.
-    fn do_course<L: Lender>(
-        &mut self,
-        now: Moment,
-        course: Course,
-        lender: &mut L,
-        outcome: &mut Outcome,
-    ) -> Result<(), AllocError>
-        requires lends_for { L.lends_for lender.old self.old.tables.pools }
-        requires sound { Sound self.old }
-        requires stands { Stands self.old now course }
-        requires ready { IsReady self.old now (course_of self.old now course) }
-        requires named { MayBeNamed self.old course outcome.old.given }
-        ensures does { OnOk result (Does self.old now
-            (course_of self.old now course) outcome.new self.new) }
-        ensures asks { OnOk result (IsAskedOnce L.lends lender.old self.old.tables.pools
-            (ask_in (course_of self.old now course)) outcome.new.answer lender.new) }
-        ensures named { OnOk result
-            (IfSome outcome.new.given (λ id. outcome.old.given ≡ Some id)) }
-        ensures err { OnErr result (self.new ≡ self.old) }
-        ensures not_asked { OnErr result (lender.new ≡ lender.old) }
-    {
         match course {
             Course::Ignoring(cause) => outcome.be_noted(Note::Ignored(cause), None),
             Course::Hearing(response) => self.hear_response(now, &response.get().endpoint, outcome),
             Course::Repeating(output) => outcome.be_noted(Note::Kept, Some(output)),
-            Course::Serving(task) => return self.serve(now, task, lender, outcome),
-            Course::Doing(item) => return self.do_item(now, &item, outcome),
+            Course::Serving(task) => {
+                let Task { job, request, plan } = task;
+                match plan {
+                    Plan::Settled(settlement) => {
+                        outcome.given = None;
+                        self.carry_out(now, job, &request, settlement, outcome)?;
+                        // (one call, where each kind of request would be taken apart by itself)
+                        drop(request);
+                    }
+                    Plan::Renewing(time) => {
+                        outcome.given = None;
+                        self.renew(now, job, &request, time, outcome)?;
+                        drop(request);
+                    }
+                    Plan::Naming(newcomer) => {
+                        let id = outcome.given.as_ref().unwrap();
+                        let settlement = newcomer.into_inner().under(self.alloc, id)?;
+                        self.carry_out(now, job, &request, settlement, outcome)?;
+                        drop(request);
+                    }
+                    Plan::Asking(units) => {
+                        self.request_units(now, job, request, units, lender, outcome)?;
+                    }
+                }
+            }
+            Course::Doing(item) => self.do_item(now, &item, outcome)?,
             Course::Idle => outcome.be_noted(Note::Idle, None),
         }
+        self.clock = now;
+        self.steps = steps;
         Ok(())
     }
 

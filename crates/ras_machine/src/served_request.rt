@@ -10,18 +10,17 @@ ghost use Rattle.zone_tables.specs.Parts.{usage_of};
 ghost use Rattle.zone_tables.specs.Soundness.{SoundTables};
 ghost use Rattle.ras_machine.specs.Soundness.{Sound};
 ghost use Rattle.ras_machine.specs.Steps.{IsAskedOnce, IsTimely, IsUnusedIn};
-ghost use Rattle.ras_machine.specs.Courses.{CarriesOut, IsAskedFor, IsPlacedIn, IsTask, KeepsAlive};
+ghost use Rattle.ras_machine.specs.Courses.{CarriesOut, IsPlacedIn, KeepsAlive, ServesByUnits};
+ghost use Rattle.ras_machine.specs.Courses.{heard_at};
 ghost use Rattle.ras_machine.specs.inside.Written.{IsRenewal, IsWritten};
-ghost use Rattle.ras_machine.specs.Courses.{MayBeGiven, Serves, ServesByUnits, heard_at};
 
-use crate::course::Task;
 use crate::job::{Job, Occasion};
 use crate::kept_entry::{keep, reserve, state_after};
 use crate::machine::Machine;
 use kept_replies::{KeptReply, KeptState};
 use ras_codec::{LentConfirm, write_confirm, write_reserved};
 use ras_module::{EndpointId, Octets, Reply, Request, Source};
-use ras_requests::{GrantedTime, Plan, Settlement, endpoint_of, seq_of, unit_reply};
+use ras_requests::{GrantedTime, Settlement, endpoint_of, seq_of, unit_reply};
 use std::alloc::AllocError;
 use zone_config::Moment;
 use zone_events::{Datagram, Outcome};
@@ -35,53 +34,9 @@ struct Written {
 }
 
 impl Machine {
-    /// Serves a request: its plan is carried out, and its reply is kept. A new endpoint gets
-    /// the identifier that stands in the outcome.
-    pub(crate) fn serve<L: Lender>(
-        &mut self,
-        now: Moment,
-        task: Task,
-        lender: &mut L,
-        outcome: &mut Outcome,
-    ) -> Result<(), AllocError>
-        requires lends_for { L.lends_for lender.old self.old.tables.pools }
-        requires sound { Sound self.old }
-        requires task { IsTask self.old now task }
-        requires timely { IsTimely self.old now task.job.occasion }
-        requires given { MayBeGiven self.old task.plan outcome.old.given }
-        ensures does { OnOk result (Serves self.old now task.job task.request
-            outcome.new self.new) }
-        ensures asks { OnOk result (IsAskedFor L.lends self.old now task.job task.request
-            outcome.new lender.old lender.new) }
-        ensures named { OnOk result
-            (IfSome outcome.new.given (λ id. outcome.old.given ≡ Some id)) }
-        ensures err { OnErr result (self.new ≡ self.old) }
-        ensures not_asked { OnErr result (lender.new ≡ lender.old) }
-    {
-        let Task { job, request, plan } = task;
-        match plan {
-            Plan::Settled(settlement) => {
-                outcome.given = None;
-                self.carry_out(now, job, &request, settlement, outcome)
-            }
-            Plan::Renewing(time) => {
-                outcome.given = None;
-                self.renew(now, job, &request, time, outcome)
-            }
-            Plan::Naming(newcomer) => {
-                let id = outcome.given.as_ref().unwrap();
-                let settlement = newcomer.into_inner().under(self.alloc, id)?;
-                self.carry_out(now, job, &request, settlement, outcome)
-            }
-            Plan::Asking(unit_request) => {
-                self.request_units(now, job, request, unit_request, lender, outcome)
-            }
-        }
-    }
-
     /// Does what was decided about a request, and keeps the reply. All that may want memory comes
     /// before the first change.
-    fn carry_out(
+    pub(crate) fn carry_out(
         &mut self,
         now: Moment,
         job: Job,
@@ -114,7 +69,7 @@ impl Machine {
     }
 
     /// Keeps alive the registration of the endpoint that a request names, and keeps the reply.
-    fn renew(
+    pub(crate) fn renew(
         &mut self,
         now: Moment,
         job: Job,
@@ -211,7 +166,7 @@ impl Machine {
 
     /// Requests units of a pool, and does what follows from its answer about a request. The memory
     /// is there before the pool is asked.
-    fn request_units<L: Lender>(
+    pub(crate) fn request_units<L: Lender>(
         &mut self,
         now: Moment,
         job: Job,

@@ -23,7 +23,6 @@ ghost use Rattle.zone_tables.specs.Leaving.{HaveLeft, HaveOthersLegs};
 ghost use Rattle.zone_tables.specs.Soundness.{HasCounts};
 
 use crate::change::CallChange;
-use crate::lender::Lender;
 use crate::pool_figures::PoolFigures;
 use crate::unit_request::{Purpose, UnitRequest};
 use admission::{Calls, Leg};
@@ -225,33 +224,23 @@ impl Bandwidth {
         self.pools.replace(pool, offered);
     }
 
-    /// Requests units of a pool, once, for a call of an endpoint. If enough units are lent, the call
-    /// opens with them, or gets them if it is open. This takes no memory.
-    pub fn request_units<L: Lender>(
-        &mut self,
-        endpoint: &EndpointId,
-        request: &UnitRequest,
-        lender: &mut L,
-    ) -> Lend
-        requires figures { L.lends_for lender.old self.old.usage.pools }
+    /// Notes what a pool answered to a request for units for a call of an endpoint. If enough units
+    /// are lent, the call opens with them, or gets them if it is open. This takes no memory.
+    pub fn note_answer(&mut self, endpoint: &EndpointId, request: &UnitRequest, answer: Lend)
         requires room { 0 < self.old.room }
         requires may { IsUnitRequest self.old.usage request.now }
         requires counts { All (HasCounts (2 ^ 63)) self.old.usage.pools }
-        ensures answer { IsAnswer (figures_at self.old.usage.pools request.now.pool)
-            request.now.units result }
+        requires answer { IsAnswer (figures_at self.old.usage.pools request.now.pool)
+            request.now.units answer }
         ensures usage { self.new.usage ≡ with_usage self.old.usage
-            (calls_after_answer endpoint.now request.now result self.old.usage.calls)
-            (pools_after_answer self.old.usage.pools (units_requested request.now) result) }
-        ensures lends { L.lends lender.old self.old.usage.pools (units_requested request.now) result
-            lender.new }
+            (calls_after_answer endpoint.now request.now answer self.old.usage.calls)
+            (pools_after_answer self.old.usage.pools (units_requested request.now) answer) }
         ensures sound { IsSoundUsage self.new.usage }
     {
         let units = u64::from(request.units);
         let least = u64::from(request.least);
-        let answer = lender.ask(&self.pools, request.pool, units, least);
         self.pools.note_answer(request.pool, units, least, answer);
         enter(&mut self.calls, endpoint, request, answer);
-        answer
     }
 }
 

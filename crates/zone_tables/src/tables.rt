@@ -250,8 +250,9 @@ impl ZoneTables {
         self.endpoints.hear(now, id);
     }
 
-    /// Requests units of a pool, once, for a call of an endpoint. If enough units are lent, the call
-    /// opens with them, or gets them if it is open. The memory is there before the pool is asked.
+    /// Requests units of a pool, once, for a call of an endpoint. If enough units are lent, the
+    /// call opens with them, or gets them if it is open. The memory is there before the pool is
+    /// asked.
     pub fn request_units<L: Lender>(
         &mut self,
         endpoint: &EndpointId,
@@ -277,7 +278,10 @@ impl ZoneTables {
     {
         let _ = &self.config;
         self.bandwidth.reserve(1)?;
-        let answer = self.bandwidth.request_units(endpoint, request, lender);
+        let units = u64::from(request.units);
+        let least = u64::from(request.least);
+        let answer = lender.ask(self.bandwidth.pools(), request.pool, units, least);
+        self.bandwidth.note_answer(endpoint, request, answer);
         self.endpoints.count(endpoint, request.movement(answer));
         Ok(answer)
     }

@@ -6,10 +6,10 @@ use Rattle.zone_tables.specs.Parts.{Lending, with_usage}
 use Rattle.zone_tables.specs.Pools.{MayBeAsked, figures_at, pools_after_answer}
 use Rattle.zone_tables.proofs.Backing.{IsSoundUsage-held}
 use Rattle.zone_tables.proofs.Backing.{IsBacked-answer, IsBacked-is, may_request, usage_in}
-use Rattle.zone_tables.proofs.bandwidth.Bandwidth.request_units.Goals as goal
+use Rattle.zone_tables.proofs.bandwidth.Bandwidth.note_answer.Goals as goal
 
-pub ask-answer-requires-clause-may : goal.ask-answer-requires-clause-may
-ask-answer-requires-clause-may g c =
+pub note_answer-requires-clause-asked : goal.note_answer-requires-clause-asked
+note_answer-requires-clause-asked c =
     let i = c.self.inside in
     let u = usage_in i.calls i.pools i.limit i.call_limit in
     let q = c.args.request.now in
@@ -20,16 +20,25 @@ ask-answer-requires-clause-may g c =
     subst (MayBeAsked i.pools q.pool) (sym c.from-units.ensures)
     (may_request u c.self.invariant.backed c.args.endpoint.now q may counts)
 
+pub note_answer-requires-clause-answer : goal.note_answer-requires-clause-answer
+note_answer-requires-clause-answer c =
+    let i = c.self.inside in
+    let q = c.args.request.now in
+    let answer = c.args.answer in
+    let fits = subst (λ (l : Lending). IsAnswer (figures_at l.usage.pools q.pool) q.units answer)
+    (sym c.self.view_is) c.requires.answer in
+    subst (λ (n : ℕ). IsAnswer (figures_at i.pools q.pool) n answer) (sym c.from-units.ensures) fits
+
 pub invariant_of-self : goal.invariant_of-self
-invariant_of-self g c =
+invariant_of-self c =
     let i = c.self.inside in
     let u = usage_in i.calls i.pools i.limit i.call_limit in
     let q = c.args.request.now in
-    let answer = c.ask-answer.result in
+    let answer = c.args.answer in
     let may =
     subst (λ (l : Lending). IsUnitRequest l.usage q) (sym c.self.view_is) c.requires.may in
-    let fits = subst (λ (n : ℕ). IsAnswer (figures_at i.pools q.pool) n answer) c.from-units.ensures
-    c.ask-answer.ensures.answer in
+    let fits = subst (λ (l : Lending). IsAnswer (figures_at l.usage.pools q.pool) q.units answer)
+    (sym c.self.view_is) c.requires.answer in
     let after : c.note_answer.new.self ≡ pools_after_answer u.pools (units_requested q) answer =
     c.note_answer.ensures.after
     ∙ (λ j. pools_after_answer u.pools (record {
@@ -50,4 +59,4 @@ invariant_of-self g c =
     })) c.note_answer.ensures.within
 
 pub returns-clause-sound : goal.returns-clause-sound
-returns-clause-sound g c = invariant_of-self g c
+returns-clause-sound c = invariant_of-self c
