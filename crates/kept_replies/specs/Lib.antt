@@ -1,3 +1,4 @@
+pub mod Bounded
 pub mod Keys
 pub mod Told
 pub mod Kept

@@ -5,7 +5,8 @@ ghost use Rattle.std.proofs.Common.{rules};
 ghost use Rattle.std.specs.Cmp.Rules.{hashing};
 ghost use Rattle.std.specs.Hash as fed;
 
-use ras_module::{Octets, Source};
+use crate::request_octets::RequestOctets;
+use ras_module::Source;
 use std::alloc::AllocError;
 use std::hash::{Hash, Hasher};
 
@@ -16,7 +17,7 @@ pub struct KeptKey {
     /// The address that the datagram came from.
     pub source: Source,
     /// All its octets, also those after the request.
-    pub bytes: Octets,
+    pub bytes: RequestOctets,
 }
 
 impl Hash for KeptKey {

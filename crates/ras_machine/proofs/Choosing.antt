@@ -121,13 +121,13 @@ module _ (s : State) (now : ℕ) (outcome : Outcome) (after : State) where
     same_request (Some plan) Full dropped is =
         ap (request_case s now key request (Some plan) Full) (full_shown plan dropped is)
 
-  same_message : (key : KeptKey) (m : Message) (dropped : Option ℕ)
+  same_message : (key : KeptKey) (m : Option Message) (dropped : Option ℕ)
       → Makes (message_course s now key dropped m)
       → message_course s now key outcome.dropped m ≡ message_course s now key dropped m
-  same_message key message.TooLong dropped is = refl
-  same_message key message.Unreadable dropped is = refl
-  same_message key message.NotServed dropped is = refl
-  same_message key (message.Request request) dropped is =
+  same_message key None dropped is = refl
+  same_message key (Some message.Unreadable) dropped is = refl
+  same_message key (Some message.NotServed) dropped is = refl
+  same_message key (Some (message.Request request)) dropped is =
       same_request key request (plan_of s.tables now request) (place_of s now key) dropped is
 
   -- the course that was chosen is that of what the outcome shows
@@ -212,11 +212,11 @@ module _ (s : State) (now : ℕ) where
     request_ready request (Some plan) = placed_ready request plan (place_of s now key) refl
 
     -- what is chosen for a datagram may be done
-    pub message_ready : (m : Message) → IsReady s now (message_course s now key dropped m)
-    message_ready message.TooLong = tt
-    message_ready message.Unreadable = tt
-    message_ready message.NotServed = tt
-    message_ready (message.Request request) =
+    pub message_ready : (m : Option Message) → IsReady s now (message_course s now key dropped m)
+    message_ready None = tt
+    message_ready (Some message.Unreadable) = tt
+    message_ready (Some message.NotServed) = tt
+    message_ready (Some (message.Request request)) =
         request_ready request (plan_of s.tables now request)
 
 -- what was chosen for an event may be done

@@ -117,11 +117,11 @@ request_course s now key dropped request =
 
 -- A datagram falls under the first that applies: it is too long, unreadable, not served, or a
 -- request.
-abbrev pub message_course : State → ℕ → KeptKey → Option ℕ → Message → Course
-message_course s now key dropped message.TooLong = Ignoring TooLong
-message_course s now key dropped message.Unreadable = Ignoring Unreadable
-message_course s now key dropped message.NotServed = Ignoring NotServed
-message_course s now key dropped (message.Request request) =
+abbrev pub message_course : State → ℕ → KeptKey → Option ℕ → Option Message → Course
+message_course s now key dropped None = Ignoring TooLong
+message_course s now key dropped (Some message.Unreadable) = Ignoring Unreadable
+message_course s now key dropped (Some message.NotServed) = Ignoring NotServed
+message_course s now key dropped (Some (message.Request request)) =
     request_course s now key dropped request
 
 abbrev pub datagram_course : State → ℕ → KeptKey → Option ℕ → Course

@@ -18,19 +18,21 @@ message_by (Err fault) = message.Unreadable
 message_by (Ok None) = message.NotServed
 message_by (Ok (Some request)) = message.Request request
 
--- what the octets of a datagram are; of more than a request has at most, none is read
-abbrev pub message_in : List ℕ → Message
+-- what the octets of a datagram are; if they are more than a request has at most, they aren't read
+abbrev pub message_in : List ℕ → Option Message
 message_in bytes =
     if nat_lt request_octets.MOST (length bytes)
-    then message.TooLong
-    else message_by (message_reading bytes)
+    then None
+    else Some (message_by (message_reading bytes))
 
 -- the event that arrived at a moment
 abbrev pub event_at : ℕ → Arrival → Event
 event_at moment (arrival.Datagram key message) = event.Datagram key.source key.bytes moment
+event_at moment (arrival.TooLong source bytes) = event.Datagram source bytes moment
 event_at moment arrival.Turn = event.Turn moment
 
--- its datagram was read
+-- its datagram was read, or is too long to be read
 abbrev pub IsRead : Arrival → Type 0
-IsRead (arrival.Datagram key message) = message ≡ message_in key.bytes
+IsRead (arrival.Datagram key message) = message_in key.bytes ≡ Some message
+IsRead (arrival.TooLong source bytes) = message_in bytes ≡ None
 IsRead arrival.Turn = Unit {0}

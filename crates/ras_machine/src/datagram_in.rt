@@ -35,10 +35,9 @@ impl Machine {
     ) -> Result<Course, AllocError>
         requires over { IfSome dropped (Passes (is_over now) self.now.kept) }
         ensures { IfOk result (CallsFor self.now now
-            (message_course self.now now key dropped message)) }
+            (message_course self.now now key dropped (Some message))) }
     {
         match message {
-            Message::TooLong => Ok(Course::Ignoring(IgnoredCause::TooLong)),
             Message::Unreadable => Ok(Course::Ignoring(IgnoredCause::Unreadable)),
             Message::NotServed => Ok(Course::Ignoring(IgnoredCause::NotServed)),
             Message::Request(request) => self.request_course(now, key, request, dropped),

@@ -1,22 +1,21 @@
 //! Events whose datagrams were read before anything of the zone is needed.
 
-ghost use Rattle.std.specs.Prelude.{◌≡◌, ◌↔◌, IfOk, IsTrue};
+ghost use Rattle.std.specs.Prelude.{◌≡◌, ◌↔◌, ℕ, IfOk, IsTrue};
+ghost use Rattle.ras_reading.specs.Messages.{message_reading};
 ghost use Rattle.zone_events.specs.Events.{moment_in};
-ghost use Rattle.ras_machine.specs.Prepared.{IsRead, event_at, message_in};
+ghost use Rattle.ras_machine.specs.Prepared.{IsRead, event_at, message_by};
 
-use kept_replies::KeptKey;
+use kept_replies::{KeptKey, RequestOctets};
 use ras_codec::{ReadFault, read};
-use ras_module::Request;
+use ras_module::{Octets, Request, Source};
 use std::alloc::{AllocError, Global};
 use std::marker::Model;
 use zone_config::Moment;
 use zone_events::Event;
 
-/// What the octets of a datagram are.
+/// What the octets of a datagram are, as they are read.
 #[derive(Drop)]
 pub enum Message {
-    /// More octets than `Request::MOST`: they aren't read.
-    TooLong,
     /// No RAS message of the profile.
     Unreadable,
     /// A message that the gatekeeper doesn't serve.
@@ -28,8 +27,10 @@ pub enum Message {
 /// What arrived: a datagram with what its octets are, or the moment for a turn.
 #[derive(Drop)]
 pub enum Arrival {
-    /// A datagram, by its source and its octets, with what these are.
+    /// A datagram that may be kept, by its source and its octets, with what these are.
     Datagram(KeptKey, Message),
+    /// A datagram of more octets than `Request::MOST`, with its source. It isn't read.
+    TooLong(Source, Octets),
     /// The moment for a turn.
     Turn,
 }
@@ -57,12 +58,9 @@ pub fn prepare(alloc: Global, event: Event) -> Result<Prepared, AllocError>
     ensures { IfOk result (λ prepared. prepared ≡ event) }
 {
     match event {
-        Event::Datagram(source, bytes, moment) => {
-            let message = message_in(alloc, bytes.as_slice())?;
-            Ok(Prepared {
-                moment,
-                arrival: Arrival::Datagram(KeptKey { source, bytes }, message),
-            })
+        Event::Datagram(source, octets, moment) => {
+            let arrival = datagram_read(alloc, source, octets)?;
+            Ok(Prepared { moment, arrival })
         }
         Event::Turn(moment) => Ok(Prepared {
             moment,
@@ -71,13 +69,25 @@ pub fn prepare(alloc: Global, event: Event) -> Result<Prepared, AllocError>
     }
 }
 
-/// What octets are.
-fn message_in(alloc: Global, octets: &[u8]) -> Result<Message, AllocError>
-    ensures { IfOk result (λ message. message ≡ message_in octets.now) }
+/// A datagram, with what its octets are, unless it is too long.
+fn datagram_read(alloc: Global, source: Source, octets: Octets) -> Result<Arrival, AllocError>
+    ensures event { IfOk result (λ arrival. (moment : ℕ)
+        → event_at moment arrival ≡ Event.Datagram source octets moment) }
+    ensures read { IfOk result IsRead }
 {
-    if octets.len() > Request::MOST {
-        return Ok(Message::TooLong);
+    match RequestOctets::new(octets.into_vec())? {
+        Ok(bytes) => {
+            let message = message_of(alloc, bytes.as_slice())?;
+            Ok(Arrival::Datagram(KeptKey { source, bytes }, message))
+        }
+        Err(octets) => Ok(Arrival::TooLong(source, Octets::from_vec(octets))),
     }
+}
+
+/// What octets are, as they are read.
+fn message_of(alloc: Global, octets: &[u8]) -> Result<Message, AllocError>
+    ensures { IfOk result (λ message. message ≡ message_by (message_reading octets.now)) }
+{
     match read(alloc, octets) {
         Ok(Some(request)) => Ok(Message::Request(request)),
         Ok(None) => Ok(Message::NotServed),
@@ -99,7 +109,7 @@ impl Prepared {
         ensures { IsTrue result ↔ (self.now ≡ Event.Turn (moment_in self.now)) }
     {
         match self.arrival {
-            Arrival::Datagram(_, _) => false,
+            Arrival::Datagram(_, _) | Arrival::TooLong(_, _) => false,
             Arrival::Turn => true,
         }
     }
@@ -110,7 +120,10 @@ impl Prepared {
     {
         match &self.arrival {
             Arrival::Datagram(key, _) => {
-                Ok(Event::Datagram(key.source, key.bytes.copy()?, self.moment))
+                Ok(Event::Datagram(key.source, key.bytes.octets()?, self.moment))
+            }
+            Arrival::TooLong(source, octets) => {
+                Ok(Event::Datagram(*source, octets.copy()?, self.moment))
             }
             Arrival::Turn => Ok(Event::Turn(self.moment)),
         }
