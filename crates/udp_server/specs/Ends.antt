@@ -5,6 +5,13 @@ use Rattle.udp_server.specs.declared.datagrams.DeviceFault.{DeviceFault}
 use Rattle.udp_server.specs.declared.datagrams.Received.{Received}
 use Rattle.udp_server.specs.declared.datagrams.Received.TheVariants.{Datagram, Quiet, Stopped}
 
+-- what a receive gives, and what a send gives
+abbrev pub ReceiveResult : Type 0
+ReceiveResult = Result Received DeviceFault
+
+abbrev pub SendResult : Type 0
+SendResult = Result (Unit {0}) DeviceFault
+
 -- a datagram that was received lies within the buffer
 abbrev pub IsWithin : Received → Type 0
 IsWithin (Datagram source octets) = octets ≤ 4097
@@ -13,7 +20,7 @@ IsWithin Stopped = Unit {0}
 
 -- the octets of the datagram that a receive gave, at the front of its buffer; none if it gave no
 -- datagram
-abbrev pub octets_given : Result Received DeviceFault → List ℕ → List ℕ
+abbrev pub octets_given : ReceiveResult → List ℕ → List ℕ
 octets_given (Ok (Datagram source length)) buffer = take length buffer
 octets_given given buffer = []
 

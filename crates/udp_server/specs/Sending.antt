@@ -1,9 +1,9 @@
 -- What the sender does with a reply that it takes out of a ring.
-use Rattle.std.specs.Prelude.{◌≡◌, ◌++◌, ◌∷◌, ◌⊎◌, ℕ, List, [], Result, Ok, Err}
+use Rattle.std.specs.Prelude.{◌≡◌, ◌++◌, ◌∷◌, ◌⊎◌, ℕ, List, [], Ok, Err}
 use Rattle.zone_events.specs.declared.outcome.Datagram.{Datagram}
 use Rattle.udp_server.specs.declared.datagrams.DeviceFault.{DeviceFault}
 use Rattle.udp_server.specs.declared.sender.SendCounts.{SendCounts}
-use Rattle.udp_server.specs.Ends.{fault_count}
+use Rattle.udp_server.specs.Ends.{SendResult, fault_count}
 
 -- a send went well, and is counted
 abbrev pub sent_once_more : SendCounts → SendCounts
@@ -15,7 +15,7 @@ failed_once_more counts = record counts { faults = fault_count counts.faults }
 
 -- what a send of a reply gave
 abbrev pub Sends : Type 1
-Sends = Datagram → Result (Unit {0}) DeviceFault → Type 0
+Sends = Datagram → SendResult → Type 0
 
 -- the end sent the reply and counts no failure, and the sender counts the reply as sent
 pub record IsSent (sends : Sends) (reply : Datagram) (failures failures_then : ℕ)

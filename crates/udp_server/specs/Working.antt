@@ -1,6 +1,6 @@
 -- What a worker does with an event: one step under the lock, and its reply to the sender.
 use Rattle.std.specs.Prelude.{◌≡◌, ◌++◌, ◌∷◌, ◌⊎◌, ℕ, List, [], Option, None, Some, take}
-use Rattle.std.specs.Prelude.{Result, Ok, Err}
+use Rattle.std.specs.Prelude.{Ok, Err}
 use Rattle.ras_module.specs.declared.address.Address.{Address}
 use Rattle.zone_events.specs.declared.change.Change.TheVariants as change
 use Rattle.zone_events.specs.declared.event.Event.{Event}
@@ -18,14 +18,13 @@ use Rattle.zone_lock.specs.declared.turns.TurnsEnd.TheVariants as turns_end
 use Rattle.reply_queues.specs.Rings.{datagrams_put, free_places}
 use Rattle.reply_queues.specs.declared.outlet.Outlet.{Outlet}
 use Rattle.udp_server.specs.declared.datagrams.DeviceFault.{DeviceFault}
-use Rattle.udp_server.specs.declared.datagrams.Received.{Received}
 use Rattle.udp_server.specs.declared.datagrams.Received.TheVariants as received
 use Rattle.udp_server.specs.declared.receiver.Next.{Next}
 use Rattle.udp_server.specs.declared.receiver.Next.TheVariants as next
 use Rattle.udp_server.specs.declared.worker.Counts.{Counts}
 use Rattle.udp_server.specs.declared.worker.StepResult.{StepResult}
 use Rattle.udp_server.specs.declared.worker.StepResult.TheVariants as result
-use Rattle.udp_server.specs.Ends.{fault_count}
+use Rattle.udp_server.specs.Ends.{ReceiveResult, fault_count}
 
 -- What its steps change of a worker: its seat; what it put into its ring, oldest first, and how
 -- many places it knows to be free there; and what it counts: replies that found no place there,
@@ -118,7 +117,7 @@ CameOfTurns opened tells most why old new =
 
 -- what a receive gave, with the octets of its datagram, if it gave one
 abbrev pub Gives : Type 1
-Gives = Result Received DeviceFault → List ℕ → Type 0
+Gives = ReceiveResult → List ℕ → Type 0
 
 -- a clock told this moment when it was asked
 abbrev pub IsTold : {C : Type 0} → (C → ℕ → C → Type 0) → C → ℕ → Type 0

@@ -34,22 +34,19 @@ pub struct DeviceFault;
 /// they say. So it takes a datagram for received, or a reply for sent, only if a call of the end
 /// gave that. That the octets are those of the network is trusted.
 pub trait Datagrams: Drop {
-    ghost use Rattle.std.specs.Prelude.{ℕ, List, Result};
+    ghost use Rattle.std.specs.Prelude.{ℕ, List};
     ghost use Rattle.zone_events.specs.declared.outcome.Datagram.{Datagram};
-    ghost use Rattle.udp_server.specs.declared.datagrams.DeviceFault.{DeviceFault};
-    ghost use Rattle.udp_server.specs.declared.datagrams.Received.{Received};
+    ghost use Rattle.udp_server.specs.Ends.{ReceiveResult, SendResult};
 
     /// How many calls failed.
     ghost faults: { Self → ℕ };
 
     /// A receive of this end gave this result, with these octets if it gave a datagram; the end
     /// became the other one.
-    ghost receives: { Self → Result Received DeviceFault → List ℕ → Self → Type 0 }
-        = { λ old given octets new. Unit {0} };
+    ghost receives: { Self → ReceiveResult → List ℕ → Self → Type 0 } = { λ _ _ _ _. Unit {0} };
 
     /// A send of this datagram by this end gave this result; the end became the other one.
-    ghost sends: { Self → Datagram → Result (Unit {0}) DeviceFault → Self → Type 0 }
-        = { λ old datagram given new. Unit {0} };
+    ghost sends: { Self → Datagram → SendResult → Self → Type 0 } = { λ _ _ _ _. Unit {0} };
 
     /// Waits for a datagram for some time. Its octets stand at the front of the buffer then.
     fn receive(&mut self, buffer: &mut [u8; MOST_RECEIVED]) -> Result<Received, DeviceFault>

@@ -204,9 +204,7 @@ fn start_worker<
     worker: Worker<D, T, U, V, C>,
 ) -> Option<JoinHandle<WorkerRecord<D, T, U, V>>> {
     if shared.plan.is_recorded() {
-        return scope
-            .spawn(move || work_recorded(shared, end, worker))
-            .ok();
+        return scope.spawn(move || work_recorded(shared, end, worker)).ok();
     }
     scope.spawn(move || work(shared, end, worker)).ok()
 }

@@ -305,7 +305,7 @@ impl<D: Hall, T: Ledger, U: Ledger, V: Ledger, C: Moments> Worker<D, T, U, V, C>
         shared.board.wake_sender();
     }
 
-    /// Puts a reply behind those in the ring. One that finds no place there is dropped, and counted.
+    /// Puts a reply behind those in the ring. If the ring is full, it is dropped, and counted.
     fn put(&mut self, reply: Datagram)
         ensures { IsHandedOn (Some reply)
             (standing self.old.seat self.old.outlet self.old.counts)

@@ -26,11 +26,7 @@ impl<'a, S: Stop> SocketEnd<'a, S> {
     ghost use Rattle.udp_socket.specs.Limits.{receives_left};
 
     /// An end of which no call has failed. It stops after this many receives, if a number is given.
-    pub(crate) fn new(
-        socket: &'a UdpSocket,
-        receives: Option<u64>,
-        stop: &'a S,
-    ) -> SocketEnd<'a, S>
+    pub(crate) fn new(socket: &'a UdpSocket, receives: Option<u64>, stop: &'a S) -> SocketEnd<'a, S>
         ensures left { receives_left result ≡ receives }
         ensures faults { result.faults ≡ 0 }
     {

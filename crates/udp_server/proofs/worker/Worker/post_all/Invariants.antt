@@ -6,6 +6,6 @@ use Rattle.udp_server.proofs.worker.Worker.post_all.Given as goal
 abbrev pub invariant-loop-datagram : goal.invariant-loop-datagram
 invariant-loop-datagram g l = (last : Standing)
     → AreHandedOn (drain_items l.datagram-iterator)
-        (standing l.self.seat l.self.outlet l.self.counts) last
+    (standing l.self.seat l.self.outlet l.self.counts) last
     → AreHandedOn l.fn.replies.items
-        (standing l.fn.self.seat l.fn.self.outlet l.fn.self.counts) last
+    (standing l.fn.self.seat l.fn.self.outlet l.fn.self.counts) last

@@ -19,11 +19,11 @@ returns g c =
     old.counts in
     subst (λ (e : Event). IsServedEvent g.D.Hall.opened e before then) c.in-Ok.ensures (record {
       outcome = outcome;
-      step = inl c.in-Ok-2.ensures.step;
+      step = inl c.in-Ok-step.ensures.step;
       handed_on = subst (λ (o : Option Datagram). IsHandedOn o made then)
           c.take_reply-reply.ensures.output
           (subst (λ (b : Standing). IsHandedOn c.take_reply-reply.result b then)
           (c.take_reply-reply.ensures.same
-          ∙ ap (λ (s : Seated). standing s old.outlet old.counts) c.in-Ok-2.ensures.seat)
+          ∙ ap (λ (s : Seated). standing s old.outlet old.counts) c.in-Ok-step.ensures.seat)
           c.hand_on.ensures);
     })
