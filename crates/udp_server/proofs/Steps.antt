@@ -10,7 +10,7 @@ use Rattle.zone_lock.specs.Held.{IsStepUnderLock, entry_by}
 use Rattle.zone_lock.specs.Seats.{Seated}
 use Rattle.reply_queues.specs.declared.outlet.Outlet.{Outlet}
 use Rattle.udp_server.specs.declared.worker.Counts.{Counts}
-use Rattle.udp_server.specs.Working.{Standing, standing}
+use Rattle.udp_server.specs.Working.{standing}
 
 pub few_of : (opened : State) (place seat call : ℕ) (event : Event) (outcome : Outcome)
     → IsStepUnderLock opened place (entry_by seat call (change.Event event) outcome)

@@ -1,6 +1,6 @@
 -- What the ends of a server give, and how their failed calls are counted.
 use Rattle.std.specs.Prelude.{◌≤◌, ◌+◌, ℕ, List, [], min, take}
-use Rattle.std.specs.Prelude.{Result, Ok, Err}
+use Rattle.std.specs.Prelude.{Result, Ok}
 use Rattle.udp_server.specs.declared.datagrams.DeviceFault.{DeviceFault}
 use Rattle.udp_server.specs.declared.datagrams.Received.{Received}
 use Rattle.udp_server.specs.declared.datagrams.Received.TheVariants.{Datagram, Quiet, Stopped}
