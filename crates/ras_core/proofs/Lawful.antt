@@ -14,7 +14,6 @@ use Rattle.kept_replies.specs.declared.entry.KeptEntry.{KeptEntry}
 use Rattle.kept_replies.specs.Kept.{reply_in}
 use Rattle.zone_events.specs.declared.change.Change.{Change}
 use Rattle.zone_events.specs.declared.event.Event.TheVariants as event
-use Rattle.ras_machine.specs.declared.prepared.Message.TheVariants.{TooLong}
 use Rattle.ras_machine.specs.Prepared.{message_by}
 use Rattle.zone_events.specs.declared.outcome.Note.{Note}
 use Rattle.zone_events.specs.declared.outcome.Note.TheVariants as note
@@ -56,8 +55,8 @@ module _ (s : State) (source : Address) (bytes : List ℕ) (now : ℕ)
       ≡ Repeating (record { to = source; bytes = encoding_of (reply_in entry.state) })
   course_is =
       ap (message_course s now (record { source = source; bytes = bytes }) dropped)
-      (ap (λ b. if b then TooLong else message_by (message_reading bytes))
-      (not_above (length bytes) 4096 few) ∙ ap message_by read)
+      (ap (λ b. if b then None else Some (message_by (message_reading bytes)))
+      (not_above (length bytes) 4096 few) ∙ ap (λ r. Some (message_by r)) read)
       ∙ repeats s now (record { source = source; bytes = bytes }) request dropped served entry there
       repeat
 

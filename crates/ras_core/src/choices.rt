@@ -9,7 +9,7 @@ ghost use Rattle.ras_core.specs.inside.PoolTurns.{is_pool_turn};
 use ras_machine::{Arrival, Course, Machine};
 use std::alloc::AllocError;
 use zone_config::Moment;
-use zone_events::DueItem;
+use zone_events::{DueItem, IgnoredCause};
 
 /// What an event calls for. A kept entry that is over is dropped if the reply to a datagram finds
 /// no other place, and in a turn any one item is done of those that are due.
@@ -23,6 +23,7 @@ pub fn chosen_course(machine: &Machine, now: Moment, arrival: Arrival) -> Result
             let dropped = machine.entry_to_drop(now, &key);
             machine.datagram_course(now, key, message, dropped)
         }
+        Arrival::TooLong(_, _) => Ok(Course::Ignoring(IgnoredCause::TooLong)),
         Arrival::Turn => machine.turn_course(now, machine.due(now)),
     }
 }
