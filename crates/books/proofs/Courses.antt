@@ -68,12 +68,12 @@ module _ (s : State) (now : ℕ) where
   requests key request (Some plan) machine.Full (Some born) is =
       serves (machine.first key (Some born)) request plan is
 
-  messages : (key : KeptKey) (dropped : Option ℕ) (m : Message)
+  messages : (key : KeptKey) (dropped : Option ℕ) (m : Option Message)
       → AddsAlong s (machine.message_course s now key dropped m)
-  messages key dropped message.TooLong = tt
-  messages key dropped message.Unreadable = tt
-  messages key dropped message.NotServed = tt
-  messages key dropped (message.Request request) =
+  messages key dropped None = tt
+  messages key dropped (Some message.Unreadable) = tt
+  messages key dropped (Some message.NotServed) = tt
+  messages key dropped (Some (message.Request request)) =
       requests key request (plan_of s.tables now request) (machine.place_of s now key) dropped
       (plans s.tables now request)
 

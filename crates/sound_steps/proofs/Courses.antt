@@ -168,12 +168,12 @@ module _ (s : State) (sound : Sound s) (now : ℕ) where
       ))
 
   -- a datagram, by what it is read as
-  messages : (key : KeptKey) (dropped : Option ℕ) (m : Message)
+  messages : (key : KeptKey) (dropped : Option ℕ) (m : Option Message)
       → SoundAlong s now (machine.message_course s now key dropped m)
-  messages key dropped message.TooLong = tt
-  messages key dropped message.Unreadable = tt
-  messages key dropped message.NotServed = tt
-  messages key dropped (message.Request request) =
+  messages key dropped None = tt
+  messages key dropped (Some message.Unreadable) = tt
+  messages key dropped (Some message.NotServed) = tt
+  messages key dropped (Some (message.Request request)) =
       requests key request (plan_of s.tables now request) (machine.place_of s now key) dropped
       refl (its_plan request)
 

@@ -11,7 +11,7 @@ ghost use Rattle.step_check.specs.Shown.{IsFound};
 use ras_machine::{Arrival, Course, Machine};
 use std::alloc::AllocError;
 use zone_config::Moment;
-use zone_events::{DueItem, Note, Outcome};
+use zone_events::{DueItem, IgnoredCause, Note, Outcome};
 
 /// What an event called for by the choices that an outcome shows: the entry that was dropped, and
 /// the item that was done. None, if these may not be chosen.
@@ -52,6 +52,7 @@ fn called_for(
         Arrival::Datagram(key, message) => {
             machine.datagram_course(now, key, message, outcome.dropped)
         }
+        Arrival::TooLong(_, _) => Ok(Course::Ignoring(IgnoredCause::TooLong)),
         Arrival::Turn => machine.turn_course(now, item_of(outcome.note)),
     }
 }
