@@ -1,8 +1,9 @@
 -- What the sender does with a reply that it takes out of a ring.
-use Rattle.std.specs.Prelude.{◌≡◌, ◌++◌, ◌∷◌, ◌⊎◌, ℕ, List, []}
+use Rattle.std.specs.Prelude.{◌≡◌, ◌++◌, ◌∷◌, ◌⊎◌, ℕ, List, [], Ok, Err}
 use Rattle.zone_events.specs.declared.outcome.Datagram.{Datagram}
+use Rattle.udp_server.specs.declared.datagrams.DeviceFault.{DeviceFault}
 use Rattle.udp_server.specs.declared.sender.SendCounts.{SendCounts}
-use Rattle.udp_server.specs.Ends.{fault_count}
+use Rattle.udp_server.specs.Ends.{SendResult, fault_count}
 
 -- a send went well, and is counted
 abbrev pub sent_once_more : SendCounts → SendCounts
@@ -12,17 +13,35 @@ sent_once_more counts = record counts { replies = fault_count counts.replies }
 abbrev pub failed_once_more : SendCounts → SendCounts
 failed_once_more counts = record counts { faults = fault_count counts.faults }
 
--- A reply was sent, and is counted, while the end counts no failure; or the send failed, and both
--- count that.
-abbrev pub IsSendCounted : ℕ → ℕ → SendCounts → SendCounts → Type 0
-IsSendCounted failures failures_then counts counts_then =
-    ((failures_then ≡ failures) × (counts_then ≡ sent_once_more counts))
-    ⊎ ((failures_then ≡ fault_count failures) × (counts_then ≡ failed_once_more counts))
+-- what a send of a reply gave
+abbrev pub Sends : Type 1
+Sends = Datagram → SendResult → Type 0
 
--- The reply that is taken out of the ring next, behind those that were taken before, was sent or is
--- counted as failed.
-pub record IsNextSent (taken taken_then : List Datagram) (failures failures_then : ℕ)
+-- the end sent the reply and counts no failure, and the sender counts the reply as sent
+pub record IsSent (sends : Sends) (reply : Datagram) (failures failures_then : ℕ)
     (counts counts_then : SendCounts) : Type 0 where
+  pub given : sends reply (Ok tt)
+  pub no_failure : failures_then ≡ failures
+  pub counted : counts_then ≡ sent_once_more counts
+
+-- the end failed to send the reply, and both count that
+pub record IsFailureCounted (sends : Sends) (reply : Datagram) (failures failures_then : ℕ)
+    (counts counts_then : SendCounts) : Type 0 where
+  pub fault : DeviceFault
+  pub given : sends reply (Err fault)
+  pub counted_by_end : failures_then ≡ fault_count failures
+  pub counted : counts_then ≡ failed_once_more counts
+
+-- One send was made of this reply, and is counted: as sent or as failed, by what the end gave.
+abbrev pub IsSendCounted : Sends → Datagram → ℕ → ℕ → SendCounts → SendCounts → Type 0
+IsSendCounted sends reply failures failures_then counts counts_then =
+    IsSent sends reply failures failures_then counts counts_then
+    ⊎ IsFailureCounted sends reply failures failures_then counts counts_then
+
+-- The reply that is taken out of the ring next, behind those that were taken before, was sent once
+-- or failed to be sent, and is counted so.
+pub record IsNextSent (sends : Sends) (taken taken_then : List Datagram)
+    (failures failures_then : ℕ) (counts counts_then : SendCounts) : Type 0 where
   pub reply : Datagram
   pub next : taken_then ≡ taken ++ reply ∷ []
-  pub counted : IsSendCounted failures failures_then counts counts_then
+  pub counted : IsSendCounted sends reply failures failures_then counts counts_then

@@ -1,5 +1,6 @@
 -- What a worker does with an event: one step under the lock, and its reply to the sender.
 use Rattle.std.specs.Prelude.{◌≡◌, ◌++◌, ◌∷◌, ◌⊎◌, ℕ, List, [], Option, None, Some, take}
+use Rattle.std.specs.Prelude.{Ok, Err}
 use Rattle.ras_module.specs.declared.address.Address.{Address}
 use Rattle.zone_events.specs.declared.change.Change.TheVariants as change
 use Rattle.zone_events.specs.declared.event.Event.{Event}
@@ -7,23 +8,31 @@ use Rattle.zone_events.specs.declared.event.Event.TheVariants as event
 use Rattle.zone_events.specs.declared.outcome.Datagram.{Datagram}
 use Rattle.zone_events.specs.declared.outcome.Outcome.{Outcome}
 use Rattle.ras_machine.specs.State.{State}
+use Rattle.ras_core.specs.declared.fault.StepFault.TheVariants as step_fault
 use Rattle.books.specs.declared.book.Entry.{Entry}
 use Rattle.zone_lock.specs.Held.{IsClosed, IsMadeUnderLock, IsStepUnderLock, entry_by}
 use Rattle.zone_lock.specs.Seats.{Seated, seated_after}
-use Rattle.reply_queues.specs.Rings.{datagrams_put}
+use Rattle.zone_lock.specs.Turns.{AreTurnsUnderLock}
+use Rattle.zone_lock.specs.declared.turns.TurnsEnd.{TurnsEnd}
+use Rattle.zone_lock.specs.declared.turns.TurnsEnd.TheVariants as turns_end
+use Rattle.reply_queues.specs.Rings.{datagrams_put, free_places}
 use Rattle.reply_queues.specs.declared.outlet.Outlet.{Outlet}
+use Rattle.udp_server.specs.declared.datagrams.DeviceFault.{DeviceFault}
+use Rattle.udp_server.specs.declared.datagrams.Received.TheVariants as received
 use Rattle.udp_server.specs.declared.receiver.Next.{Next}
 use Rattle.udp_server.specs.declared.receiver.Next.TheVariants as next
 use Rattle.udp_server.specs.declared.worker.Counts.{Counts}
 use Rattle.udp_server.specs.declared.worker.StepResult.{StepResult}
 use Rattle.udp_server.specs.declared.worker.StepResult.TheVariants as result
-use Rattle.udp_server.specs.Ends.{fault_count}
+use Rattle.udp_server.specs.Ends.{ReceiveResult, fault_count}
 
--- What its steps change of a worker: its seat, what it put into its ring, oldest first, and what it
--- counts: replies that found no place there, steps that were refused, and receives that failed.
+-- What its steps change of a worker: its seat; what it put into its ring, oldest first, and how
+-- many places it knows to be free there; and what it counts: replies that found no place there,
+-- steps that were refused, and receives that failed.
 pub record Standing : Type 0 where
   pub seat : Seated
   pub put : List Datagram
+  pub free : ℕ
   pub dropped : ℕ
   pub refused : ℕ
   pub faults : ℕ
@@ -32,18 +41,30 @@ abbrev pub standing : Seated → Outlet → Counts → Standing
 standing seat outlet counts = record {
   seat = seat;
   put = datagrams_put outlet;
+  free = free_places outlet;
   dropped = counts.dropped;
   refused = counts.refused;
   faults = counts.faults;
 }
 
--- What is sent stands in the ring behind what was put there before; or it finds no place, and is
--- counted. If nothing is sent, nothing changes.
+-- a reply stands in the ring, behind what was put there before
+abbrev pub IsPosted : Datagram → Standing → Standing → Type 0
+IsPosted reply old new = new ≡ record old { put = old.put ++ reply ∷ []; free = new.free }
+
+-- a reply finds no place, as the ring is full, and is counted as dropped
+abbrev pub IsDropped : Standing → Standing → Type 0
+IsDropped old new = new ≡ record old { dropped = fault_count old.dropped; free = 0 }
+
+-- What is sent is posted, or dropped if the ring is full. If nothing is sent, nothing changes.
 abbrev pub IsHandedOn : Option Datagram → Standing → Standing → Type 0
 IsHandedOn None old new = new ≡ old
-IsHandedOn (Some reply) old new =
-    (new ≡ record old { put = old.put ++ reply ∷ [] })
-    ⊎ (new ≡ record old { dropped = fault_count old.dropped })
+IsHandedOn (Some reply) old new = IsPosted reply old new ⊎ IsDropped old new
+
+-- each of these replies is handed on, in order
+abbrev pub AreHandedOn : List Datagram → Standing → Standing → Type 0
+AreHandedOn [] old new = new ≡ old
+AreHandedOn (reply ∷ replies) old new =
+    (mid : Standing) × IsHandedOn (Some reply) old mid × AreHandedOn replies mid new
 
 -- One step was made under the lock, of which this is the entry. It stands at its place of the
 -- history that is kept, or nothing of it is kept.
@@ -52,7 +73,7 @@ IsStepOf opened entry =
     IsMadeUnderLock opened entry ⊎ ((place : ℕ) × IsStepUnderLock opened place entry)
 
 -- A worker served an event: it made one step of just that event, and handed on what is sent in it.
-pub record IsServed (opened : State) (event : Event) (old new : Standing) : Type 0 where
+pub record IsServedEvent (opened : State) (event : Event) (old new : Standing) : Type 0 where
   pub outcome : Outcome
   pub step : IsStepOf opened
       (entry_by old.seat.number old.seat.calls (change.Event event) outcome)
@@ -66,41 +87,109 @@ IsRefusalCounted old new = new ≡ record old { refused = fault_count old.refuse
 -- What came of an event: it was served; or memory was wanting, and that is counted; or no step is
 -- made any more.
 abbrev pub CameOf : State → Event → StepResult → Standing → Standing → Type 0
-CameOf opened event (result.Made place is_idle) old new = IsServed opened event old new
+CameOf opened event (result.Made place is_idle) old new = IsServedEvent opened event old new
 CameOf opened event result.Refused old new = IsRefusalCounted old new
 CameOf opened event result.Closed old new = (new ≡ old) × IsClosed opened
 
--- A receive that failed is counted by the worker as its end counts it, and nothing else changes.
-abbrev pub IsFaultCounted : ℕ → ℕ → Standing → Standing → Type 0
-IsFaultCounted failures failures_then old new =
-    (failures_then ≡ fault_count failures) × (new ≡ record old { faults = fault_count old.faults })
+-- the count of refused steps after turns that ended so: a want of memory is counted
+abbrev pub refused_after : TurnsEnd → ℕ → ℕ
+refused_after (turns_end.Refused step_fault.Memory) before = fault_count before
+refused_after why before = before
 
--- No datagram came: all is as it was; or there was no memory for one, or the receive failed, and that
--- is counted.
-abbrev pub IsNothing : ℕ → ℕ → Standing → Standing → Type 0
-IsNothing failures failures_then old new =
-    ((failures_then ≡ failures) × ((new ≡ old) ⊎ IsRefusalCounted old new))
-    ⊎ IsFaultCounted failures failures_then old new
+-- A worker made turns under the lock, at most so many, at one moment that its clock told, and
+-- handed on what they send, in order. A turn that was refused for want of memory is counted.
+pub record AreTurnsServed (opened : State) (tells : ℕ → Type 0) (most : ℕ) (why : TurnsEnd)
+    (old new : Standing) : Type 0 where
+  pub moment : ℕ
+  pub sent : List Datagram
+  pub seat_then : Seated
+  pub told : tells moment
+  pub turns : AreTurnsUnderLock opened old.seat moment most sent why seat_then
+  pub handed_on : AreHandedOn sent
+      (record old { seat = seat_then; refused = refused_after why old.refused }) new
 
--- the event of a datagram whose octets stand at the front of what was received last
-abbrev pub IsReceivedIn : List ℕ → Event → Type 0
-IsReceivedIn buffer what = (source : Address) × (length : ℕ) × (moment : ℕ)
-    × (what ≡ event.Datagram source (take length buffer) moment)
+-- What came of turns: they were made, and what they send was handed on; or there was no memory for
+-- what they would send, so that none was made, and that is counted.
+abbrev pub CameOfTurns : State → (ℕ → Type 0) → ℕ → TurnsEnd → Standing → Standing → Type 0
+CameOfTurns opened tells most why old new =
+    AreTurnsServed opened tells most why old new
+    ⊎ ((why ≡ turns_end.Refused step_fault.Memory) × IsRefusalCounted old new)
 
--- What a receive came to: a datagram, of which a step is to be made; or nothing; or that nothing more
--- comes. The end has counted so many failures before and after it.
-abbrev pub IsReceived : List ℕ → ℕ → ℕ → Next → Standing → Standing → Type 0
-IsReceived buffer failures failures_then (next.Event what) old new =
-    (failures_then ≡ failures) × (new ≡ old) × IsReceivedIn buffer what
-IsReceived buffer failures failures_then next.Nothing old new =
-    IsNothing failures failures_then old new
-IsReceived buffer failures failures_then next.End old new =
-    IsNothing failures failures_then old new
+-- what a receive gave, with the octets of its datagram, if it gave one
+abbrev pub Gives : Type 1
+Gives = ReceiveResult → List ℕ → Type 0
 
--- What a worker does in one turn of its loop: no datagram came; or one came, and something came of
--- its event.
-abbrev pub IsTurnOfLoop : State → List ℕ → ℕ → ℕ → Standing → Standing → Type 0
-IsTurnOfLoop opened buffer failures failures_then old new =
-    IsNothing failures failures_then old new
-    ⊎ ((failures_then ≡ failures) × ((what : Event) × IsReceivedIn buffer what
-    × ((came : StepResult) × CameOf opened what came old new)))
+-- a clock told this moment when it was asked
+abbrev pub IsTold : {C : Type 0} → (C → ℕ → C → Type 0) → C → ℕ → Type 0
+IsTold {C} tells clock moment = (clock_then : C) × tells clock moment clock_then
+
+-- The event of the datagram that the end gave: from its source, with as many octets as it told,
+-- which stand at the front of the buffer, at the moment that the worker's clock told.
+pub record IsReceivedIn (gives : Gives) (tells : ℕ → Type 0) (buffer : List ℕ) (what : Event)
+    : Type 0 where
+  pub source : Address
+  pub length : ℕ
+  pub moment : ℕ
+  pub given : gives (Ok (received.Datagram source length)) (take length buffer)
+  pub told : tells moment
+  pub is : what ≡ event.Datagram source (take length buffer) moment
+
+-- The end gave a datagram, for which there was no memory; and that is counted.
+pub record IsDatagramRefused (gives : Gives) (old new : Standing) : Type 0 where
+  pub source : Address
+  pub length : ℕ
+  pub octets : List ℕ
+  pub given : gives (Ok (received.Datagram source length)) octets
+  pub counted : IsRefusalCounted old new
+
+-- A receive failed. The worker counts that as its end does, and nothing else changes.
+pub record IsFaultCounted (gives : Gives) (failures failures_then : ℕ) (old new : Standing)
+    : Type 0 where
+  pub fault : DeviceFault
+  pub given : gives (Err fault) []
+  pub counted_by_end : failures_then ≡ fault_count failures
+  pub counted : new ≡ record old { faults = fault_count old.faults }
+
+-- No step is to be made: nothing came for some time, and all is as it was; or there was no memory
+-- for the datagram that came, or the receive failed, and that is counted.
+abbrev pub IsNothing : Gives → ℕ → ℕ → Standing → Standing → Type 0
+IsNothing gives failures failures_then old new =
+    ((failures_then ≡ failures) × (new ≡ old) × gives (Ok received.Quiet) [])
+    ⊎ ((failures_then ≡ failures) × IsDatagramRefused gives old new)
+    ⊎ IsFaultCounted gives failures failures_then old new
+
+-- Nothing more is received: the end has stopped, and all is as it was; or the receive failed, and
+-- that is counted.
+abbrev pub IsEnd : Gives → ℕ → ℕ → Standing → Standing → Type 0
+IsEnd gives failures failures_then old new =
+    ((failures_then ≡ failures) × (new ≡ old) × gives (Ok received.Stopped) [])
+    ⊎ IsFaultCounted gives failures failures_then old new
+
+-- What a receive came to: a datagram, of which a step is to be made; or nothing; or that nothing
+-- more comes. The end has counted so many failures before and after it.
+abbrev pub IsReceived : Gives → (ℕ → Type 0) → List ℕ → ℕ → ℕ → Next → Standing → Standing
+    → Type 0
+IsReceived gives tells buffer failures failures_then (next.Event what) old new =
+    (failures_then ≡ failures) × (new ≡ old) × IsReceivedIn gives tells buffer what
+IsReceived gives tells buffer failures failures_then next.Nothing old new =
+    IsNothing gives failures failures_then old new
+IsReceived gives tells buffer failures failures_then next.End old new =
+    IsEnd gives failures failures_then old new
+
+-- A datagram was received, and something came of its event.
+pub record IsDatagramServed (opened : State) (gives : Gives) (tells : ℕ → Type 0)
+    (buffer : List ℕ) (failures failures_then : ℕ) (old new : Standing) : Type 0 where
+  pub what : Event
+  pub came : StepResult
+  pub no_failure : failures_then ≡ failures
+  pub datagram : IsReceivedIn gives tells buffer what
+  pub served : CameOf opened what came old new
+
+-- What a worker does in one turn of its loop: one receive, and what comes of that. No step was to
+-- be made, or nothing more is received; or a datagram came, and something came of its event.
+abbrev pub IsTurnOfLoop : State → Gives → (ℕ → Type 0) → List ℕ → ℕ → ℕ → Standing → Standing
+    → Type 0
+IsTurnOfLoop opened gives tells buffer failures failures_then old new =
+    IsNothing gives failures failures_then old new
+    ⊎ IsEnd gives failures failures_then old new
+    ⊎ IsDatagramServed opened gives tells buffer failures failures_then old new

@@ -120,7 +120,7 @@ fn goes_on_recorded<
 {
     for _ in 0..MOST_TURNS {
         let moment = worker.clock.now();
-        match worker.step(shared, Event::Turn(moment)) {
+        match worker.step_recorded(shared, Event::Turn(moment)) {
             StepResult::Made { place, is_idle } => {
                 let ended = match place {
                     Some(place) => chapters.end_if_due(shared, place),

@@ -1,7 +1,7 @@
 //! The workers that receive datagrams.
 
 ghost use Rattle.std.specs.Prelude.{◌≡◌, IfOk};
-ghost use Rattle.udp_server.specs.Working.{IsReceived, IsTurnOfLoop, standing};
+ghost use Rattle.udp_server.specs.Working.{IsReceived, IsTold, IsTurnOfLoop, standing};
 
 use crate::datagrams::{Datagrams, DeviceFault, MOST_RECEIVED, Received};
 use crate::gate::Gate;
@@ -24,6 +24,17 @@ struct Receiver<N: Datagrams> {
     failed_in_a_row: u64,
 }
 
+impl<N: Datagrams> Receiver<N> {
+    /// Nothing was received yet.
+    fn new(end: N) -> Receiver<N> {
+        Receiver {
+            end,
+            buffer: [0; MOST_RECEIVED],
+            failed_in_a_row: 0,
+        }
+    }
+}
+
 /// What a receive came to.
 #[derive(Drop)]
 enum Next {
@@ -35,8 +46,8 @@ enum Next {
     End,
 }
 
-/// Receives datagrams and makes a step for each, until the end has stopped, too many receives in a
-/// row have failed, or no step may be made any more.
+/// Receives datagrams and makes a step for each, of which nothing is recorded, until the end has
+/// stopped, too many receives in a row have failed, or no step may be made any more.
 pub(crate) fn work<
     P: Pool,
     D: Hall,
@@ -53,11 +64,7 @@ pub(crate) fn work<
     worker: Worker<D, T, U, V, C>,
 ) -> WorkerRecord<D, T, U, V> {
     let mut worker = worker;
-    let mut receiver = Receiver {
-        end,
-        buffer: [0; MOST_RECEIVED],
-        failed_in_a_row: 0,
-    };
+    let mut receiver = Receiver::new(end);
     if shared.board.may_begin(shared.rt) {
         for _ in shared.rt.forever() {
             if !serve_next(shared, &mut receiver, &mut worker) {
@@ -84,13 +91,73 @@ fn serve_next<
     receiver: &mut Receiver<N>,
     worker: &mut Worker<D, T, U, V, C>,
 ) -> bool
-    ensures { IsTurnOfLoop D.opened receiver.new.buffer
+    ensures { IsTurnOfLoop D.opened
+        (λ given octets. N.receives receiver.old.end given octets receiver.new.end)
+        (IsTold C.tells worker.old.clock) receiver.new.buffer
         (N.faults receiver.old.end) (N.faults receiver.new.end)
         (standing worker.old.seat worker.old.outlet worker.old.counts)
         (standing worker.new.seat worker.new.outlet worker.new.counts) }
 {
     match receive_next(shared, receiver, worker) {
         Next::Event(event) => !matches!(worker.step(shared, event), StepResult::Closed),
+        Next::Nothing => true,
+        Next::End => false,
+    }
+}
+
+/// The same, with each step as an entry of the history.
+pub(crate) fn work_recorded<
+    P: Pool,
+    D: Hall,
+    T: Ledger,
+    U: Ledger,
+    V: Ledger,
+    R: Wait,
+    N: Datagrams,
+    G: Gate,
+    C: Moments,
+>(
+    shared: &Shared<'_, P, D, T, U, V, R, G>,
+    end: N,
+    worker: Worker<D, T, U, V, C>,
+) -> WorkerRecord<D, T, U, V> {
+    let mut worker = worker;
+    let mut receiver = Receiver::new(end);
+    if shared.board.may_begin(shared.rt) {
+        for _ in shared.rt.forever() {
+            if !serve_next_recorded(shared, &mut receiver, &mut worker) {
+                break;
+            }
+        }
+    }
+    worker.end(shared, Vec::new(shared.alloc))
+}
+
+/// The same as `serve_next`, with the step as an entry of the history.
+fn serve_next_recorded<
+    P: Pool,
+    D: Hall,
+    T: Ledger,
+    U: Ledger,
+    V: Ledger,
+    R: Wait,
+    N: Datagrams,
+    G: Gate,
+    C: Moments,
+>(
+    shared: &Shared<'_, P, D, T, U, V, R, G>,
+    receiver: &mut Receiver<N>,
+    worker: &mut Worker<D, T, U, V, C>,
+) -> bool
+    ensures { IsTurnOfLoop D.opened
+        (λ given octets. N.receives receiver.old.end given octets receiver.new.end)
+        (IsTold C.tells worker.old.clock) receiver.new.buffer
+        (N.faults receiver.old.end) (N.faults receiver.new.end)
+        (standing worker.old.seat worker.old.outlet worker.old.counts)
+        (standing worker.new.seat worker.new.outlet worker.new.counts) }
+{
+    match receive_next(shared, receiver, worker) {
+        Next::Event(event) => !matches!(worker.step_recorded(shared, event), StepResult::Closed),
         Next::Nothing => true,
         Next::End => false,
     }
@@ -112,7 +179,9 @@ fn receive_next<
     receiver: &mut Receiver<N>,
     worker: &mut Worker<D, T, U, V, C>,
 ) -> Next
-    ensures { IsReceived receiver.new.buffer
+    ensures { IsReceived
+        (λ given octets. N.receives receiver.old.end given octets receiver.new.end)
+        (IsTold C.tells worker.old.clock) receiver.new.buffer
         (N.faults receiver.old.end) (N.faults receiver.new.end) result
         (standing worker.old.seat worker.old.outlet worker.old.counts)
         (standing worker.new.seat worker.new.outlet worker.new.counts) }

@@ -91,7 +91,8 @@ impl<N: Datagrams> Sender<N> {
         ensures none { IsFalse result → datagrams_taken inlet.new ≡ datagrams_taken inlet.old }
         ensures same { IsFalse result → self.new.sent ≡ self.old.sent }
         ensures next { IsTrue result
-            → IsNextSent (datagrams_taken inlet.old) (datagrams_taken inlet.new)
+            → IsNextSent (λ datagram given. N.sends self.old.end datagram given self.new.end)
+            (datagrams_taken inlet.old) (datagrams_taken inlet.new)
             (N.faults self.old.end) (N.faults self.new.end) self.old.sent self.new.sent }
     {
         let Some(reply) = inlet.take() else {
@@ -103,7 +104,8 @@ impl<N: Datagrams> Sender<N> {
 
     /// Sends a reply, and counts it, or that the send failed.
     fn send(&mut self, reply: &Datagram)
-        ensures { IsSendCounted (N.faults self.old.end) (N.faults self.new.end)
+        ensures { IsSendCounted (λ datagram given. N.sends self.old.end datagram given self.new.end)
+            reply.now (N.faults self.old.end) (N.faults self.new.end)
             self.old.sent self.new.sent }
     {
         match self.end.send(reply) {

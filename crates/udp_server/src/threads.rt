@@ -8,7 +8,7 @@ use crate::expiry_worker::{ExpiryRecord, expire};
 use crate::gate::Gate;
 use crate::moments::Moments;
 use crate::orders::Orders;
-use crate::receiver::work;
+use crate::receiver::{work, work_recorded};
 use crate::sender::{SendCounts, send_all};
 use crate::worker::{Shared, Worker, WorkerRecord};
 use pools::Pool;
@@ -183,7 +183,8 @@ fn join_all<X: Drop, R: Threads + Wait>(
     records
 }
 
-/// Starts the thread of a receiving end. None if no thread can be made.
+/// Starts the thread of a receiving end, whose steps are recorded if the plan wants it. None if no
+/// thread can be made.
 fn start_worker<
     's,
     E,
@@ -202,6 +203,9 @@ fn start_worker<
     end: N,
     worker: Worker<D, T, U, V, C>,
 ) -> Option<JoinHandle<WorkerRecord<D, T, U, V>>> {
+    if shared.plan.is_recorded() {
+        return scope.spawn(move || work_recorded(shared, end, worker)).ok();
+    }
     scope.spawn(move || work(shared, end, worker)).ok()
 }
 

@@ -2,14 +2,14 @@
 
 ghost use Rattle.std.specs.Prelude.{◌≡◌};
 ghost use Rattle.zone_lock.specs.Held.{IsClosed};
-ghost use Rattle.udp_server.specs.Working.{CameOf, standing};
+ghost use Rattle.udp_server.specs.Working.{AreHandedOn, CameOf, CameOfTurns, IsTold};
+ghost use Rattle.udp_server.specs.Working.{refused_after, standing};
 
 use crate::gate::{Gate, Stage};
 use crate::moments::Moments;
-use crate::worker::{Shared, StepResult, Worker};
+use crate::worker::{Counts, Shared, StepResult, Worker};
 use pools::Pool;
-use ras_core::{Event, Prepared, StepFault, prepare};
-use std::alloc::AllocError;
+use ras_core::{Event, StepFault, prepare};
 use std::sync::Wait;
 use std::sync::ledger::Ledger;
 use zone_events::{Datagram, Note};
@@ -18,43 +18,36 @@ use zone_lock::{Hall, TurnsEnd};
 /// How many turns are made at most before the lock is free again: a request waits for them.
 const MOST_AT_ONCE: usize = 50;
 
+impl Counts {
+    /// Counts the turn that was refused for want of memory, if turns ended so.
+    fn count_end(&mut self, end: TurnsEnd)
+        ensures refused { self.new.refused ≡ refused_after end self.old.refused }
+        ensures dropped { self.new.dropped ≡ self.old.dropped }
+        ensures faults { self.new.faults ≡ self.old.faults }
+    {
+        match end {
+            TurnsEnd::Refused(StepFault::Memory) => self.refuse(),
+            TurnsEnd::Refused(StepFault::Closed) | TurnsEnd::Idle | TurnsEnd::More => {}
+        }
+    }
+}
+
 impl<D: Hall, T: Ledger, U: Ledger, V: Ledger, C: Moments> Worker<D, T, U, V, C> {
-    /// Makes the step of an event, as the plan wants it, and hands its reply to the sender. If
-    /// nothing is recorded, the worker keeps its outcome until the next step, and nothing else
-    /// tells of it.
+    /// Makes the step of an event, of which nothing is recorded, and hands its reply to the sender.
+    /// The worker keeps its outcome until the next step, and nothing else tells of it.
     pub(crate) fn step<P: Pool, R: Wait, G: Gate>(
         &mut self,
         shared: &Shared<'_, P, D, T, U, V, R, G>,
         event: Event,
     ) -> StepResult
-        ensures came { CameOf D.opened event result
+        ensures { CameOf D.opened event result
             (standing self.old.seat self.old.outlet self.old.counts)
             (standing self.new.seat self.new.outlet self.new.counts) }
-        ensures closed { result ≡ StepResult.Closed → IsClosed D.opened }
     {
-        if shared.plan.is_recorded() {
-            return self.step_recorded(shared, event);
-        }
-        match prepare(shared.alloc, event) {
-            Ok(prepared) => self.step_prepared(shared, prepared),
-            Err(AllocError) => {
-                self.counts.refuse();
-                StepResult::Refused
-            }
-        }
-    }
-
-    /// Makes a step that is prepared, of which nothing is recorded.
-    fn step_prepared<P: Pool, R: Wait, G: Gate>(
-        &mut self,
-        shared: &Shared<'_, P, D, T, U, V, R, G>,
-        prepared: Prepared,
-    ) -> StepResult
-        ensures came { CameOf D.opened prepared result
-            (standing self.old.seat self.old.outlet self.old.counts)
-            (standing self.new.seat self.new.outlet self.new.counts) }
-        ensures closed { result ≡ StepResult.Closed → IsClosed D.opened }
-    {
+        let Ok(prepared) = prepare(shared.alloc, event) else {
+            self.counts.refuse();
+            return StepResult::Refused;
+        };
         shared.gate.pass(self.number, Stage::BeforeApply);
         let lock = shared.lock;
         match lock.step(shared.rt, &mut self.seat, prepared, &mut self.outcome) {
@@ -97,7 +90,10 @@ impl<D: Hall, T: Ledger, U: Ledger, V: Ledger, C: Moments> Worker<D, T, U, V, C>
         shared: &Shared<'_, P, D, T, U, V, R, G>,
         replies: &mut Vec<Datagram>,
     ) -> TurnsEnd
-        ensures { result ≡ TurnsEnd.Refused StepFault.Closed → IsClosed D.opened }
+        ensures came { CameOfTurns D.opened (IsTold C.tells self.old.clock) MOST_AT_ONCE result
+            (standing self.old.seat self.old.outlet self.old.counts)
+            (standing self.new.seat self.new.outlet self.new.counts) }
+        ensures closed { result ≡ TurnsEnd.Refused StepFault.Closed → IsClosed D.opened }
     {
         replies.clear();
         if replies.reserve(MOST_AT_ONCE).is_err() {
@@ -110,14 +106,25 @@ impl<D: Hall, T: Ledger, U: Ledger, V: Ledger, C: Moments> Worker<D, T, U, V, C>
         let end = shared
             .lock
             .turns(shared.rt, seat, moment, MOST_AT_ONCE, outcome, replies);
-        if end == TurnsEnd::Refused(StepFault::Memory) {
-            self.counts.refuse();
-        }
+        self.counts.count_end(end);
         shared.gate.pass(self.number, Stage::AfterApply);
+        self.post_all(shared, replies);
+        shared.gate.pass(self.number, Stage::AfterPost);
+        end
+    }
+
+    /// Hands replies to the sender, in order. Those that find no place in the ring are dropped.
+    fn post_all<P: Pool, R: Wait, G: Gate>(
+        &mut self,
+        shared: &Shared<'_, P, D, T, U, V, R, G>,
+        replies: &mut Vec<Datagram>,
+    )
+        ensures { AreHandedOn replies.old.items
+            (standing self.old.seat self.old.outlet self.old.counts)
+            (standing self.new.seat self.new.outlet self.new.counts) }
+    {
         for datagram in replies.drain(..) {
             self.post(shared, datagram);
         }
-        shared.gate.pass(self.number, Stage::AfterPost);
-        end
     }
 }

@@ -3,7 +3,6 @@
 ghost use Rattle.std.specs.Prelude.{◌≡◌, ◌<◌, ◌+◌, min, IfOk, Some, vec_capacity, vec_len};
 ghost use Rattle.std.specs.Option.{ForSome};
 ghost use Rattle.ras_machine.specs.Steps.{HasFewOctets};
-ghost use Rattle.zone_lock.specs.Held.{IsClosed};
 ghost use Rattle.udp_server.specs.Ends.{fault_count, most_count};
 ghost use Rattle.udp_server.specs.Rooms.{IsRoom};
 ghost use Rattle.udp_server.specs.Working.{CameOf, IsHandedOn, standing};
@@ -15,6 +14,7 @@ use crate::plan::Plan;
 use books::{Chapter, Receipt};
 use pools::{Pool, ReplaceFault};
 use ras_core::{Event, Outcome, Prepared, StepFault, prepare};
+use ras_module::Reply;
 use reply_queues::Outlet;
 use std::alloc::{AllocError, Global};
 use std::sync::Wait;
@@ -22,9 +22,6 @@ use std::sync::ledger::Ledger;
 use zone_config::Moment;
 use zone_events::{Datagram, Note};
 use zone_lock::{Hall, Seat, ZoneLock};
-
-/// The most octets of a reply.
-const MOST_SENT: usize = 20_000;
 
 /// What all threads of a server share.
 #[derive(Drop)]
@@ -132,10 +129,9 @@ impl<D: Hall, T: Ledger, U: Ledger, V: Ledger, C: Moments> Worker<D, T, U, V, C>
         shared: &Shared<'_, P, D, T, U, V, R, G>,
         event: Event,
     ) -> StepResult
-        ensures came { CameOf D.opened event result
+        ensures { CameOf D.opened event result
             (standing self.old.seat self.old.outlet self.old.counts)
             (standing self.new.seat self.new.outlet self.new.counts) }
-        ensures closed { result ≡ StepResult.Closed → IsClosed D.opened }
     {
         match self.ready(shared, event) {
             Ok((prepared, buffer)) => self.apply(shared, prepared, buffer),
@@ -164,7 +160,7 @@ impl<D: Hall, T: Ledger, U: Ledger, V: Ledger, C: Moments> Worker<D, T, U, V, C>
             return Ok((prepared, None));
         }
         self.receipts.reserve(1)?;
-        let buffer = Vec::with_capacity(shared.alloc, MOST_SENT)?;
+        let buffer = Vec::with_capacity(shared.alloc, Reply::MOST)?;
         Ok((prepared, Some(buffer)))
     }
 
@@ -177,10 +173,9 @@ impl<D: Hall, T: Ledger, U: Ledger, V: Ledger, C: Moments> Worker<D, T, U, V, C>
         buffer: Option<Vec<u8>>,
     ) -> StepResult
         requires { ForSome buffer (λ buffer. IsRoom buffer self.old.receipts) }
-        ensures came { CameOf D.opened prepared result
+        ensures { CameOf D.opened prepared result
             (standing self.old.seat self.old.outlet self.old.counts)
             (standing self.new.seat self.new.outlet self.new.counts) }
-        ensures closed { result ≡ StepResult.Closed → IsClosed D.opened }
     {
         shared.gate.pass(self.number, Stage::BeforeApply);
         let receipt = match shared.lock.apply(shared.rt, &mut self.seat, prepared) {
@@ -310,7 +305,7 @@ impl<D: Hall, T: Ledger, U: Ledger, V: Ledger, C: Moments> Worker<D, T, U, V, C>
         shared.board.wake_sender();
     }
 
-    /// Puts a reply behind those in the ring. One that finds no place there is dropped, and counted.
+    /// Puts a reply behind those in the ring. If the ring is full, it is dropped, and counted.
     fn put(&mut self, reply: Datagram)
         ensures { IsHandedOn (Some reply)
             (standing self.old.seat self.old.outlet self.old.counts)
