@@ -1,5 +1,8 @@
 //! Binding the address of a zone.
 
+ghost use Rattle.std.specs.Prelude.{◌≡◌};
+ghost use Rattle.udp_socket.specs.Limits.{receives_left};
+
 use crate::addresses::{ras_address, system_address};
 use crate::end::SocketEnd;
 use crate::stop::Stop;
@@ -75,7 +78,9 @@ fn bound<R: Net>(rt: &R, address: Address) -> io::Result<UdpSocket> {
 impl BoundSocket {
     /// An end that receives and sends over the socket. It stops after this many receives, if a
     /// number is given, and once it is told to.
-    pub fn end<'a, S: Stop>(&'a self, receives: Option<u64>, stop: &'a S) -> SocketEnd<'a, S> {
+    pub fn end<'a, S: Stop>(&'a self, receives: Option<u64>, stop: &'a S) -> SocketEnd<'a, S>
+        ensures { receives_left result ≡ receives }
+    {
         SocketEnd::new(&self.socket, receives, stop)
     }
 

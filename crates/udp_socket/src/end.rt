@@ -1,9 +1,10 @@
 //! Ends of a socket.
 
-ghost use Rattle.std.specs.Prelude.{◌≡◌, ◌≤◌, ◌↔◌, if◌then◌else◌, IfOk, IsOk, IsOkAnd, IsTrue};
-ghost use Rattle.std.specs.Prelude.{None, OnErr, OnOk, Some};
+ghost use Rattle.std.specs.Prelude.{◌≡◌, ◌≤◌, ◌↔◌, if◌then◌else◌, IfOk, IsFalse, IsOk, IsOkAnd};
+ghost use Rattle.std.specs.Prelude.{IsTrue, None, OnErr, OnOk, Some};
 ghost use Rattle.udp_server.specs.Ends.{IsWithin, fault_count};
-ghost use Rattle.udp_socket.specs.Ends.{is_quiet, one_fewer, received_by};
+ghost use Rattle.udp_socket.specs.Ends.{IsReceiveCounted, is_quiet, is_stopped, one_fewer};
+ghost use Rattle.udp_socket.specs.Ends.{received_by};
 
 use crate::addresses::{ras_address, system_address};
 use crate::stop::Stop;
@@ -22,11 +23,13 @@ pub struct SocketEnd<'a, S> {
 }
 
 impl<'a, S: Stop> SocketEnd<'a, S> {
-    pub(crate) fn new(
-        socket: &'a UdpSocket,
-        receives: Option<u64>,
-        stop: &'a S,
-    ) -> SocketEnd<'a, S> {
+    ghost use Rattle.udp_socket.specs.Limits.{receives_left};
+
+    /// An end of which no call has failed. It stops after this many receives, if a number is given.
+    pub(crate) fn new(socket: &'a UdpSocket, receives: Option<u64>, stop: &'a S) -> SocketEnd<'a, S>
+        ensures left { receives_left result ≡ receives }
+        ensures faults { result.faults ≡ 0 }
+    {
         SocketEnd {
             socket,
             receives,
@@ -64,6 +67,8 @@ impl<'a, S: Stop> SocketEnd<'a, S> {
         ensures received { IfOk result (λ received. received_by answer ≡ Some received) }
         ensures failed { OnErr result (received_by answer ≡ None) }
         ensures within { IfOk result IsWithin }
+        ensures goes_on { IsFalse (is_stopped result) }
+        ensures left { self.new.receives ≡ self.old.receives }
         ensures ok { OnOk result (self.new.faults ≡ self.old.faults) }
         ensures err { OnErr result (self.new.faults ≡ fault_count self.old.faults) }
     {
@@ -80,6 +85,7 @@ impl<'a, S: Stop> SocketEnd<'a, S> {
     /// What a send of so many octets answers, by what the system's call gave.
     fn after_send(&mut self, answer: io::Result<usize>, octets: usize) -> Result<(), DeviceFault>
         ensures sent { IsOk result ↔ IsOkAnd answer (λ sent. sent ≡ octets) }
+        ensures left { self.new.receives ≡ self.old.receives }
         ensures ok { OnOk result (self.new.faults ≡ self.old.faults) }
         ensures err { OnErr result (self.new.faults ≡ fault_count self.old.faults) }
     {
@@ -90,7 +96,8 @@ impl<'a, S: Stop> SocketEnd<'a, S> {
     }
 
     fn fault(&mut self) -> DeviceFault
-        ensures { self.new.faults ≡ fault_count self.old.faults }
+        ensures counted { self.new.faults ≡ fault_count self.old.faults }
+        ensures left { self.new.receives ≡ self.old.receives }
     {
         self.faults = self.faults.saturating_add(1);
         DeviceFault
@@ -110,6 +117,11 @@ fn is_quiet(kind: ErrorKind) -> bool
 
 impl<S: Stop> Datagrams for SocketEnd<'_, S> {
     ghost faults = { λ end. end.faults };
+
+    ghost receives = { λ old given octets new.
+        IsReceiveCounted given old.receives new.receives };
+
+    ghost sends = { λ old datagram given new. new.receives ≡ old.receives };
 
     fn receive(&mut self, buffer: &mut [u8; 4_097]) -> Result<Received, DeviceFault> {
         if self.has_stopped() {
