@@ -32,6 +32,8 @@ impl<'a, R: Clock> Stopwatch<'a, R> {
 }
 
 impl<R: Clock> Moments for Stopwatch<'_, R> {
+    ghost tells = { λ old moment new. (new.last ≡ moment) × (new.start ≡ old.start) };
+
     fn now(&mut self) -> Moment
         ensures beginning { beginning self.new ≡ beginning self.old }
         ensures last { last_moment self.new ≡ result }
