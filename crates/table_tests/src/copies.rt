@@ -1,10 +1,10 @@
 //! Copies of the tables: equal to what was copied, and apart from it. A copy for which memory is
 //! refused leaves its table as it was, and is made with memory.
 
-use crate::fixtures::{address, endpoint, is_confirmed, kept_reply, no_alias, seq};
+use crate::fixtures::{address, endpoint, is_confirmed, kept_reply, no_alias, request_octets, seq};
 use admission::{Calls, Leg};
 use kept_replies::{Kept, KeptKey};
-use ras_module::{Address, CallKey, Octets, Reply};
+use ras_module::{Address, CallKey, Reply};
 use registrations::{Registration, Registrations};
 use std::alloc::{AllocError, Global};
 use std::test::Fail;
@@ -137,7 +137,7 @@ fn a_copy_of_calls_is_apart(rt: HostRuntime) -> Result<(), Fail> {
 }
 
 /// The datagram of one octet.
-fn datagram(alloc: Global, octet: u8) -> Result<KeptKey, AllocError> {
+fn datagram(alloc: Global, octet: u8) -> Result<KeptKey, Fail> {
     let mut bytes = Vec::new(alloc);
     if bytes.reserve(1).is_err() {
         bytes.reserve(1)?;
@@ -148,7 +148,7 @@ fn datagram(alloc: Global, octet: u8) -> Result<KeptKey, AllocError> {
             ip: [10, 0, 0, 5],
             port: 1719,
         },
-        bytes: Octets::from_vec(bytes),
+        bytes: request_octets(bytes)?,
     })
 }
 
@@ -159,7 +159,7 @@ fn confirm(number: u8) -> Reply {
 }
 
 /// Keeps replies 1 and 2, born in steps 1 and 2, with room that is made at last.
-fn keep(kept: &mut Kept, alloc: Global) -> Result<bool, AllocError> {
+fn keep(kept: &mut Kept, alloc: Global) -> Result<bool, Fail> {
     for number in [1u8, 2] {
         let key = datagram(alloc, number)?;
         let born = u64::from(number);

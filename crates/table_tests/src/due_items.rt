@@ -1,10 +1,10 @@
 //! What is due by the tables, and from which moment on.
 
-use crate::fixtures::{address, endpoint, kept_reply, no_alias, seq};
+use crate::fixtures::{address, endpoint, kept_reply, no_alias, request_octets, seq};
 use admission::{Calls, Leg};
 use expiry::{DueItem, Times, due};
 use kept_replies::{InProgress, Kept, KeptKey};
-use ras_module::{Boxed, CallKey, Delay, DisengageRequest, EndpointId, Octets, Reply, Request};
+use ras_module::{Boxed, CallKey, Delay, DisengageRequest, EndpointId, Reply, Request};
 use registrations::{Registration, Registrations};
 use std::alloc::Global;
 use std::test::Fail;
@@ -63,16 +63,16 @@ fn ask(table: &mut Registrations, id: &EndpointId, now: u64) -> Result<(), Fail>
     Ok(())
 }
 
-fn datagram(alloc: Global) -> KeptKey {
-    KeptKey {
+fn datagram(alloc: Global) -> Result<KeptKey, Fail> {
+    Ok(KeptKey {
         source: address(5),
-        bytes: Octets::from_vec(Vec::new(alloc)),
-    }
+        bytes: request_octets(Vec::new(alloc))?,
+    })
 }
 
 /// Lets a request wait, which is served again from the moment 1500 on.
 fn pend(alloc: Global, kept: &mut Kept) -> Result<(), Fail> {
-    let key = datagram(alloc);
+    let key = datagram(alloc)?;
     if kept.is_full() || !kept.is_free(&key, 3) {
         return Err(Fail::from("there is no place"));
     }
@@ -90,7 +90,7 @@ fn pend(alloc: Global, kept: &mut Kept) -> Result<(), Fail> {
 
 /// Keeps a reply until the moment 10,000.
 fn keep(alloc: Global, kept: &mut Kept) -> Result<(), Fail> {
-    let key = datagram(alloc);
+    let key = datagram(alloc)?;
     if kept.is_full() || !kept.is_free(&key, 5) {
         return Err(Fail::from("there is no place"));
     }

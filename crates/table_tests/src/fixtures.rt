@@ -1,12 +1,13 @@
 //! What the tables are filled with.
 
-use kept_replies::{KeptEntry, KeptReply, KeptState};
+use kept_replies::{KeptEntry, KeptReply, KeptState, RequestOctets};
 use ras_module::{
     Address, Alias, AliasList, BmpString, DialledDigits, EndpointId, Reply, ReplyAliases,
     RequestSeqNum,
 };
 use ras_writing::write_into;
 use std::alloc::{AllocError, Global};
+use std::test::Fail;
 
 /// An identifier of four digits, of which the last is given.
 pub fn endpoint(last: u8) -> EndpointId {
@@ -31,6 +32,11 @@ pub fn no_alias(alloc: Global) -> Option<ReplyAliases> {
 
 pub fn seq(number: u16) -> RequestSeqNum {
     RequestSeqNum::new(number).unwrap_or(RequestSeqNum::new(1).unwrap())
+}
+
+/// These octets, as a key has them.
+pub fn request_octets(octets: Vec<u8>) -> Result<RequestOctets, Fail> {
+    RequestOctets::new(octets)?.map_err(|_| Fail::from("no request has so many octets"))
 }
 
 /// The reply as it is kept. What is refused for want of memory is made once more.

@@ -1,11 +1,11 @@
 //! Replies that are kept, and requests that wait.
 
-use crate::fixtures::{endpoint, is_confirmed, kept_reply, no_alias, seq};
+use crate::fixtures::{endpoint, is_confirmed, kept_reply, no_alias, request_octets, seq};
 use kept_replies::{
     InProgress, Kept, KeptEntry, KeptKey, KeptList, KeptReply, KeptState, ReserveFault,
 };
 use ras_module::{
-    Address, BandwidthRequest, Boxed, CallKey, Delay, Name, Octets, RegistrationConfirm, Reply,
+    Address, BandwidthRequest, Boxed, CallKey, Delay, Name, RegistrationConfirm, Reply,
     ReplyAliases, Request, TimeToLive,
 };
 use std::alloc::{AllocError, Global};
@@ -17,13 +17,21 @@ const SOURCE: Address = Address {
     port: 1719,
 };
 
-fn key(alloc: Global, octet: u8) -> Result<KeptKey, AllocError> {
-    let mut bytes = Vec::new(alloc);
-    bytes.push(octet)?;
+fn single(alloc: Global, octet: u8) -> Result<Vec<u8>, AllocError> {
+    let mut octets = Vec::new(alloc);
+    octets.push(octet)?;
+    Ok(octets)
+}
+
+fn key_of(octets: Vec<u8>) -> Result<KeptKey, Fail> {
     Ok(KeptKey {
         source: SOURCE,
-        bytes: Octets::from_vec(bytes),
+        bytes: request_octets(octets)?,
     })
+}
+
+fn key(alloc: Global, octet: u8) -> Result<KeptKey, Fail> {
+    key_of(single(alloc, octet)?)
 }
 
 fn confirm(number: u16) -> Reply {
@@ -382,10 +390,11 @@ fn a_refusal_of_memory_changes_nothing(rt: HostRuntime) -> Result<(), Fail> {
 }
 
 fn insist(alloc: Global, kept: &mut Kept, octet: u8) -> Result<(), Fail> {
-    let datagram = match key(alloc, octet) {
-        Ok(datagram) => datagram,
-        Err(_) => key(alloc, octet)?,
+    let octets = match single(alloc, octet) {
+        Ok(octets) => octets,
+        Err(_) => single(alloc, octet)?,
     };
+    let datagram = key_of(octets)?;
     let reply = match registered(alloc, few(alloc)?, octet) {
         Ok(reply) => reply,
         Err(_) => registered(alloc, few(alloc)?, octet)?,

@@ -23,4 +23,6 @@ mod limits;
 #[cfg(test)]
 mod quiet;
 #[cfg(test)]
+mod request_octets;
+#[cfg(test)]
 mod rows;

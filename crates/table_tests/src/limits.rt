@@ -1,11 +1,11 @@
 //! Tables that are filled to their limits.
 
-use crate::fixtures::{endpoint, kept_reply, no_alias, seq};
+use crate::fixtures::{endpoint, kept_reply, no_alias, request_octets, seq};
 use admission::{CallFault, Calls, Leg};
 use kept_replies::{Kept, KeptKey, ReserveFault};
-use ras_module::{Address, CallKey, EndpointId, Octets, Reply};
+use ras_module::{Address, CallKey, EndpointId, Reply};
 use registrations::{AddFault, Registration, Registrations};
-use std::alloc::{AllocError, Global};
+use std::alloc::Global;
 use std::test::Fail;
 
 /// The most endpoints, and the most calls, that a zone may have.
@@ -109,11 +109,11 @@ fn a_zone_has_20_000_calls_and_no_more(rt: HostRuntime) {
     assert_eq!(rt; total, 20_000 * 1280);
 }
 
-fn numbered_key(alloc: Global, number: u32) -> Result<KeptKey, AllocError> {
+fn numbered_key(alloc: Global, number: u32) -> Result<KeptKey, Fail> {
     let bytes = Vec::from_slice(alloc, &number.to_be_bytes())?;
     Ok(KeptKey {
         source: numbered_address(1),
-        bytes: Octets::from_vec(bytes),
+        bytes: request_octets(bytes)?,
     })
 }
 

@@ -1,11 +1,11 @@
 //! Changes of the tables that ask for no memory. Each test sets two marks, and `./try-memory` counts
 //! what is asked for between them.
 
-use crate::fixtures::{address, endpoint, kept_reply, no_alias, seq};
+use crate::fixtures::{address, endpoint, kept_reply, no_alias, request_octets, seq};
 use admission::{CallFault, Calls, Leg};
 use deadlines::Deadlines;
 use kept_replies::{Kept, KeptKey, KeptReply};
-use ras_module::{CallKey, EndpointId, Octets, Reply};
+use ras_module::{CallKey, EndpointId, Reply};
 use registrations::{Registration, Registrations};
 use std::alloc::{AllocError, Global};
 use std::test::Fail;
@@ -169,11 +169,11 @@ fn changes_of_a_call_ask_for_no_memory(rt: HostRuntime) -> Result<(), Fail> {
 }
 
 /// The datagram of one octet.
-fn key(alloc: Global, octet: u8) -> Result<KeptKey, AllocError> {
+fn key(alloc: Global, octet: u8) -> Result<KeptKey, Fail> {
     let bytes = Vec::from_slice(alloc, &[octet])?;
     Ok(KeptKey {
         source: address(1),
-        bytes: Octets::from_vec(bytes),
+        bytes: request_octets(bytes)?,
     })
 }
 

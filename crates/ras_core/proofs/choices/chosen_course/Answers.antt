@@ -32,8 +32,8 @@ returns-in-TooLong c = λ moment.
     let now = c.args.now in
     let read = subst IsRead c.in-TooLong.is c.requires in
     let course_by = λ (m : Option Message).
-        message_course s now (record { source = c.in-TooLong.field-0; bytes = c.in-TooLong.field-1 })
-        None m in
+    message_course s now (record { source = c.in-TooLong.field-0; bytes = c.in-TooLong.field-1 })
+    None m in
     subst (λ a. IsChosen s now (event_at moment a) (Ignoring TooLong)) (sym c.in-TooLong.is) (record {
       dropped = None;
       item = None;

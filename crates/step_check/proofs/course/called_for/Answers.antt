@@ -29,8 +29,8 @@ returns-in-TooLong c = λ moment.
     let outcome = c.args.outcome.now in
     let read = subst IsRead c.in-TooLong.is c.requires.read in
     let course_by = λ (m : Option Message).
-        message_course s now (record { source = c.in-TooLong.field-0; bytes = c.in-TooLong.field-1 })
-        outcome.dropped m in
+    message_course s now (record { source = c.in-TooLong.field-0; bytes = c.in-TooLong.field-1 })
+    outcome.dropped m in
     subst (λ a. CallsFor s now (course_at s now (event_at moment a) (choices_of outcome))
     (Ignoring TooLong)) (sym c.in-TooLong.is) (record {
       is = sym (ap course_by read);
