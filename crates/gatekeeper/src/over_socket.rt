@@ -4,6 +4,7 @@ ghost use Rattle.std.specs.Prelude.{◌≡◌, ◌≤◌, All, IfOk, vec_len};
 ghost use Rattle.gatekeeper.specs.Clocks.{beginning};
 ghost use Rattle.udp_server.specs.Plans.{IsPlan};
 ghost use Rattle.udp_server.specs.Served.{IsServed};
+ghost use Rattle.udp_socket.specs.Limits.{receives_left};
 
 use crate::service::Service;
 use crate::serving_fault::RunningFault;
@@ -57,7 +58,9 @@ fn ends_of<'a, S: Stop>(
     service: Service,
     stop: &'a S,
 ) -> Result<Vec<SocketEnd<'a, S>>, AllocError>
-    ensures { IfOk result (λ ends. vec_len ends ≡ service.receivers) }
+    ensures count { IfOk result (λ ends. vec_len ends ≡ service.receivers) }
+    ensures receives { IfOk result
+        (λ ends. All (λ end. receives_left end ≡ service.receives) ends.items) }
 {
     let mut ends = Vec::with_capacity(alloc, service.receivers)?;
     for _end in 0..service.receivers {
