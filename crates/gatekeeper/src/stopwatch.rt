@@ -35,6 +35,7 @@ impl<R: Clock> Moments for Stopwatch<'_, R> {
     ghost tells = { λ old moment new. (new.last ≡ moment) × (new.start ≡ old.start) };
 
     fn now(&mut self) -> Moment
+        ensures tells { (self.new.last ≡ result) × (self.new.start ≡ self.old.start) }
         ensures beginning { beginning self.new ≡ beginning self.old }
         ensures last { last_moment self.new ≡ result }
         ensures still { IsNone (beginning self.old) → result ≡ last_moment self.old }
