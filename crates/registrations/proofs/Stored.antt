@@ -20,7 +20,7 @@ use Rattle.indexmap.proofs.CallerLemmas.{insert_entry-new}
 use Rattle.slab.specs.Slab.{Slab, get, slab_len, Updates, with_value}
 use Rattle.slab.proofs.SlabLemmas.{Updates-with_value}
 use Rattle.deadlines.specs.Deadlines.{DeadlineTable}
-use Rattle.keyed.specs.Maps.{update, Changed}
+use Rattle.keyed.specs.Maps.{update, put_if, Changed}
 use Rattle.keyed.specs.Places.{row_in, AreApart}
 use Rattle.keyed.proofs.Decide.{some_none, same_some}
 use Rattle.keyed.proofs.Entries as entries
@@ -496,6 +496,20 @@ module _ {S : Type 0} (rows : Slab Registration) (by_identifier : HashMap (List 
         times = ap (λ u. u.times) view;
         next = ap (λ u. u.next) view;
       }
+
+  -- if nobody has the identifier, nothing is changed
+  pub Updates-same : (id : List ℕ) → hash.get (pointwise nat_eq) by_identifier id ≡ None
+      → (f : Registration → Registration) → UpdatesOne t t (update t.live id f)
+  Updates-same id is f = record {
+    rows = ap (λ r. put_if t.live id (option_map f r)) (not_found id is);
+    most = refl;
+    room = refl;
+    sound = subst IsSound view
+        (IsSound-stored rows by_identifier by_address most s deadlines legs ends times start);
+    legs = refl;
+    times = refl;
+    next = refl;
+  }
 
   -- if nobody has the identifier, nobody goes
   pub Becomes-same : (id : List ℕ) → hash.get (pointwise nat_eq) by_identifier id ≡ None

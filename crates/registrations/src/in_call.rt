@@ -38,12 +38,13 @@ impl Registrations {
         self.nth(i)
     }
 
-    /// Notes that an endpoint was heard.
+    /// Notes that an endpoint was heard, if it is registered.
     pub fn hear(&mut self, id: &EndpointId, now: u64)
-        requires { IsSome (map.get self.old.live id.now) }
         ensures { Updates self.old self.new (update self.old.live id.now (after_hear now)) }
     {
-        let (i, place) = live_entry(&self.by_identifier, id);
+        let Some((i, place)) = entry_of(&self.by_identifier, id) else {
+            return;
+        };
         let row = &mut self.rows[place];
         row.heard = now;
         row.tries = 0;
