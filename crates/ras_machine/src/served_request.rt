@@ -121,7 +121,7 @@ impl Machine {
         let reply = KeptReply::of_confirm(self.alloc, &confirm, &bytes)?;
         let bytes = Octets::from_vec(bytes);
         let output = Datagram { to, bytes };
-        let change = EndpointChange::Renewal(registration.call_signal, time.deadline);
+        let change = EndpointChange::Renewal(time.deadline);
         Ok((Change::Endpoint(change), Written { output, reply }))
     }
 

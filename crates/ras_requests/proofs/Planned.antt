@@ -1,8 +1,8 @@
 -- Plans of requests.
 use Rattle.std.proofs.Common.{Bor, ◌≡◌, ℕ, false, List, sym, ◌∙◌}
-use Rattle.std.proofs.Common.{ap, None, Some}
-use Rattle.std.specs.Prelude.{IfSome, Option, if◌then◌else◌}
-use Rattle.std.specs.Option.{option_copied}
+use Rattle.std.proofs.Common.{ap, subst, None, Some, []}
+use Rattle.std.specs.Prelude.{IfSome, IsSome, Option, if◌then◌else◌}
+use Rattle.std.specs.Option.{IsSomeAnd, option_copied, unwrap_or}
 use Rattle.std.specs.FinMap as fin
 use Rattle.keyed.specs.Maps.{update}
 use Rattle.keyed.proofs.Decide.{some_none}
@@ -15,7 +15,7 @@ use Rattle.ras_module.specs.declared.request.RegistrationRequest.{RegistrationRe
 use Rattle.registrations.specs.declared.registration.Registration.{Registration}
 use Rattle.registrations.specs.Registry.{IsConsistent, at_address, with_deadline}
 use Rattle.registrations.proofs.Consistent.{IsAt-found}
-use Rattle.zone_tables.specs.Tables.{Tables, identifier_at, identifier_or_none, with_live}
+use Rattle.zone_tables.specs.Tables.{Tables, with_live}
 use Rattle.ras_requests.specs.Rrq.{keep_alive, named, has_moved, confirmation, deadline}
 use Rattle.ras_requests.specs.Rrq.{granted, rejection}
 use Rattle.ras_requests.specs.Urq.{leaving}
@@ -32,10 +32,11 @@ Settles-renewal : (z : Tables) (now : ℕ) (q : RegistrationRequest) (id : List 
     → g.seq ≡ q.seq → g.granted ≡ granted z q.time_to_live → g.deadline ≡ deadline z now q
     → Settles z now (Rrq q) (keep_alive z now q (named z q.endpoint)) (renewal_of z g r)
 Settles-renewal z now q id r g sound names there stays seq_is granted_is until_is =
-    let at = found_at z.live sound id r there in
-    let here : identifier_at z.live r.call_signal ≡ r.identifier = ap identifier_or_none at in
+    let here : unwrap_or q.endpoint [] ≡ r.identifier = ap (λ w. unwrap_or w []) names
+        ∙ sym (sound.own id r there) in
     record {
-      possible = (is_there (at_address z.live r.call_signal) r at, tt);
+      possible = (subst (λ w. IsSomeAnd w (λ i. IsSome (fin.get z.live i))) (sym names)
+          (is_there (fin.get z.live id) r there), tt);
       is = ap (keep_alive z now q) (ap (named z) names ∙ there)
           ∙ ap (λ b. if b then rejection z q FullRegistrationRequired else Settled (record {
             reply = confirmation z q r.call_signal r.aliases r.identifier;

@@ -86,7 +86,7 @@ renewal_of z g r = record {
     endpoint = r.identifier;
     granted = g.granted;
   });
-  change = Endpoint (Renewal r.call_signal g.deadline);
+  change = Endpoint (Renewal g.deadline);
 }
 
 -- The request names an endpoint that is registered, which is granted a new time to live.

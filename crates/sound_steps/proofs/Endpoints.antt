@@ -1,8 +1,8 @@
 -- The endpoints stay sound as one of them comes, changes or goes.
 use Rattle.std.proofs.Common.{◌≡◌, ◌&&◌, ℕ, Bool, true, false, not, cond, List, [], ◌∷◌}
 use Rattle.std.proofs.Common.{refl, sym, ◌∙◌, ap, subst, Some, None, arith}
-use Rattle.std.specs.Prelude.{Contains, filter}
-use Rattle.std.specs.Option.{option_map}
+use Rattle.std.specs.Prelude.{Contains, Option, filter}
+use Rattle.std.specs.Option.{option_map, unwrap_or}
 use Rattle.std.specs.FinMap as fin
 use Rattle.std.proofs.lemmas.Cmp.{nat_list_cmp_total}
 use Rattle.std.proofs.lemmas.Map.Lookups.{exact_bytes}
@@ -238,15 +238,16 @@ roll-went roll sound id = record {
 }
 
 -- whatever change of an endpoint can be made
-pub roll-after : (roll : Roll) → IsSoundRoll roll → (now : ℕ) (change : EndpointChange)
-    → IsEndpointChange roll change
+pub roll-after : (roll : Roll) → IsSoundRoll roll → (now : ℕ) (who : Option (List ℕ))
+    (change : EndpointChange) → IsEndpointChange roll who change
     → IsSoundRoll (record {
-      live = after_endpoint_change now change roll.live;
+      live = after_endpoint_change now who change roll.live;
       most = roll.most;
     })
-roll-after roll sound now (Renewal address deadline) can =
-    roll-changed roll sound (identifier_at roll.live address) (with_deadline deadline) (λ r. refl) (λ r. refl) (λ r. refl)
-roll-after roll sound now (Rewriting e deadline) can =
+roll-after roll sound now who (Renewal deadline) can =
+    roll-changed roll sound (unwrap_or who []) (with_deadline deadline) (λ r. refl) (λ r. refl)
+    (λ r. refl)
+roll-after roll sound now who (Rewriting e deadline) can =
     let id = identifier_at roll.live e.call_signal in
     let f = after_rewrite e.ras e.aliases deadline in
     roll-heard (record { live = update roll.live id f; most = roll.most }) (record {
@@ -255,11 +256,11 @@ roll-after roll sound now (Rewriting e deadline) can =
           can;
       few = omega (arith, len_updated nat_list_cmp_total exact_bytes roll.live id f, sound.few);
     }) now id
-roll-after roll sound now (Addition r) can = record {
+roll-after roll sound now who (Addition r) can = record {
   consistent = consistent-came roll.live sound.consistent r can.address;
   aliases = aliases-came roll.live sound.aliases r can.address can.aliases;
   few = len_within nat_list_cmp_total exact_bytes roll.live r.identifier r roll.most sound.few
       (λ none. omega (arith, sound.few, can.place));
 }
-roll-after roll sound now (Removal address) can =
+roll-after roll sound now who (Removal address) can =
     roll-went roll sound (identifier_at roll.live address)

@@ -115,9 +115,9 @@ module _ (z : Tables) (sound : SoundTables z) where
       → SoundTables (after_change now who change z)
   tables-after now who Nothing can = sound
   tables-after now who (Endpoint change) can =
-      with_endpoints (after_endpoint_change now change z.live)
-      (roll-after (roll_of z) (roll-sound z sound) now change can.0)
-      (legs-endpoint z.live z.calls now change sound.legs can.1)
+      with_endpoints (after_endpoint_change now who change z.live)
+      (roll-after (roll_of z) (roll-sound z sound) now who change can.0)
+      (legs-endpoint z.live z.calls now who change sound.legs can.1)
   tables-after now who (Calls change) can =
       let id = unwrap_or who [] in
       with_usages (calls_after id change z.calls) (pools_after id change z.calls z.pools)

@@ -62,13 +62,6 @@ module _ (roll : Roll) (held : Held) (agree : Agree roll.live held) where
       Agree-update (update roll.live id f) (with_aliases (without_holder held id) e.aliases id
       e.call_signal) id (after_hear now) moved (λ r. refl) (λ r. refl)
 
-pub is_there_after : (live : Live) (id : List ℕ)
-    (f : Registration → Registration) (old : Registration) → fin.get live id ≡ Some old
-    → IsSome (fin.get (update live id f) id)
-is_there_after live id f old is =
-    is_there (fin.get (update live id f) id) (f old)
-    ((Changed-update nat_list_cmp_total exact_bytes live id f).here ∙ ap (option_map f) is)
-
 -- what holds of the endpoints as they are stored
 pub IsSoundRoll-stored : (t : Registry) (held : Held) → AreStored t held
     → IsSoundRoll (record { live = t.live; most = t.most })

@@ -318,36 +318,36 @@ module _ (live : Live) (u : Usage) (legs : LegCounts) (counted : AreCounted live
 
 -- a change of the registrations
 pub counted_endpoint : (roll : Roll) (calls : OpenCalls) (legs : LegCounts) (now : ℕ)
-    (change : EndpointChange) → AreCounted roll.live calls legs → HaveEndpoints roll.live calls
-    → IsEndpointChange roll change
-    → AreCounted (after_endpoint_change now change roll.live) calls
+    (who : Option (List ℕ)) (change : EndpointChange) → AreCounted roll.live calls legs
+    → HaveEndpoints roll.live calls → IsEndpointChange roll who change
+    → AreCounted (after_endpoint_change now who change roll.live) calls
     (legs_after_change roll.live change legs)
-counted_endpoint roll calls legs now (Renewal address deadline) counted have can =
-    counted_update roll.live calls legs counted (identifier_at roll.live address)
-    (with_deadline deadline)
-counted_endpoint roll calls legs now (Rewriting e deadline) counted have can =
+counted_endpoint roll calls legs now who (Renewal deadline) counted have can =
+    counted_update roll.live calls legs counted (unwrap_or who []) (with_deadline deadline)
+counted_endpoint roll calls legs now who (Rewriting e deadline) counted have can =
     let id = identifier_at roll.live e.call_signal in
     let written = after_rewrite e.ras e.aliases deadline in
     counted_update (update roll.live id written) calls legs
     (counted_update roll.live calls legs counted id written) id (after_hear now)
-counted_endpoint roll calls legs now (Addition r) counted have can =
+counted_endpoint roll calls legs now who (Addition r) counted have can =
     counted_insert roll.live calls legs counted r.identifier r
     (unregistered roll.live calls r.identifier have can.identifier)
-counted_endpoint roll calls legs now (Removal address) counted have can =
+counted_endpoint roll calls legs now who (Removal address) counted have can =
     counted_remove roll.live calls legs counted (identifier_at roll.live address)
 
 -- the same, whether it was made or not
 pub counted_result : {F : Type 0} (result : Result (Unit {0}) F) (old new : Roster)
-    (calls : OpenCalls) (now : ℕ) (change : EndpointChange)
+    (calls : OpenCalls) (now : ℕ) (who : Option (List ℕ)) (change : EndpointChange)
     → AreCounted old.roll.live calls old.legs → HaveEndpoints old.roll.live calls
-    → IsEndpointChange old.roll change
-    → OnOk result (new.roll.live ≡ after_endpoint_change now change old.roll.live)
+    → IsEndpointChange old.roll who change
+    → OnOk result (new.roll.live ≡ after_endpoint_change now who change old.roll.live)
     → OnOk result (new.legs ≡ legs_after_change old.roll.live change old.legs)
     → OnErr result (new ≡ old)
     → AreCounted new.roll.live calls new.legs
-counted_result (Ok done) old new calls now change counted have can live legs err =
+counted_result (Ok done) old new calls now who change counted have can live legs err =
     subst (λ (l : Live). AreCounted l calls new.legs) (sym live)
-    (subst (λ (n : LegCounts). AreCounted (after_endpoint_change now change old.roll.live) calls n)
-    (sym legs) (counted_endpoint old.roll calls old.legs now change counted have can))
-counted_result (Err fault) old new calls now change counted have can live legs err =
+    (subst (λ (n : LegCounts).
+    AreCounted (after_endpoint_change now who change old.roll.live) calls n)
+    (sym legs) (counted_endpoint old.roll calls old.legs now who change counted have can))
+counted_result (Err fault) old new calls now who change counted have can live legs err =
     subst (λ (e : Roster). AreCounted e.roll.live calls e.legs) (sym err) counted

@@ -1,8 +1,8 @@
 -- The endpoints of the calls' legs stay registered.
 use Rattle.std.proofs.Common.{◌≡◌, ◌+◌, ℕ, List, length, get_or, refl, sym, ◌∙◌, ap, subst, Some}
-use Rattle.std.proofs.Common.{None}
+use Rattle.std.proofs.Common.{None, []}
 use Rattle.std.specs.Prelude.{Option, Result, Ok, Err, OnOk, OnErr, IfSome, IsSome}
-use Rattle.std.specs.Option.{option_map}
+use Rattle.std.specs.Option.{option_map, unwrap_or}
 use Rattle.std.specs.FinMap as fin
 use Rattle.std.proofs.lemmas.Cmp.{nat_list_cmp_total}
 use Rattle.std.proofs.lemmas.List.{length-set}
@@ -100,33 +100,33 @@ pub legs-heard : (live : Live) (calls : OpenCalls) (now : ℕ) (id : List ℕ)
 legs-heard live calls now id have =
     legs_stay live (heard_now now id live) calls have (Stays-update live id (after_hear now))
 
-pub legs-endpoint : (live : Live) (calls : OpenCalls) (now : ℕ) (change : EndpointChange)
-    → HaveEndpoints live calls → IsFree live calls change
-    → HaveEndpoints (after_endpoint_change now change live) calls
-legs-endpoint live calls now (Renewal address deadline) have free =
-    let id = identifier_at live address in
+pub legs-endpoint : (live : Live) (calls : OpenCalls) (now : ℕ) (who : Option (List ℕ))
+    (change : EndpointChange) → HaveEndpoints live calls → IsFree live calls change
+    → HaveEndpoints (after_endpoint_change now who change live) calls
+legs-endpoint live calls now who (Renewal deadline) have free =
+    let id = unwrap_or who [] in
     legs_stay live (update live id (with_deadline deadline)) calls have
     (Stays-update live id (with_deadline deadline))
-legs-endpoint live calls now (Rewriting e deadline) have free =
+legs-endpoint live calls now who (Rewriting e deadline) have free =
     let id = identifier_at live e.call_signal in
     legs-heard (update live id (after_rewrite e.ras e.aliases deadline)) calls now id
     (legs_stay live (update live id (after_rewrite e.ras e.aliases deadline)) calls have
     (Stays-update live id (after_rewrite e.ras e.aliases deadline)))
-legs-endpoint live calls now (Addition r) have free =
+legs-endpoint live calls now who (Addition r) have free =
     legs_stay live (fin.insert live r.identifier r) calls have (Stays-insert live r.identifier r)
-legs-endpoint live calls now (Removal address) have free =
+legs-endpoint live calls now who (Removal address) have free =
     legs_without live calls (identifier_at live address) have free
 
 -- what a change of the endpoints leaves, whether it was made or not
 pub legs-endpoint_result : {F : Type 0} (result : Result (Unit {0}) F) (old new : Roster)
-    (calls : OpenCalls) (now : ℕ) (change : EndpointChange) → HaveEndpoints old.roll.live calls
-    → IsFree old.roll.live calls change
-    → OnOk result (new.roll.live ≡ after_endpoint_change now change old.roll.live)
+    (calls : OpenCalls) (now : ℕ) (who : Option (List ℕ)) (change : EndpointChange)
+    → HaveEndpoints old.roll.live calls → IsFree old.roll.live calls change
+    → OnOk result (new.roll.live ≡ after_endpoint_change now who change old.roll.live)
     → OnErr result (new ≡ old) → HaveEndpoints new.roll.live calls
-legs-endpoint_result (Ok done) old new calls now change have free ok err =
+legs-endpoint_result (Ok done) old new calls now who change have free ok err =
     subst (λ live. HaveEndpoints live calls) (sym ok)
-    (legs-endpoint old.roll.live calls now change have free)
-legs-endpoint_result (Err fault) old new calls now change have free ok err =
+    (legs-endpoint old.roll.live calls now who change have free)
+legs-endpoint_result (Err fault) old new calls now who change have free ok err =
     subst (λ (e : Roster). HaveEndpoints e.roll.live calls) (sym err) have
 
 pub legs-calls : (live : Live) (u : Usage) (id : List ℕ) (change : CallChange)

@@ -1,7 +1,7 @@
 -- What a request may change in the tables of a zone, and when that change can be made.
 use Rattle.std.specs.Prelude.{◌≡◌, ◌≢◌, ◌+◌, ◌<◌, ℕ, List, [], length, Option, None, Some, IsSome}
 use Rattle.std.specs.Prelude.{IfSome, Bool, true, false}
-use Rattle.std.specs.Option.{unwrap_or}
+use Rattle.std.specs.Option.{IsSomeAnd, unwrap_or}
 use Rattle.std.specs.FinMap.{get, insert, remove, len}
 use Rattle.keyed.specs.Maps.{update}
 use Rattle.ras_module.specs.declared.address.Address.{Address}
@@ -28,15 +28,16 @@ use Rattle.zone_tables.specs.Tables.{Tables, heard_now, identifier_at, with_live
 use Rattle.zone_tables.specs.Parts.{Roll, Usage, usage_of}
 use Rattle.zone_tables.specs.Pools.{pools_after_return, pools_after_end}
 
--- the endpoint at an address is granted a new time to live, registers anew, is a new one, or goes
-abbrev pub after_endpoint_change : ℕ → EndpointChange → Live → Live
-after_endpoint_change now (Renewal address deadline) live =
-    update live (identifier_at live address) (with_deadline deadline)
-after_endpoint_change now (Rewriting e deadline) live =
+-- the endpoint that asks is granted a new time to live, the one at an address registers anew, a new
+-- one comes, or the one at an address goes
+abbrev pub after_endpoint_change : ℕ → Option (List ℕ) → EndpointChange → Live → Live
+after_endpoint_change now who (Renewal deadline) live =
+    update live (unwrap_or who []) (with_deadline deadline)
+after_endpoint_change now who (Rewriting e deadline) live =
     heard_now now (identifier_at live e.call_signal) (update live (identifier_at live e.call_signal)
     (after_rewrite e.ras e.aliases deadline))
-after_endpoint_change now (Addition r) live = insert live r.identifier r
-after_endpoint_change now (Removal address) live = remove live (identifier_at live address)
+after_endpoint_change now who (Addition r) live = insert live r.identifier r
+after_endpoint_change now who (Removal address) live = remove live (identifier_at live address)
 
 -- the leg of the endpoint for which a call is changed, which is told this address
 abbrev pub leg_with : List ℕ → Address → Leg
@@ -62,7 +63,8 @@ pools_after id (Leaving key) calls pools =
 -- the tables after what a request changes: who asks is the endpoint that it names
 abbrev pub after_change : ℕ → Option (List ℕ) → Change → Tables → Tables
 after_change now who Nothing z = z
-after_change now who (Endpoint change) z = with_live z (after_endpoint_change now change z.live)
+after_change now who (Endpoint change) z =
+    with_live z (after_endpoint_change now who change z.live)
 after_change now who (Calls change) z = record z {
   calls = calls_after (unwrap_or who []) change z.calls;
   pools = pools_after (unwrap_or who []) change z.calls z.pools;
@@ -96,12 +98,12 @@ pub record IsRewritable (roll : Roll) (id : List ℕ) (e : Entry) : Type 0 where
   pub identifier : old.identifier ≡ id
   pub aliases : registered_elsewhere roll.live e.call_signal e.aliases ≡ []
 
-abbrev pub IsEndpointChange : Roll → EndpointChange → Type 0
-IsEndpointChange roll (Renewal address deadline) = IsSome (at_address roll.live address)
-IsEndpointChange roll (Rewriting e deadline) =
+abbrev pub IsEndpointChange : Roll → Option (List ℕ) → EndpointChange → Type 0
+IsEndpointChange roll who (Renewal deadline) = IsSomeAnd who (λ id. IsSome (get roll.live id))
+IsEndpointChange roll who (Rewriting e deadline) =
     IsRewritable roll (identifier_at roll.live e.call_signal) e
-IsEndpointChange roll (Addition r) = IsAddable roll r
-IsEndpointChange roll (Removal address) = IsSome (at_address roll.live address)
+IsEndpointChange roll who (Addition r) = IsAddable roll r
+IsEndpointChange roll who (Removal address) = IsSome (at_address roll.live address)
 
 -- a call may be opened: there is none under its key, and there are a place and a pool for it
 pub record IsOpenable (u : Usage) (key : CallKey) (pool : ℕ) : Type 0 where
@@ -141,7 +143,7 @@ IsRegistered live leg = IsSome (get live leg.endpoint)
 
 -- an endpoint that is removed takes part in no call
 abbrev pub IsFree : Live → OpenCalls → EndpointChange → Type 0
-IsFree live calls (Renewal address deadline) = Unit {0}
+IsFree live calls (Renewal deadline) = Unit {0}
 IsFree live calls (Rewriting e deadline) = Unit {0}
 IsFree live calls (Addition r) = Unit {0}
 IsFree live calls (Removal address) = legs_of calls (identifier_at live address) ≡ 0
@@ -158,7 +160,7 @@ IsPossibleFor z id change =
 abbrev pub IsPossible : Tables → Option (List ℕ) → Change → Type 0
 IsPossible z who Nothing = Unit {0}
 IsPossible z who (Endpoint change) =
-    IsEndpointChange (roll_of z) change × IsFree z.live z.calls change
+    IsEndpointChange (roll_of z) who change × IsFree z.live z.calls change
 IsPossible z who (Calls change) = IsSome who × IsPossibleFor z (unwrap_or who []) change
 
 -- only a call that opens may need memory among the calls

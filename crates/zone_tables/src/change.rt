@@ -8,12 +8,12 @@ use crate::entry::Entry;
 use ras_module::{Address, Boxed, CallKey};
 use registrations::Registration;
 
-/// What a request changes among the endpoints. Which endpoint it is, its call signal address tells:
-/// no two share one, and an identifier would need memory of its own. Moments are in milliseconds.
+/// What a request changes among the endpoints. An endpoint that the request doesn't name is told by
+/// its call signal address, as no two share one. Moments are in milliseconds.
 #[derive(Drop)]
 pub enum EndpointChange {
-    /// The time to live of the endpoint at this address ends at this moment.
-    Renewal(Address, u64),
+    /// The time to live of the endpoint that the request names ends at this moment.
+    Renewal(u64),
     /// The endpoint at the entry's call signal address registers the entry, until this moment.
     Rewriting(Entry, u64),
     /// An endpoint registers for the first time.

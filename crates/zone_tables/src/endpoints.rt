@@ -157,9 +157,7 @@ impl Endpoints {
         ensures times { self.new.times ≡ self.old.times }
         ensures sound { IsSoundRoll self.new.roll }
     {
-        if self.registrations.get(id).is_some() {
-            self.registrations.hear(id, now.milliseconds());
-        }
+        self.registrations.hear(id, now.milliseconds());
     }
 
     /// Notes that an endpoint is asked for a sign of life now.
@@ -196,12 +194,17 @@ impl Endpoints {
         self.registrations.by_address(address).unwrap().identifier
     }
 
-    /// Makes a change. Memory is asked for only if an endpoint registers in full, and before
-    /// anything changes.
-    pub fn apply(&mut self, now: Moment, change: EndpointChange) -> Result<(), AllocError>
-        requires { IsEndpointChange self.old.roll change }
+    /// Makes a change of a request that names this endpoint, if it names one. Memory is asked for
+    /// only if an endpoint registers in full, and before anything changes.
+    pub fn apply(
+        &mut self,
+        now: Moment,
+        who: Option<&EndpointId>,
+        change: EndpointChange,
+    ) -> Result<(), AllocError>
+        requires { IsEndpointChange self.old.roll (option_copied who) change }
         ensures live { OnOk result (self.new.roll.live
-            ≡ after_endpoint_change now change self.old.roll.live) }
+            ≡ after_endpoint_change now (option_copied who.entry) change self.old.roll.live) }
         ensures most { self.new.roll.most ≡ self.old.roll.most }
         ensures legs { OnOk result
             (self.new.legs ≡ legs_after_change self.old.roll.live change self.old.legs) }
@@ -211,10 +214,7 @@ impl Endpoints {
         ensures memory { OnErr result (RegistersInFull change) }
     {
         match change {
-            EndpointChange::Renewal(address, deadline) => {
-                let id = self.identifier_at(address);
-                self.renew(&id, deadline);
-            }
+            EndpointChange::Renewal(deadline) => self.renew(who.unwrap(), deadline),
             EndpointChange::Rewriting(entry, deadline) => {
                 let id = self.identifier_at(entry.call_signal);
                 self.rewrite(now, &id, entry, deadline)?;

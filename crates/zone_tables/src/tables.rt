@@ -209,21 +209,27 @@ impl ZoneTables {
         let _ = &self.config;
         match change {
             Change::Nothing => Ok(()),
-            Change::Endpoint(change) => self.change_endpoints(now, change),
+            Change::Endpoint(change) => self.change_endpoints(now, who, change),
             Change::Calls(change) => self.change_calls(who.unwrap(), change),
         }
     }
 
-    fn change_endpoints(&mut self, now: Moment, change: EndpointChange) -> Result<(), AllocError>
-        requires { IsPossible self.old None (Change.Endpoint change) }
+    fn change_endpoints(
+        &mut self,
+        now: Moment,
+        who: Option<&EndpointId>,
+        change: EndpointChange,
+    ) -> Result<(), AllocError>
+        requires { IsPossible self.old (option_copied who) (Change.Endpoint change) }
         ensures ok { OnOk result
-            (self.new ≡ after_change now None (Change.Endpoint change) self.old) }
+            (self.new ≡ after_change now (option_copied who.entry) (Change.Endpoint change)
+            self.old) }
         ensures sound { SoundTables self.new }
         ensures err { OnErr result (self.new ≡ self.old) }
         ensures memory { OnErr result (RegistersInFull change) }
     {
         let _ = &self.config;
-        self.endpoints.apply(now, change)?;
+        self.endpoints.apply(now, who, change)?;
         Ok(())
     }
 

@@ -59,7 +59,7 @@ IsMove live legs id Stays = Unit {0}
 
 -- the numbers of legs after a change of the registrations
 abbrev pub legs_after_change : Live → EndpointChange → LegCounts → LegCounts
-legs_after_change live (Renewal address deadline) legs = legs
+legs_after_change live (Renewal deadline) legs = legs
 legs_after_change live (Rewriting e deadline) legs = legs
 legs_after_change live (Addition r) legs = insert legs r.identifier 0
 legs_after_change live (Removal address) legs = remove legs (identifier_at live address)

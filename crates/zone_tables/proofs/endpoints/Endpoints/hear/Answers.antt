@@ -2,7 +2,6 @@ use Rattle.std.proofs.Common.{refl, sym, subst}
 use Rattle.registrations.specs.Registry.{Live, after_hear}
 use Rattle.registrations.specs.Agreement.{Agree}
 use Rattle.registrations.proofs.Agreement.{Agree-update}
-use Rattle.zone_tables.specs.Parts.{IsSoundRoll, Roster}
 use Rattle.zone_tables.proofs.Agreeing.{IsSoundRoll-stored}
 use Rattle.zone_tables.proofs.endpoints.Endpoints.hear.Goals as goal
 
@@ -16,10 +15,5 @@ invariant_of-self c =
       sound = c.hear.ensures.sound;
     }
 
-pub returns-then-is_some-clause-sound : goal.returns-then-is_some-clause-sound
-returns-then-is_some-clause-sound c = IsSoundRoll-stored _ _ (invariant_of-self c)
-
-pub returns-else-is_some-clause-sound : goal.returns-else-is_some-clause-sound
-returns-else-is_some-clause-sound c =
-    subst (λ (e : Roster). IsSoundRoll e.roll) c.self.view_is (IsSoundRoll-stored _ _
-    c.self.invariant)
+pub returns-clause-sound : goal.returns-clause-sound
+returns-clause-sound c = IsSoundRoll-stored _ _ (invariant_of-self c)

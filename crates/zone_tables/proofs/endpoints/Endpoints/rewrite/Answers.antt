@@ -11,7 +11,7 @@ use Rattle.zone_tables.specs.Tables.{heard_now}
 use Rattle.zone_tables.specs.Parts.{Roster}
 use Rattle.zone_tables.proofs.Agreeing.{free_to_rewrite, is_live}
 use Rattle.zone_tables.proofs.Answered.{is_there}
-use Rattle.zone_tables.proofs.Agreeing.{is_there_after, Agree-rewriting}
+use Rattle.zone_tables.proofs.Agreeing.{Agree-rewriting}
 use Rattle.zone_tables.proofs.endpoints.Endpoints.rewrite.Goals as goal
 
 pub set_all-requires-clause-free : goal.set_all-requires-clause-free
@@ -42,22 +42,6 @@ rewrite-requires c =
     is_there (fin.get c.self.inside.registrations.live id) c.requires.old
     (ap (λ (t : Roster). fin.get t.roll.live id) c.self.view_is
     ∙ is_live c.args.self.now.roll held agree sound id c.args.entry c.requires)
-
-pub hear-requires : goal.hear-requires
-hear-requires c =
-    let held = c.self.inside.aliases.held in
-    let agree = subst (λ (t : Roster). Agree t.roll.live held) c.self.view_is
-    c.self.invariant.agree in
-    let sound =
-    subst (λ (t : Roster). IsConsistent t.roll.live) c.self.view_is
-    c.self.invariant.sound.consistent in
-    let id = c.args.endpoint.now in
-    let e = c.args.entry in
-    subst (λ (l : Live). IsSome (fin.get l id)) (sym c.rewrite.ensures.rows)
-    (is_there_after c.self.inside.registrations.live id
-    (after_rewrite e.ras e.aliases c.args.deadline) c.requires.old
-    (ap (λ (t : Roster). fin.get t.roll.live id) c.self.view_is
-    ∙ is_live c.args.self.now.roll held agree sound id e c.requires))
 
 pub invariant_of-self-2 : goal.invariant_of-self-2
 invariant_of-self-2 c =

@@ -1,4 +1,5 @@
-use Rattle.std.proofs.Common.{◌∙◌, refl, subst, sym, None}
+use Rattle.std.proofs.Common.{◌∙◌, refl, subst, sym}
+use Rattle.std.specs.Option.{option_copied}
 use Rattle.zone_tables.specs.Parts.{AreSoundParts, IsSoundRoll, Roll, Roster}
 use Rattle.zone_tables.specs.Tables.{Tables}
 use Rattle.zone_tables.specs.Changes.{IsEndpointChange, IsPossible}
@@ -21,9 +22,10 @@ invariant_of-self-2 c =
     let parts = c.self.invariant.parts in
     let u = i.bandwidth.usage in
     let change = c.args.change in
-    let here = subst (λ (m : Tables). IsPossible m None (Endpoint change)) (sym c.self.view_is)
+    let who = option_copied c.args.who in
+    let here = subst (λ (m : Tables). IsPossible m who (Endpoint change)) (sym c.self.view_is)
     c.requires in
-    let can = subst (λ (r : Roll). IsEndpointChange r change)
+    let can = subst (λ (r : Roll). IsEndpointChange r who change)
     (roll_is i.config i.endpoints.roll u parts) here.0 in
     record {
       settings = c.self.invariant.settings;
@@ -33,9 +35,9 @@ invariant_of-self-2 c =
       parts = AreParts-live i.config i.endpoints.roll c.apply.new.self.roll u parts
           c.apply.ensures.most _ refl
           (legs-endpoint_result c.apply.result i.endpoints c.apply.new.self u.calls c.args.now
-          change parts.legs here.1 c.apply.ensures.live c.apply.ensures.err);
+          who change parts.legs here.1 c.apply.ensures.live c.apply.ensures.err);
       counted = counted_result c.apply.result i.endpoints c.apply.new.self u.calls c.args.now
-          change c.self.invariant.counted parts.legs can c.apply.ensures.live
+          who change c.self.invariant.counted parts.legs can c.apply.ensures.live
           c.apply.ensures.legs c.apply.ensures.err;
       times = c.apply.ensures.times ∙ c.self.invariant.times;
     }
