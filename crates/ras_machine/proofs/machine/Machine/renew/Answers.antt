@@ -10,8 +10,8 @@ pub complete-requires-clause-possible : goal.complete-requires-clause-possible
 complete-requires-clause-possible c =
     let z = c.args.self.now.tables in
     let names = sym c.endpoint_of.ensures ∙ ap option_copied c.unwrap-endpoint.ensures in
-    possible_renewal z c.requires.sound.tables.endpoints (endpoint_of c.args.request.now)
-    c.unwrap-endpoint.result.now c.args.time c.in_ok-change.change c.in_ok-change.written
+    possible_renewal z (endpoint_of c.args.request.now) c.unwrap-endpoint.result.now names
+    c.args.time c.in_ok-change.change c.in_ok-change.written
     c.in_ok-change.ensures.renewal
     (subst (λ (who : Option (List ℕ)). IsSome (get z.live (unwrap_or who []))) names
     c.requires.registered)
