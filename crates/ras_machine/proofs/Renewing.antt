@@ -20,9 +20,11 @@ module _ (z : Tables) (who : Option (List ℕ)) (id : List ℕ) (names : who ≡
   found : (w : Option Registration) → get z.live id ≡ w → IsSome w → IsPossible z who change
   found None there some = absurd (cc some)
   found (Some r) there some =
-      subst (IsPossible z who) (sym (ap (λ (d : Settlement). d.change) (is r there)))
-      (subst (λ w. IsSomeAnd w (λ i. IsSome (get z.live i))) (sym names)
-      (is_there (get z.live id) r there), tt)
+      subst (IsPossible z who) (sym (ap (λ (d : Settlement). d.change) (is r there))) (
+        subst (λ w. IsSomeAnd w (λ i. IsSome (get z.live i))) (sym names)
+            (is_there (get z.live id) r there),
+        tt,
+      )
 
   pub possible_renewal : IsSome (get z.live id) → IsPossible z who change
   possible_renewal = found (get z.live id) refl

@@ -26,6 +26,7 @@ mod datagram_in;
 mod job;
 mod kept_entry;
 mod machine;
+mod noted;
 mod prepared;
 mod readiness;
 mod replacing;

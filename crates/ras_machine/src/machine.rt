@@ -10,6 +10,7 @@ ghost use Rattle.ras_machine.specs.Steps.{IsAskedOnce, IsUnusedIn, ask_in};
 ghost use Rattle.ras_machine.specs.Soundness.{AreBornBefore, Sound};
 
 use crate::course::{Course, Task};
+use crate::noted::{idle, ignored, repeated};
 use kept_replies::Kept;
 use ras_module::{EndpointId, RequestSeqNum};
 use ras_requests::Plan;
@@ -224,9 +225,9 @@ impl Machine {
     {
         let steps = self.steps + 1;
         match course {
-            Course::Ignoring(cause) => outcome.be_noted(Note::Ignored(cause), None),
+            Course::Ignoring(cause) => ignored(cause, outcome),
             Course::Hearing(response) => self.hear_response(now, &response.get().endpoint, outcome),
-            Course::Repeating(output) => outcome.be_noted(Note::Kept, Some(output)),
+            Course::Repeating(output) => repeated(output, outcome),
             Course::Serving(task) => {
                 let Task { job, request, plan } = task;
                 match plan {
@@ -253,7 +254,7 @@ impl Machine {
                 }
             }
             Course::Doing(item) => self.do_item(now, &item, outcome)?,
-            Course::Idle => outcome.be_noted(Note::Idle, None),
+            Course::Idle => idle(outcome),
         }
         self.clock = now;
         self.steps = steps;
