@@ -85,7 +85,7 @@ place_left old items begun used space view small =
     omega (arith, place_shown old items begun used space view small)
 
 -- the lowest bits, masked
-masked_part : (n count : ℕ) → count ≤ 8
+pub masked_part : (n count : ℕ) → count ≤ 8
     → binary count (bit_and n (1 * 2 ^ count % 2 ^ 32 - 1)) ≡ binary count n
 masked_part n count within =
     ap (λ (m : ℕ). binary count m) (masked n count within)
