@@ -15,9 +15,10 @@ use Rattle.per_bits.specs.Readings.{bit_reading, number_reading}
 use Rattle.per_bits.specs.declared.fault.ReadFault.{ReadFault}
 use Rattle.per_bits.specs.declared.fault.ReadFault.TheVariants.{Truncated}
 use Rattle.per_bits.proofs.Binary.{length-binary, number-binary, binary_split, masked}
+use Rattle.per_bits.proofs.Binary.{number-octet}
 use Rattle.per_bits.proofs.Results.{err_is, guard_ok, guard_err}
 use Rattle.per_bits.proofs.Numbers.{ReadSoFar, number_lt, number-append}
-use Rattle.per_bits.proofs.Octets.{length-bits_of, octet_done}
+use Rattle.per_bits.proofs.Octets.{length-bits_of, length-octet, octet_done}
 
 -- a part of an octet: what stands after its first bits and before its last
 octet_part : (x used count left : ℕ) (others : List Bool) → used + count + left ≡ 8
@@ -207,3 +208,44 @@ bit_short (b ∷ bits) fault e =
     let short = guard_err (nat_lt (length (b ∷ bits)) 1) Truncated
     (number (take 1 (b ∷ bits)), drop 1 (b ∷ bits)) fault e in
     absurd (omega (arith, ltb-true (length (b ∷ bits)) 1 short.0))
+
+-- ---- two octets where an octet begins
+
+pub two_read : (bits : List Bool) (octets behind rest : List ℕ) (x y used : ℕ)
+    → drop used (bits_of octets) ≡ bits → used ≡ 0 → octets ≡ x ∷ behind → behind ≡ y ∷ rest
+    → x < 256 → y < 256
+    → number_reading 16 bits ≡ Ok (x * 2 ^ 8 % 2 ^ 32 + y, drop used (bits_of rest))
+unfolding number_reading
+two_read bits octets behind rest x y used view none first second small small2 =
+    let two = octet x ++ octet y in
+    let here : bits ≡ two ++ bits_of rest =
+    sym view ∙ ap (λ (k : ℕ). drop k (bits_of octets)) none ∙ ap bits_of first
+    ∙ ap (λ (t : List ℕ). octet x ++ bits_of t) second
+    ∙ sym (append_assoc (octet x) (octet y) (bits_of rest)) in
+    let len : length two ≡ 16 =
+    omega (arith, length-append (octet x) (octet y), length-octet x, length-octet y) in
+    let long : nat_lt (length bits) 16 ≡ false =
+    le-ltb _ _ (omega (arith, ap length here, length-append two (bits_of rest))) in
+    let value : number two ≡ x * 2 ^ 8 % 2 ^ 32 + y =
+    number-append (octet x) (octet y)
+    ∙ ap (λ (k : ℕ). number (octet x) * 2 ^ k + number (octet y)) (length-octet y)
+    ∙ omega (arith, number-octet x small, number-octet y small2) in
+    rw (
+      long,
+      here,
+      take_at two (bits_of rest) 16 len,
+      drop_at two (bits_of rest) 16 len,
+      value,
+      none,
+    ) refl
+
+pub two_short : (bits : List Bool) (octets : List ℕ) (used : ℕ)
+    → drop used (bits_of octets) ≡ bits → length octets < 2
+    → number_reading 16 bits ≡ Err Truncated
+unfolding number_reading
+two_short bits octets used view few =
+    let len : length bits ≡ 8 * length octets - used =
+    ap length (sym view) ∙ length-drop used (bits_of octets)
+    ∙ ap (λ (n : ℕ). n - used) (length-bits_of octets) in
+    let short : nat_lt (length bits) 16 ≡ true = lt-ltb _ _ (omega arith) in
+    rw short refl

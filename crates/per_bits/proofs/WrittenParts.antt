@@ -1,6 +1,6 @@
 -- What a writer shows after a part of a number.
 use Rattle.std.proofs.Common.{◌≡◌, ℕ, ◌+◌, ◌-◌, ◌*◌, ◌/◌, ◌%◌, ◌^◌, ◌<◌, ◌≤◌}
-use Rattle.std.proofs.Common.{List, [], ◌∷◌, ◌++◌, Bool, sym, ap, subst, ◌∙◌}
+use Rattle.std.proofs.Common.{List, [], ◌∷◌, ◌++◌, Bool, false, sym, ap, subst, ◌∙◌}
 use Rattle.std.proofs.Common.{arith, append_assoc, bit_and}
 use Rattle.std.proofs.lemmas.List.{append-nil}
 use Rattle.std.proofs.lemmas.Nat.{shl_whole, shr_high, shr_split, pow-add, mul-add-lt}
@@ -8,8 +8,9 @@ use Rattle.std.proofs.Math.Nat.{pow-le-pow_right, mul_comm}
 use Rattle.per_bits.specs.Bits.{binary, octet, bits_of}
 use Rattle.per_bits.specs.Canonical.{Written, after, place_in}
 use Rattle.per_bits.proofs.Binary.{length-binary, binary_low}
-use Rattle.per_bits.proofs.Binary.{binary_split, masked}
+use Rattle.per_bits.proofs.Binary.{binary_split, binary_high, masked}
 use Rattle.per_bits.proofs.Writing.{shown, same, bits_of-push, place_shown, WrittenSoFar}
+use Rattle.per_bits.proofs.Writing.{after-after}
 
 -- bits after those that the octet has
 part_push : (used count begun n : ℕ) → n < 2 ^ count
@@ -84,7 +85,7 @@ place_left old items begun used space view small =
     omega (arith, place_shown old items begun used space view small)
 
 -- the lowest bits, masked
-masked_part : (n count : ℕ) → count ≤ 8
+pub masked_part : (n count : ℕ) → count ≤ 8
     → binary count (bit_and n (1 * 2 ^ count % 2 ^ 32 - 1)) ≡ binary count n
 masked_part n count within =
     ap (λ (m : ℕ). binary count m) (masked n count within)
@@ -118,3 +119,28 @@ write_part old new next whole left taken n so_far within some small is enough =
 pub room_shown : (old : Written) (items : List ℕ) (begun used space : ℕ)
     → shown items begun used space ≡ old → 8 * space - used ≡ old.room
 room_shown old items begun used space view = ap (λ (w : Written). w.room) view
+
+-- the octet at hand, whole
+pub octet_more : (old : Written) (items items2 : List ℕ) (begun used space space2 n : ℕ)
+    → shown items begun used space ≡ old → used ≡ 0 → items2 ≡ items ++ bit_and n 255 ∷ []
+    → space2 + 1 ≡ space → shown items2 begun used space2 ≡ after old (binary 8 n)
+unfolding octet
+octet_more old items items2 begun used space space2 n view none push room =
+    let bits : bits_of items2 ++ [] ≡ (bits_of items ++ []) ++ binary 8 n =
+    append-nil (bits_of items2) ∙ ap (λ (ys : List ℕ). bits_of ys) push
+    ∙ bits_of-push items (bit_and n 255)
+    ∙ ap (λ (t : List Bool). bits_of items ++ t) (masked_part n 8 (omega arith))
+    ∙ ap (λ (t : List Bool). t ++ binary 8 n) (sym (append-nil (bits_of items))) in
+    rw (← view, none) (same _ _ _ _ bits (omega (arith, length-binary 8 n)))
+
+-- two octets are a number in sixteen bits
+pub octets-two : (old : Written) (n : ℕ)
+    → after (after old (binary 8 (n / 2 ^ 8))) (binary 8 n) ≡ after old (binary 16 n)
+octets-two old n = after-after old (binary 8 (n / 2 ^ 8)) (binary 8 n)
+    ∙ ap (λ (t : List Bool). after old t) (sym (binary_split 8 8 n))
+
+-- a first bit 0
+pub octet-short : (n : ℕ) → n < 128 → binary 8 n ≡ false ∷ binary 7 n
+octet-short n small =
+    let is : n ≡ 0 * 2 ^ 7 + n = omega arith in
+    ap (λ (m : ℕ). binary 8 m) is ∙ binary_high 0 7 n small

@@ -1,12 +1,15 @@
 //! Aliases of endpoints.
 
+ghost use Rattle.std.specs.Prelude.{◌≡◌, ◌≤◌};
 ghost use Rattle.std.proofs.Common.{ap};
 ghost use Rattle.std.specs.Cmp.{decided, partial_equiv_from_equiv};
-ghost use Rattle.ras_module.specs.Aliases.{same_alias, fed_alias};
+ghost use Rattle.ras_module.specs.Aliases.{same_alias, fed_alias, characters_of};
+ghost use Rattle.ras_module.specs.Rooms.{text_room};
 ghost use Rattle.ras_module.specs.Same.{alias_decides};
 
 use crate::bmp_string::H323Id;
 use crate::dialled_digits::DialledDigits;
+use crate::texts::text_room;
 use std::hash::{Hash, Hasher};
 
 /// A name by which an endpoint may be called: the two kinds of AliasAddress (H.225.0) that are
@@ -15,6 +18,19 @@ use std::hash::{Hash, Hasher};
 pub enum Alias {
     Digits(DialledDigits),
     H323Id(H323Id),
+}
+
+impl Alias {
+    /// Octets that are enough for it in a reply: at most 524.
+    pub fn room(&self) -> usize
+        ensures room { result ≡ text_room (characters_of self.now) }
+        ensures most { result ≤ 524 }
+    {
+        match self {
+            Alias::Digits(digits) => text_room(digits.as_slice()),
+            Alias::H323Id(id) => text_room(id.as_slice()),
+        }
+    }
 }
 
 impl PartialEq for Alias {

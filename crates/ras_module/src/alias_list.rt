@@ -1,9 +1,10 @@
 //! Lists of aliases.
 
 ghost use Rattle.std.specs.Prelude.{◌≡◌, ◌↔◌, ◌++◌, ◌∷◌, ◌≤◌, [], length, IfOk};
-ghost use Rattle.std.specs.Prelude.{OnOk, OnErr, IsTrue, MatchOption, ◌<◌, vec_capacity};
+ghost use Rattle.std.specs.Prelude.{OnOk, OnErr, IsTrue, MatchOption, ◌<◌, ◌*◌, vec_capacity};
 ghost use Rattle.std.specs.Cmp.Lexicographic.{pointwise};
 ghost use Rattle.ras_module.specs.Aliases.{same_alias, has_alias, without_doubles};
+ghost use Rattle.ras_module.specs.Rooms.{aliases_room};
 ghost use Rattle.ras_module.specs.Same.{aliases_equivalence, aliases_partial_equivalence};
 
 use crate::alias::Alias;
@@ -167,6 +168,18 @@ impl ReplyAliases {
         ensures few { length self.now ≤ Self.MOST }
     {
         self.items.as_slice()
+    }
+
+    /// Octets that are enough for them in a reply: at most 524 for each.
+    pub fn room(&self) -> usize
+        ensures room { result ≡ aliases_room self.now }
+        ensures most { result ≤ 524 * Self.MOST }
+    {
+        let mut room = 0;
+        for alias in self.as_slice() {
+            room += alias.room();
+        }
+        room
     }
 
     /// The list of the aliases. This takes no memory.

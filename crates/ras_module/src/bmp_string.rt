@@ -66,6 +66,7 @@ impl<const MOST: usize> BmpString<MOST> {
 
     /// The text of the first characters of an array that has zeros after them, made in the array
     /// that keeps it.
+    #[inline(always)]
     pub fn of_padded(characters: [u16; MOST], count: usize) -> Self
         requires { IsPadded MOST characters count }
         ensures { result ≡ take count characters.entry }

@@ -26,6 +26,7 @@ impl Model for EndpointId {
 
 impl EndpointId {
     /// The identifier with these characters.
+    #[inline(always)]
     pub fn new(characters: BmpString<128>) -> Self
         ensures { result ≡ characters }
     {

@@ -15,6 +15,7 @@ mod octets;
 mod reason;
 mod reply;
 mod request;
+mod texts;
 
 pub use address::{Address, Source};
 pub use alias::Alias;
@@ -35,3 +36,4 @@ pub use request::{
     AdmissionRequest, BandwidthRequest, DisengageRequest, GatekeeperRequest, InfoRequestResponse,
     RegistrationRequest, Request, UnregistrationRequest,
 };
+pub use texts::text_room;

@@ -2,6 +2,7 @@
 
 ghost use Rattle.std.specs.Prelude.{◌≡◌, ◌≤◌, IfOk};
 ghost use Rattle.ras_module.specs.Rooms.{room_of};
+ghost use Rattle.ras_module.specs.declared.reply.Reply.TheVariants as reply;
 
 use crate::address::Address;
 use crate::alias_list::ReplyAliases;
@@ -13,6 +14,7 @@ use crate::reason::{
     AdmissionRejectReason, BandRejectReason, DisengageRejectReason, GatekeeperRejectReason,
     RegistrationRejectReason, UnregRejectReason,
 };
+use crate::texts::text_room;
 use std::alloc::AllocError;
 
 /// A message of the gatekeeper, with what differs from one such message to the next. `seq` is the
@@ -105,6 +107,15 @@ pub struct RegistrationConfirm {
 }
 
 impl RegistrationConfirm {
+    /// Octets that are enough for its encoding: at most `Reply::MOST`.
+    pub fn room(&self) -> usize
+        ensures room { result ≡ room_of (reply.Rcf self.now) }
+        ensures most { result ≤ Reply.MOST }
+    {
+        let names = text_room(self.gatekeeper.as_slice()) + text_room(self.endpoint.as_slice());
+        Reply::SHORT + names + self.aliases.room()
+    }
+
     /// An equal confirm.
     pub fn copy(&self) -> Result<RegistrationConfirm, AllocError>
         ensures { IfOk result (λ copy. copy ≡ self.now) }
@@ -133,12 +144,12 @@ impl Reply {
         ensures most { result ≤ Self.MOST }
     {
         match self {
-            Reply::Gcf(_) => 320,
-            Reply::Rcf(confirm) => 640 + 516 * confirm.get().aliases.as_slice().len(),
+            Reply::Gcf(confirm) => Self::SHORT + text_room(confirm.get().gatekeeper.as_slice()),
+            Reply::Rcf(confirm) => confirm.get().room(),
             Reply::Rrj {
                 reason: RegistrationRejectReason::DuplicateAlias(held),
                 ..
-            } => Self::SHORT + 516 * held.as_slice().len(),
+            } => Self::SHORT + held.room(),
             _ => Self::SHORT,
         }
     }

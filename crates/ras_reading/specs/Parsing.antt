@@ -17,3 +17,8 @@ abbrev pub ParsesUnlessMemory : {A : Type 0} → (List Bool → Result (A × Lis
     → Result A ReadFault → List Bool → Type 0
 ParsesUnlessMemory reading old (Ok x) new = reading old ≡ Ok (x, new)
 ParsesUnlessMemory reading old (Err fault) new = (fault ≡ Memory) ⊎ (reading old ≡ Err fault)
+
+-- What was read into a place is what the place has.
+abbrev pub placed : {A : Type 0} → A → Result (Unit {0}) ReadFault → Result A ReadFault
+placed x (Ok done) = Ok x
+placed x (Err fault) = Err fault

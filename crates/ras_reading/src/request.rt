@@ -1,8 +1,9 @@
 //! The requests of endpoints (H.225.0).
 
+ghost use Rattle.std.specs.Prelude.{◌≡◌, None};
 ghost use Rattle.ras_grammar.specs.Grammar.{boolean};
 ghost use Rattle.ras_grammar.specs.Sequences.{addition, identifier, time_to_live};
-ghost use Rattle.ras_reading.specs.Parsing.{Parses, ParsesUnlessMemory};
+ghost use Rattle.ras_reading.specs.Parsing.{Parses, ParsesUnlessMemory, placed};
 ghost use Rattle.ras_reading.specs.Requests.{gatekeeper_request, registration_additions};
 ghost use Rattle.ras_reading.specs.Requests.{registration_request, unregistration_request};
 ghost use Rattle.ras_reading.specs.Requests.{admission_preamble, admission_request};
@@ -46,7 +47,8 @@ pub fn gatekeeper_request(
     skip_non_standard_data(decoder, has_non_standard_data)?;
     let _ras = transport_address(decoder)?;
     endpoint_type(decoder)?;
-    let gatekeeper = optional_identifier(decoder, has_gatekeeper)?;
+    let mut gatekeeper = None;
+    optional_identifier(decoder, has_gatekeeper, &mut gatekeeper)?;
     Ok(Boxed::new(alloc, GatekeeperRequest { seq, gatekeeper })?)
 }
 
@@ -89,42 +91,44 @@ fn boolean_at(
     Ok(Some(bit))
 }
 
+/// An endpointIdentifier among the additions, read into its place, where there is none yet.
 fn endpoint_at(
     decoder: &mut Decoder<'_>,
     present: &PresentAdditions,
     index: usize,
-) -> Result<Option<EndpointId>, ReadFault>
-    ensures { Parses (addition present.now index identifier).reading decoder.old result
-        decoder.new }
+    place: &mut Option<EndpointId>,
+) -> Result<(), ReadFault>
+    requires { place.old ≡ None }
+    ensures { Parses (addition present.now index identifier).reading decoder.old
+        (placed place.new result) decoder.new }
 {
-    if !present.is_present(index) {
-        return Ok(None);
+    if present.is_present(index) {
+        let octets = decoder.open_type()?;
+        *place = Some(endpoint_identifier(&mut Decoder::new(octets))?);
     }
-    let octets = decoder.open_type()?;
-    let endpoint = endpoint_identifier(&mut Decoder::new(octets))?;
-    Ok(Some(endpoint))
+    Ok(())
 }
 
+/// The additions of a RegistrationRequest, read into their place, where no identifier is yet.
 #[tactic(auto, unfolding(crate::specs::Requests::registration_additions))]
 fn registration_additions(
     decoder: &mut Decoder<'_>,
     extended: bool,
-) -> Result<RegistrationAdditions, ReadFault>
-    ensures { Parses (registration_additions extended).reading decoder.old result decoder.new }
+    more: &mut RegistrationAdditions,
+) -> Result<(), ReadFault>
+    requires { more.old.endpoint ≡ None }
+    ensures { Parses (registration_additions extended).reading decoder.old
+        (placed more.new result) decoder.new }
 {
     let present = additions(decoder, extended)?;
     skip_addition(decoder, &present, 0)?;
-    let time_to_live = time_to_live_at(decoder, &present, 1)?;
+    more.time_to_live = time_to_live_at(decoder, &present, 1)?;
     skip_addition(decoder, &present, 2)?;
     skip_addition(decoder, &present, 3)?;
     skip_addition(decoder, &present, 4)?;
     let keep_alive = boolean_at(decoder, &present, 5)?;
-    let endpoint = endpoint_at(decoder, &present, 6)?;
-    Ok(RegistrationAdditions {
-        time_to_live,
-        keep_alive: keep_alive.unwrap_or(false),
-        endpoint,
-    })
+    more.keep_alive = keep_alive.unwrap_or(false);
+    endpoint_at(decoder, &present, 6, &mut more.endpoint)
 }
 
 /// RegistrationRequest.
@@ -147,9 +151,15 @@ pub fn registration_request(
     let ras = address_list(decoder)?;
     endpoint_type(decoder)?;
     let aliases = optional_aliases(alloc, decoder, has_aliases)?;
-    let gatekeeper = optional_identifier(decoder, has_gatekeeper)?;
+    let mut gatekeeper = None;
+    optional_identifier(decoder, has_gatekeeper, &mut gatekeeper)?;
     vendor_identifier(decoder)?;
-    let more = registration_additions(decoder, extended)?;
+    let mut more = RegistrationAdditions {
+        time_to_live: None,
+        keep_alive: false,
+        endpoint: None,
+    };
+    registration_additions(decoder, extended, &mut more)?;
     Ok(Boxed::new(
         alloc,
         RegistrationRequest {
@@ -181,7 +191,8 @@ pub fn unregistration_request(
     let call_signal = address_list(decoder)?;
     skip_aliases(decoder, has_aliases)?;
     skip_non_standard_data(decoder, has_non_standard_data)?;
-    let endpoint = optional_identifier(decoder, has_endpoint)?;
+    let mut endpoint = None;
+    optional_identifier(decoder, has_endpoint, &mut endpoint)?;
     Ok(Boxed::new(
         alloc,
         UnregistrationRequest {

@@ -1,7 +1,7 @@
 //! Small types that many messages share (H.225.0).
 
-ghost use Rattle.std.specs.Prelude.{◌≡◌, ◌≤◌, ◌<◌, length, take, IfOk};
-ghost use Rattle.ras_reading.specs.Parsing.{Parses};
+ghost use Rattle.std.specs.Prelude.{◌≡◌, ◌≤◌, ◌<◌, length, take, IfOk, None};
+ghost use Rattle.ras_reading.specs.Parsing.{Parses, placed};
 ghost use Rattle.ras_grammar.specs.Grammar.{skipped, optional, each, bits, octets};
 ghost use Rattle.ras_grammar.specs.Sequences.{non_standard_parameter, non_standard_identifier};
 ghost use Rattle.ras_grammar.specs.Sequences.{h221_non_standard, octet_string, sized_octet_string};
@@ -44,6 +44,8 @@ pub fn sized_octet_string<'a>(
 }
 
 /// Characters of 16 bits, with zeros after them.
+// this and the next two are inlined, so that a text is not copied from each to the one that calls it
+#[inline(always)]
 fn characters<const MOST: usize>(
     decoder: &mut Decoder<'_>,
     count: usize,
@@ -63,6 +65,7 @@ fn characters<const MOST: usize>(
 
 /// BMPString (SIZE(1..MOST)).
 #[tactic(auto, unfolding(ras_grammar::specs::Sequences::bmp_string))]
+#[inline(always)]
 pub fn bmp_string<const MOST: usize>(
     decoder: &mut Decoder<'_>,
 ) -> Result<BmpString<MOST>, ReadFault>
@@ -77,24 +80,27 @@ pub fn bmp_string<const MOST: usize>(
 }
 
 /// EndpointIdentifier.
+#[inline(always)]
 pub fn endpoint_identifier(decoder: &mut Decoder<'_>) -> Result<EndpointId, ReadFault>
     ensures { Parses identifier.reading decoder.old result decoder.new }
 {
     Ok(EndpointId::new(bmp_string(decoder)?))
 }
 
-/// An identifier that is OPTIONAL.
+/// An identifier that is OPTIONAL, read into its place, where there is none yet.
 pub fn optional_identifier(
     decoder: &mut Decoder<'_>,
     present: bool,
-) -> Result<Option<BmpString<128>>, ReadFault>
-    ensures { Parses (optional present identifier).reading decoder.old result decoder.new }
+    place: &mut Option<BmpString<128>>,
+) -> Result<(), ReadFault>
+    requires { place.old ≡ None }
+    ensures { Parses (optional present identifier).reading decoder.old (placed place.new result)
+        decoder.new }
 {
     if present {
-        Ok(Some(bmp_string(decoder)?))
-    } else {
-        Ok(None)
+        *place = Some(bmp_string(decoder)?);
     }
+    Ok(())
 }
 
 /// An alternative that is no root alternative, whatever it is.

@@ -4,6 +4,8 @@ use Rattle.std.proofs.Common.{length, get_or, arith, refl, sym, ap, ◌∙◌, a
 use Rattle.std.proofs.Common.{length-append}
 use Rattle.std.proofs.lemmas.List.{take_at, drop_at, length-replicate}
 use Rattle.std.proofs.Common.{drop, drop-cons, add-one}
+use Rattle.ras_module.specs.Aliases.{characters_of}
+use Rattle.ras_module.specs.Rooms.{text_room, aliases_room}
 use Rattle.ras_module.specs.declared.alias.Alias.{Alias}
 use Rattle.ras_writing.specs.Replies.{alias_address, alias_addresses}
 use Rattle.per_bits.specs.Bits.{bits_of, octets_in, octet, pad_length}
@@ -99,14 +101,25 @@ appended old new components bits fit_old fit_new written finished =
     (length more + 7) / 8) fit_new all count)
     ∙ octets_in-bits_of old ((length more + 7) / 8) (more ++ pad (length more % 8)) fit_old
 
+-- the aliases that are left: one, and those after it
+aliases_left : (aliases : List Alias) (alias : Alias) (i : ℕ) → alias ≡ get_or aliases i alias
+    → i < length aliases → drop i aliases ≡ alias ∷ drop (i + 1) aliases
+aliases_left aliases alias i is lt = drop-cons aliases i alias lt
+    ∙ ap (λ (a : Alias). a ∷ drop (suc i) aliases) (sym is)
+    ∙ ap (λ (n : ℕ). alias ∷ drop n aliases) (sym (add-one i))
+
 -- aliases after others
 pub aliases_more : (aliases : List Alias) (alias : Alias) (i : ℕ) (bits more : List Bool) → alias
     ≡ get_or aliases i alias → i < length aliases
     → more ≡ behind (alias_address alias) bits → behind (alias_addresses (drop
     (i + 1) aliases)) more ≡ behind (alias_addresses (drop i aliases)) bits
 aliases_more aliases alias i bits more is lt e =
-    let parts : drop i aliases ≡ alias ∷ drop (i + 1) aliases = drop-cons aliases i alias lt ∙ ap
-    (λ (a : Alias). a ∷ drop (suc i) aliases) (sym is) ∙ ap (λ
-    (n : ℕ). alias ∷ drop n aliases) (sym (add-one i)) in
-    rw (e, parts) (sym (behind_append (alias_address alias) (alias_addresses (drop
-    (i + 1) aliases)) bits))
+    rw (e, aliases_left aliases alias i is lt) (sym (behind_append (alias_address alias)
+    (alias_addresses (drop (i + 1) aliases)) bits))
+
+-- the room of the aliases that are left
+pub room_left : (aliases : List Alias) (alias : Alias) (i : ℕ) → alias ≡ get_or aliases i alias
+    → i < length aliases
+    → aliases_room (drop i aliases)
+    ≡ text_room (characters_of alias) + aliases_room (drop (i + 1) aliases)
+room_left aliases alias i is lt = ap aliases_room (aliases_left aliases alias i is lt)

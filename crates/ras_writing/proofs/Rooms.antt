@@ -29,7 +29,8 @@ use Rattle.ras_module.specs.declared.reply.Reply.{Reply}
 use Rattle.ras_module.specs.declared.reply.Reply.TheVariants.{Gcf, Grj, Rcf, Rrj, Ucf, Urj, Acf}
 use Rattle.ras_module.specs.declared.reply.Reply.TheVariants.{Arj, Bcf, Brj, Dcf, Drj, Irq, Rip}
 use Rattle.ras_module.specs.declared.reply.TheConstants.Reply as reply_octets
-use Rattle.ras_module.specs.Rooms.{room_of}
+use Rattle.ras_module.specs.Aliases.{characters_of}
+use Rattle.ras_module.specs.Rooms.{room_of, text_room, aliases_room}
 use Rattle.ras_writing.specs.Encoding.{Encoding, in_order, padded_octets, boolean, bits, whole}
 use Rattle.ras_writing.specs.Encoding.{small}
 use Rattle.ras_writing.specs.Replies.{protocol_identifier, characters, identifier}
@@ -130,7 +131,8 @@ digits_fit [] = fits_in (omega arith) fits_none
 digits_fit (x ∷ xs) = fits_in (omega arith) (fits_one 4 (bits_short 4 (digit_code x))
     (digits_fit xs))
 
-identifier_fits : (text : List ℕ) → length text ≤ 128 → Fits 2096 (identifier text)
+identifier_fits : (text : List ℕ) → length text ≤ 128
+    → Fits (48 + 16 * length text) (identifier text)
 unfolding identifier
 identifier_fits text few =
     fits_in (omega arith) (fits_one 41 (whole_short 1 128 (length text) (omega arith)
@@ -145,7 +147,8 @@ transport_fits address h =
     (fits_one 41 (whole_short 0 65535 address.port (omega arith) (omega
     (arith, h.port))) fits_none))))
 
-alias_fits : (alias : Alias) → IsAlias alias → Fits 4128 (alias_address alias)
+alias_fits : (alias : Alias) → IsAlias alias
+    → Fits (8 * text_room (characters_of alias)) (alias_address alias)
 unfolding alias_address
 alias_fits (Digits text) h =
     fits_in (omega (arith, h.few)) (fits_one 1 (bit_short false) (fits_one 41 (whole_short 0 1 0
@@ -156,13 +159,13 @@ alias_fits (H323Id text) h =
     fits_in (omega (arith, h.few)) (fits_one 1 (bit_short false) (fits_one 1 one_bit_short
     (fits_one 15 (one_octet_short (length text)) (fits_one 7 length-pad-le (characters_fit text)))))
 
-aliases_fit : (list : List Alias) → AllByRecursion IsAlias list → Fits (4128 * length list)
+aliases_fit : (list : List Alias) → AllByRecursion IsAlias list → Fits (8 * aliases_room list)
     (alias_addresses list)
 aliases_fit [] h = fits_in (omega arith) fits_none
 aliases_fit (x ∷ xs) h = fits_in (omega arith) (fits_part (alias_fits x h.0) (aliases_fit xs h.1))
 
 alias_list_fits : (list : List Alias) → AllByRecursion IsAlias list → Fits
-    (23 + 4128 * length list) (alias_list list)
+    (23 + 8 * aliases_room list) (alias_list list)
 alias_list_fits list h = fits_one 23 (length-length_encoding-le (length list)) (aliases_fit list h)
 
 zero_fits : Fits 38 zero_octet
@@ -174,7 +177,7 @@ choice_fits last index high fits = fits_one 1 (bit_short false) (fits_one 41
     (whole_short 0 last index high fits) fits_none)
 
 reason_fits : (reason : RegistrationRejectReason) → IsReason reason → Fits
-    (65 + 4128 * held_in reason) (registration_reason reason)
+    (65 + 8 * aliases_room (held_in reason)) (registration_reason reason)
 unfolding registration_reason
 reason_fits registration.DiscoveryRequired h = fits_in (omega arith) (choice_fits 7 0
     (omega arith) (omega arith))
@@ -189,8 +192,8 @@ reason_fits registration.ResourceUnavailable h = fits_in (omega arith) (fits_one
 reason_fits registration.FullRegistrationRequired h = fits_in (omega arith) (fits_one 1
     (bit_short true) (fits_one 7 (small_short 4) zero_fits))
 
-terminal_fits : (list : List Alias) → AllByRecursion IsAlias list → Fits (23 + 4128 * length list)
-    (terminal_alias list)
+terminal_fits : (list : List Alias) → AllByRecursion IsAlias list
+    → Fits (23 + 8 * aliases_room list) (terminal_alias list)
 unfolding terminal_alias
 terminal_fits [] h = fits_in (omega arith) fits_none
 terminal_fits (x ∷ xs) h = alias_list_fits (x ∷ xs) h
@@ -280,14 +283,14 @@ registration_confirm_fits confirm h =
 
 registration_reject_fits : (seq : ℕ) (reason : RegistrationRejectReason) → seq ≤ 65535
     → IsReason reason
-    → Fits (242 + 4128 * held_in reason) (registration_reject seq reason)
+    → Fits (242 + 8 * aliases_room (held_in reason)) (registration_reject seq reason)
 unfolding registration_reject
 registration_reject_fits seq reason high h =
     fits_in (omega arith) (begun_two 5 seq false false false (omega arith) high
     (fits_part protocol_fits (reason_fits reason h)))
 
 reject_room : (seq : ℕ) (reason : RegistrationRejectReason)
-    → 242 + 4128 * held_in reason ≤ 8 * room_of (Rrj seq reason)
+    → 242 + 8 * aliases_room (held_in reason) ≤ 8 * room_of (Rrj seq reason)
 reject_room seq registration.DiscoveryRequired = omega arith
 reject_room seq registration.InvalidCallSignalAddress = omega arith
 reject_room seq registration.InvalidRasAddress = omega arith
@@ -364,14 +367,30 @@ room_enough reply h =
       (components_fit reply h).here 0 (omega arith),
     )
 
+aliases_most : (list : List Alias) → AllByRecursion IsAlias list
+    → aliases_room list ≤ 524 * length list
+aliases_most [] h = omega arith
+aliases_most (Digits text ∷ rest) h = omega (arith, h.0.few, aliases_most rest h.1)
+aliases_most (H323Id text ∷ rest) h = omega (arith, h.0.few, aliases_most rest h.1)
+
 room_most : (reply : Reply) → IsReply reply → room_of reply ≤ reply_octets.MOST
-room_most (Gcf confirm) h = omega arith
+room_most (Gcf confirm) h = omega (arith, (h.1).few)
 room_most (Grj seq reason) h = omega arith
-room_most (Rcf confirm) h = omega (arith, h.named.few)
+room_most (Rcf confirm) h = omega (
+  arith,
+  h.named.few,
+  h.answered.few,
+  h.identified.few,
+  aliases_most confirm.aliases h.named.each,
+)
 room_most (Rrj seq registration.DiscoveryRequired) h = omega arith
 room_most (Rrj seq registration.InvalidCallSignalAddress) h = omega arith
 room_most (Rrj seq registration.InvalidRasAddress) h = omega arith
-room_most (Rrj seq (registration.DuplicateAlias held)) h = omega (arith, h.1.few)
+room_most (Rrj seq (registration.DuplicateAlias held)) h = omega (
+  arith,
+  h.1.few,
+  aliases_most held h.1.each,
+)
 room_most (Rrj seq registration.ResourceUnavailable) h = omega arith
 room_most (Rrj seq registration.FullRegistrationRequired) h = omega arith
 room_most (Ucf seq) h = omega arith

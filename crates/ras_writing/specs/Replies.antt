@@ -108,10 +108,10 @@ registration_reason (registration.DuplicateAlias held) = null_choice 7 4 ++ alia
 registration_reason registration.ResourceUnavailable = null_extension 1
 registration_reason registration.FullRegistrationRequired = null_extension 4
 
--- how many aliases a reason names
-abbrev pub held_in : RegistrationRejectReason → ℕ
-held_in (registration.DuplicateAlias held) = length held
-held_in other = 0
+-- the aliases that a reason names
+abbrev pub held_in : RegistrationRejectReason → List Alias
+held_in (registration.DuplicateAlias held) = held
+held_in other = []
 
 abbrev pub unreg_reason : UnregRejectReason → ℕ
 unreg_reason unreg.NotCurrentlyRegistered = 0

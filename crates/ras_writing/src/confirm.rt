@@ -6,6 +6,7 @@ ghost use Rattle.ras_module.specs.Rooms.{room_of};
 
 use ras_module::{
     Address, EndpointId, Name, RegistrationConfirm, Reply, ReplyAliases, RequestSeqNum, TimeToLive,
+    text_room,
 };
 use std::marker::Model;
 
@@ -57,6 +58,7 @@ impl<'a> LentConfirm<'a> {
         ensures room { result ≡ room_of (reply.Rcf self.now) }
         ensures most { result ≤ Reply.MOST }
     {
-        640 + 516 * self.aliases.as_slice().len()
+        let names = text_room(self.gatekeeper.as_slice()) + text_room(self.endpoint.as_slice());
+        Reply::SHORT + names + self.aliases.room()
     }
 }

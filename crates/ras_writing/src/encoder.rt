@@ -9,7 +9,9 @@ ghost use Rattle.ras_writing.specs.Replies.{identifier, bmp_string, characters, 
 ghost use Rattle.ras_writing.specs.Replies.{band_width, null_choice, null_extension, zero_octet};
 ghost use Rattle.ras_writing.specs.Replies.{digit_code, digits, alias_address, alias_addresses};
 ghost use Rattle.ras_writing.specs.Replies.{alias_list};
+ghost use Rattle.ras_module.specs.Aliases.{characters_of};
 ghost use Rattle.ras_module.specs.DialledDigits.{is_dialled, AreDialled};
+ghost use Rattle.ras_module.specs.Rooms.{text_room, aliases_room};
 ghost use Rattle.ras_writing.specs.Properties.{IsSeq, IsName, IsAddress, IsDigits, IsH323Id};
 ghost use Rattle.ras_writing.specs.Properties.{IsAlias, AreAliases};
 ghost use Rattle.std.specs.List.{AllByRecursion};
@@ -62,8 +64,9 @@ fn characters(writer: &mut BitWriter, text: &[u16])
 pub fn identifier(writer: &mut BitWriter, text: &[u16])
     requires some { 1 ≤ length text.now }
     requires few { length text.now ≤ 128 }
-    requires room { 2096 ≤ writer.old.room }
-    ensures writes { Writes 2096 (identifier text.now) writer.old writer.new }
+    requires room { 48 + 16 * length text.now ≤ writer.old.room }
+    ensures writes { Writes (48 + 16 * length text.now) (identifier text.now) writer.old
+        writer.new }
     ensures bounds { IsName text.now }
 {
     writer.whole(1, 128, text.len() as u32);
@@ -179,8 +182,9 @@ fn choice_of_two(writer: &mut BitWriter, index: u32)
 
 #[tactic(auto, unfolding(crate::specs::Replies::alias_address))]
 fn dialled_digits(writer: &mut BitWriter, text: &DialledDigits)
-    requires { 4128 ≤ writer.old.room }
-    ensures writes { Writes 4128 (alias_address (alias.Digits text.now)) writer.old writer.new }
+    requires { 8 * text_room text.now ≤ writer.old.room }
+    ensures writes { Writes (8 * text_room text.now) (alias_address (alias.Digits text.now))
+        writer.old writer.new }
     ensures bounds { IsDigits text.now }
 {
     let text = text.as_slice();
@@ -192,8 +196,9 @@ fn dialled_digits(writer: &mut BitWriter, text: &DialledDigits)
 
 #[tactic(auto, unfolding(crate::specs::Replies::alias_address))]
 fn h323_id(writer: &mut BitWriter, text: &H323Id)
-    requires { 4128 ≤ writer.old.room }
-    ensures writes { Writes 4128 (alias_address (alias.H323Id text.now)) writer.old writer.new }
+    requires { 8 * text_room text.now ≤ writer.old.room }
+    ensures writes { Writes (8 * text_room text.now) (alias_address (alias.H323Id text.now))
+        writer.old writer.new }
     ensures bounds { IsH323Id text.now }
 {
     let text = text.as_slice();
@@ -205,8 +210,9 @@ fn h323_id(writer: &mut BitWriter, text: &H323Id)
 
 /// AliasAddress.
 pub fn alias_address(writer: &mut BitWriter, alias: &Alias)
-    requires { 4128 ≤ writer.old.room }
-    ensures writes { Writes 4128 (alias_address alias.now) writer.old writer.new }
+    requires { 8 * text_room (characters_of alias.now) ≤ writer.old.room }
+    ensures writes { Writes (8 * text_room (characters_of alias.now)) (alias_address alias.now)
+        writer.old writer.new }
     ensures bounds { IsAlias alias.now }
 {
     match alias {
@@ -217,9 +223,9 @@ pub fn alias_address(writer: &mut BitWriter, alias: &Alias)
 
 #[tactic(auto, using(crate::proofs::Behind::behind_append))]
 fn alias_addresses(writer: &mut BitWriter, aliases: &[Alias])
-    requires { 4128 * length aliases.now ≤ writer.old.room }
-    ensures writes { Writes (4128 * length aliases.now) (alias_addresses aliases.now) writer.old
-        writer.new }
+    requires { 8 * aliases_room aliases.now ≤ writer.old.room }
+    ensures writes { Writes (8 * aliases_room aliases.now) (alias_addresses aliases.now)
+        writer.old writer.new }
     ensures bounds { AllByRecursion IsAlias aliases.now }
 {
     for alias in aliases {
@@ -230,9 +236,9 @@ fn alias_addresses(writer: &mut BitWriter, aliases: &[Alias])
 /// SEQUENCE OF AliasAddress, of no more aliases than a reply has.
 pub fn alias_list(writer: &mut BitWriter, aliases: &[Alias])
     requires few { length aliases.now ≤ ReplyAliases.MOST }
-    requires room { 23 + 4128 * length aliases.now ≤ writer.old.room }
-    ensures writes { Writes (23 + 4128 * length aliases.now) (alias_list aliases.now) writer.old
-        writer.new }
+    requires room { 23 + 8 * aliases_room aliases.now ≤ writer.old.room }
+    ensures writes { Writes (23 + 8 * aliases_room aliases.now) (alias_list aliases.now)
+        writer.old writer.new }
     ensures bounds { AreAliases aliases.now }
 {
     writer.length(aliases.len() as u32);

@@ -18,7 +18,7 @@ ghost use Rattle.ras_writing.specs.Replies.{disengage_reject, info_request, requ
 ghost use Rattle.ras_writing.specs.Replies.{components, encoding_of};
 ghost use Rattle.ras_writing.specs.Properties.{IsSeq, IsAddress, AreAliases, IsReason, IsReply};
 ghost use Rattle.ras_writing.specs.Properties.{ReadsBack};
-ghost use Rattle.ras_module.specs.Rooms.{room_of};
+ghost use Rattle.ras_module.specs.Rooms.{room_of, aliases_room};
 
 use crate::confirm::LentConfirm;
 use crate::encoder::{
@@ -89,9 +89,9 @@ fn disengage_reason(reason: DisengageRejectReason) -> u32
 /// RegistrationRejectReason.
 #[tactic(auto, using(crate::proofs::Behind::behind_append), unfolding(crate::specs::Replies::registration_reason))]
 fn registration_reason(writer: &mut BitWriter, reason: &RegistrationRejectReason)
-    requires { 65 + 4128 * held_in reason.now ≤ writer.old.room }
-    ensures writes { Writes (65 + 4128 * held_in reason.now) (registration_reason reason.now)
-        writer.old writer.new }
+    requires { 65 + 8 * aliases_room (held_in reason.now) ≤ writer.old.room }
+    ensures writes { Writes (65 + 8 * aliases_room (held_in reason.now))
+        (registration_reason reason.now) writer.old writer.new }
     ensures bounds { IsReason reason.now }
 {
     match reason {
@@ -110,8 +110,9 @@ fn registration_reason(writer: &mut BitWriter, reason: &RegistrationRejectReason
 /// GatekeeperConfirm: no additions, no nonStandardData, with its gatekeeperIdentifier.
 #[tactic(auto, using(crate::proofs::Behind::behind_append), unfolding(crate::specs::Replies::gatekeeper_confirm))]
 pub fn gatekeeper_confirm(writer: &mut BitWriter, confirm: &GatekeeperConfirm)
-    requires { 2400 ≤ writer.old.room }
-    ensures writes { Writes 2400 (components (reply.Gcf confirm.now)) writer.old writer.new }
+    requires { 8 * room_of (reply.Gcf confirm.now) ≤ writer.old.room }
+    ensures writes { Writes (8 * room_of (reply.Gcf confirm.now))
+        (components (reply.Gcf confirm.now)) writer.old writer.new }
     ensures bounds { IsReply (reply.Gcf confirm.now) }
 {
     root_message(writer, 1);
@@ -167,8 +168,8 @@ fn registration_confirm_additions(writer: &mut BitWriter, granted: TimeToLive)
 #[tactic(auto, unfolding(crate::specs::Replies::terminal_alias))]
 fn terminal_alias(writer: &mut BitWriter, aliases: &[Alias])
     requires few { length aliases.now ≤ ReplyAliases.MOST }
-    requires room { 23 + 4128 * length aliases.now ≤ writer.old.room }
-    ensures writes { Writes (23 + 4128 * length aliases.now) (terminal_alias aliases.now)
+    requires room { 23 + 8 * aliases_room aliases.now ≤ writer.old.room }
+    ensures writes { Writes (23 + 8 * aliases_room aliases.now) (terminal_alias aliases.now)
         writer.old writer.new }
     ensures bounds { AreAliases aliases.now }
 {
