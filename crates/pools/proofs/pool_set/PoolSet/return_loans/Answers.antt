@@ -1,7 +1,7 @@
 use Rattle.std.proofs.Common.{arith, ap}
 use Rattle.pools.specs.Account.{Account}
 use Rattle.pools.proofs.Changing.{nothing_to_return}
-use Rattle.pools.proofs.members.Members.return_loans.Goals as goal
+use Rattle.pools.proofs.pool_set.PoolSet.return_loans.Goals as goal
 
 pub returns-else-n-gt0 : goal.returns-else-n-gt0
 returns-else-n-gt0 g c =
