@@ -38,9 +38,9 @@ impl Legs {
     pub fn one(leg: Leg) -> Self
         ensures { result ≡ leg ∷ [] }
     {
-        Legs {
-            items: first_leg(leg),
-        }
+        let mut items = ArrayVec::new();
+        items.push(leg);
+        Legs { items }
     }
 
     /// The legs, in order.
@@ -114,19 +114,12 @@ impl Eq for Legs {
     ghost laws = { Prim.search (comparing, rules) depth 9 };
 }
 
-fn first_leg(leg: Leg) -> ArrayVec<Leg, 2>
-    ensures { result.items ≡ leg ∷ [] }
-{
-    let mut items = ArrayVec::new();
-    items.push(leg);
-    items
-}
-
 fn copies_of(legs: &[Leg]) -> ArrayVec<Leg, 2>
     requires { AreLegs legs.now }
     ensures { result.items ≡ legs.now }
 {
-    let mut items = first_leg(legs[0]);
+    let mut items = ArrayVec::new();
+    items.push(legs[0]);
     if legs.len() == 2 {
         items.push(legs[1]);
     }

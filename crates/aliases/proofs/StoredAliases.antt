@@ -16,7 +16,7 @@ use Rattle.ras_module.specs.declared.alias.Alias.{Alias}
 use Rattle.ras_module.specs.Aliases.{same_alias}
 use Rattle.ras_module.specs.Same.{alias_decides, texts_decide}
 use Rattle.ras_module.proofs.AliasOrder.{alias_cmp_total, alias_cmp-IsAntisymmetric}
-use Rattle.aliases.specs.Held.{Held, Holding, IsHeldByAnother}
+use Rattle.aliases.specs.Held.{Held, HeldAliases, Holding, IsHeldByAnother}
 use Rattle.aliases.specs.Held.{without_holder}
 use Rattle.aliases.specs.inside.Stored.{key_of, held_of}
 
@@ -24,6 +24,12 @@ pub get_alias : {S : Type 0} (rows : IndexMap Alias Holding S) (alias : Alias)
     → hash.get same_alias rows alias ≡ fin.get (held_of rows.entries) alias
 get_alias rows alias = sym
     (get_entries alias_decides alias_cmp_total alias_cmp-IsAntisymmetric rows.entries alias)
+
+-- what is known of an alias, as contracts see the rows
+pub held_get : {S : Type 0} (rows : IndexMap Alias Holding S) (room : ℕ) (t : HeldAliases)
+    (alias : Alias) → record { held = held_of rows.entries; room = room } ≡ t
+    → hash.get same_alias rows alias ≡ fin.get t.held alias
+held_get rows room t alias view = get_alias rows alias ∙ ap (λ u. fin.get u.held alias) view
 
 module _ {S : Type 0} (old new : IndexMap Alias Holding S) (alias : Alias) where
   pub held_insert : (h : Holding) → hash.Updates same_alias old new alias (Some h)

@@ -71,13 +71,8 @@ impl AliasTable {
     pub fn holder(&self, alias: &Alias) -> Option<&EndpointId>
         ensures { option_copied result ≡ holder_of self.now.held alias.now }
     {
-        Some(self.row(alias)?.id())
-    }
-
-    fn row(&self, alias: &Alias) -> Option<&Holder>
-        ensures { option_copied result ≡ map.get self.now.held alias.now }
-    {
-        self.rows.get(alias)
+        let row = self.rows.get(alias)?;
+        Some(&row.id)
     }
 
     /// Those of these aliases that an endpoint with another call signal address holds: in the order
@@ -98,9 +93,9 @@ impl AliasTable {
     fn is_elsewhere(&self, alias: &Alias, address: Address) -> bool
         ensures { result ≡ is_elsewhere address (map.get self.now.held alias.now) }
     {
-        match self.row(alias) {
+        match self.rows.get(alias) {
             None => false,
-            Some(row) => row.address() != address,
+            Some(row) => row.address != address,
         }
     }
 
@@ -108,9 +103,9 @@ impl AliasTable {
     fn is_held_by(&self, alias: &Alias, holder: &EndpointId) -> bool
         ensures { result ≡ is_held_by holder.now (map.get self.now.held alias.now) }
     {
-        match self.row(alias) {
+        match self.holder(alias) {
             None => false,
-            Some(row) => *row.id() == *holder,
+            Some(id) => *id == *holder,
         }
     }
 
@@ -142,12 +137,15 @@ impl AliasTable {
         ensures alias { IfErr result (λ e. e.0 ≡ alias) }
         ensures err { OnErr result (Becomes self.old self.new self.old.held) }
     {
-        if let Some(row) = self.row(&alias) {
-            if *row.id() != holder {
+        if let Some(id) = self.holder(&alias) {
+            if *id != holder {
                 return Err((alias, SetFault::Duplicate));
             }
         }
-        let row = Holder::new(holder, address);
+        let row = Holder {
+            id: holder,
+            address,
+        };
         match self.rows.insert(alias, row) {
             Ok(_) => Ok(()),
             Err(_) => Err((alias, SetFault::Memory)),
@@ -204,6 +202,6 @@ fn retain_others(rows: &mut IndexMap<Alias, Holder>, holder: &EndpointId)
         |_alias: &Alias, row: &mut Holder| -> bool
             ensures { (result ≡ not (pointwise nat_eq row.old.holder holder.entry.now))
                 × (row.new ≡ row.old) }
-        { *row.id() != *holder },
+        { row.id != *holder },
     );
 }

@@ -85,7 +85,8 @@ fn least_below(rows: &[Due], i: usize) -> Option<usize>
     }
 }
 
-/// Moves this row down until the rows below it are due no earlier.
+/// Moves this row down until the rows below it are due no earlier. The rows that it passes move up;
+/// it is written where it stands in the end.
 fn sift_down(rows: &mut [Due], at: &mut [usize], from: usize)
     requires indexed { IsIndexed rows.old at.old }
     requires within { from < length rows.old }
@@ -94,14 +95,19 @@ fn sift_down(rows: &mut [Due], at: &mut [usize], from: usize)
     ensures heap { IsHeap rows.new }
     ensures moments { moments_of rows.new ≡ moments_of rows.old }
 {
+    let moved = rows[from];
     let mut i = from;
     while let Some(below) = least_below(rows, i) {
-        if rows[i].moment <= rows[below].moment {
+        let next = rows[below];
+        if moved.moment <= next.moment {
             break;
         }
-        exchange(rows, at, i, below);
+        rows[i] = next;
+        at[next.place] = i;
         i = below;
     }
+    rows[i] = moved;
+    at[moved.place] = i;
 }
 
 /// Moves the row at i up or down to where it belongs.

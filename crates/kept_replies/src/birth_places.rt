@@ -51,7 +51,8 @@ impl BirthPlaces {
         ensures { AreBorn rows.now.entries result }
     {
         let mut all = BirthPlaces::new(alloc);
-        all.make_room(rows.len());
+        // one more than the rows, since to replace a birth another is added first
+        let _room = all.births.reserve(rows.len().saturating_add(1));
         for (_key, entry) in rows.iter() {
             all.add(entry.born);
         }
@@ -66,17 +67,8 @@ impl BirthPlaces {
         if !self.is_whole {
             *self = BirthPlaces::of(*rows.allocator(), rows);
         }
-        self.make_room(1);
-    }
-
-    /// Makes room for more births, if there is memory for it.
-    fn make_room(&mut self, more: usize)
-        ensures births { self.new.births ≡ self.old.births }
-        ensures still { self.new.is_whole ≡ self.old.is_whole }
-        ensures room { self.old.room ≤ self.new.room }
-    {
-        // one more, since to replace a birth another is added first
-        let _room = self.births.reserve(more.saturating_add(1));
+        // for a birth that comes, and for one that replaces another, which is added first
+        let _room = self.births.reserve(2);
     }
 
     /// The place of the row with this birth.

@@ -130,8 +130,11 @@ fn take_moment(deadlines: &mut Deadlines, place: usize, last: usize)
     ensures moments { deadlines.new.moments ≡ moved deadlines.old.moments place last }
     ensures room { deadlines.new.room ≡ deadlines.old.room }
 {
-    deadlines.clear(place);
-    deadlines.rename(last, place);
+    if place == last {
+        deadlines.clear(place);
+    } else {
+        deadlines.rename(last, place);
+    }
 }
 
 fn place_due(deadlines: &Deadlines, now: u64) -> Option<usize>

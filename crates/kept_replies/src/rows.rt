@@ -29,16 +29,6 @@ pub(crate) fn take_row(rows: &mut IndexMap<KeptKey, KeptEntry>, place: usize)
     rows.swap_remove_index(place);
 }
 
-/// Puts an entry after the others, under a key under which there is none. This takes no memory.
-pub(crate) fn add_entry(rows: &mut IndexMap<KeptKey, KeptEntry>, key: KeptKey, entry: KeptEntry)
-    requires new { get same_key rows.old key ≡ None }
-    requires room { 0 < spare rows.old }
-    ensures puts { Puts rows.old rows.new key entry }
-    ensures appends { Appends rows.old.entries rows.new.entries (key, entry) }
-{
-    rows.insert(key, entry).unwrap();
-}
-
 /// Puts an entry in place of that under this key, if there is one.
 pub(crate) fn replace_entry(
     rows: &mut IndexMap<KeptKey, KeptEntry>,

@@ -19,7 +19,7 @@ use crate::fault::ReserveFault;
 use crate::in_progress::InProgress;
 use crate::kept_reply::KeptReply;
 use crate::key::KeptKey;
-use crate::rows::{add_entry, replace_entry, take_row, write_done, write_retry};
+use crate::rows::{replace_entry, take_row, write_done, write_retry};
 use crate::told_counts::ToldCounts;
 use indexmap::IndexMap;
 use ras_module::Request;
@@ -157,7 +157,7 @@ impl Kept {
         ensures full { IsTrue result ↔ (map.len self.now.kept ≡ self.now.most) }
         ensures sound { IsConsistent self.now }
     {
-        self.len() == self.most
+        self.rows.len() == self.most
     }
 
     /// Whether the limit of kept replies is reached, and none of them is over.
@@ -260,7 +260,7 @@ impl Kept {
         self.births.add(entry.born);
         self.told.add(entry.identifier());
         self.due.write(self.rows.len(), &entry.state);
-        add_entry(&mut self.rows, key, entry);
+        self.rows.insert(key, entry).unwrap();
     }
 
     /// Keeps an entry for a datagram, in place of what is kept for it.

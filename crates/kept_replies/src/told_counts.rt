@@ -62,7 +62,8 @@ impl ToldCounts {
         ensures { AreTold rows.now.entries result }
     {
         let mut all = ToldCounts::new(alloc);
-        all.make_room(rows.len());
+        // one more than the rows, since to replace a reply another is added first
+        let _room = all.counts.reserve(rows.len().saturating_add(1));
         for (_key, entry) in rows.iter() {
             all.add(entry.identifier());
         }
@@ -77,17 +78,8 @@ impl ToldCounts {
         if !self.is_whole {
             *self = ToldCounts::of(*rows.allocator(), rows);
         }
-        self.make_room(1);
-    }
-
-    /// Makes room for more identifiers, if there is memory for it.
-    fn make_room(&mut self, more: usize)
-        ensures counts { self.new.counts ≡ self.old.counts }
-        ensures still { self.new.is_whole ≡ self.old.is_whole }
-        ensures room { self.old.room ≤ self.new.room }
-    {
-        // one more, since to replace a reply another is added first
-        let _room = self.counts.reserve(more.saturating_add(1));
+        // for a reply that comes, and for one that replaces another, which is added first
+        let _room = self.counts.reserve(2);
     }
 
     /// Whether a row tells this identifier.

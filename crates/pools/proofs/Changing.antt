@@ -1,18 +1,18 @@
 -- The members of a set, if one of them changes, or all do.
 use Rattle.std.proofs.Common.{◌≡◌, ℕ, ◌<◌, ◌≤◌, List, [], ◌∷◌, length}
 use Rattle.std.proofs.Common.{map, get_or, set, All, replicate}
-use Rattle.std.proofs.Common.{IsTrue, refl, sym, ap, ◌∙◌, arith, zero, suc}
+use Rattle.std.proofs.Common.{IsTrue, refl, sym, subst, ap, ◌∙◌, arith, zero, suc}
 use Rattle.std.proofs.lemmas.List.{map-set, get_or-map, set-get_or, length-map, length-set}
 use Rattle.std.proofs.lemmas.List.Elements.{All-map, All-set}
 use Rattle.pools.specs.declared.interface.Lend.{Lend}
 use Rattle.pools.specs.declared.interface.Lend.TheVariants.{Lent, Refused, Wait}
-use Rattle.pools.specs.declared.members.Counts.{Counts}
+use Rattle.pools.specs.declared.pool_set.Counts.{Counts}
 use Rattle.pools.specs.Account.{Account, IsWithinLimit, IsAnswer, is_idle, opening_account}
 use Rattle.pools.specs.Account.{account_after_answer, account_without_loans}
 use Rattle.pools.specs.Members.{Member, IsPoolSet, accounts_of, member_after_turn, member_at}
 use Rattle.pools.specs.Members.{members_after_answer, members_after_return, members_after_turn}
 use Rattle.pools.specs.Members.{member_without_loans, new_member}
-use Rattle.pools.specs.inside.Counted.{AreCounted, counted, members_of}
+use Rattle.pools.specs.inside.Counted.{AreCounted, MakeASet, counted, members_of}
 
 abbrev pub no_counts : Counts
 no_counts = record { requests = 0; turns = 0 }
@@ -122,7 +122,7 @@ module _ {X : Type 0} (f : X → Account) (xs : List X) (cs : List Counts) where
           ∙ written y (get_or cs i no_counts) m is_m
 
 -- an answer keeps a pool within its limit
-within_limit_after_answer :
+pub within_limit_after_answer :
     (a : Account) (asked : ℕ) (answer : Lend) →
     IsWithinLimit a → IsAnswer a.figures asked answer
     → IsWithinLimit (account_after_answer a asked answer)
@@ -146,7 +146,7 @@ pool_set_after members i m s within = record {
 }
 
 -- a member of a set is within its limit
-within_limit_at :
+pub within_limit_at :
     (members : List Member) (i : ℕ) → IsPoolSet members → i < length members →
     IsWithinLimit (member_at members i).account
 within_limit_at members i s below = s.within_limits i (new_member (opening_account 0)) below
@@ -162,14 +162,22 @@ pool_set-new accounts some few idle = record {
       (λ k d below. idle_within (get_or accounts k d) (idle k d below));
 }
 
-pub pool_set-answer :
-    (members : List Member) (i asked : ℕ) (answer : Lend) → IsPoolSet members →
-    i < length members → IsAnswer (member_at members i).account.figures asked answer →
-    IsPoolSet (members_after_answer members i asked answer)
-pool_set-answer members i asked answer s below fits =
-    pool_set_after members i _ s
-    (within_limit_after_answer (member_at members i).account asked answer
-    (within_limit_at members i s below) fits)
+-- a pool of a set is written with its counts, and stays within its limit: the pools make a set
+module _ {X : Type 0} (f : X → Account) (xs : List X) (cs : List Counts) (members : List Member)
+    (is : members_of (map f xs) cs ≡ members) (are : MakeASet f xs cs) (i : ℕ)
+    (below : i < length members) (y : X) (m : Member) (within : IsWithinLimit m.account) where
+  sound_after : IsPoolSet (set members i m)
+  sound_after = pool_set_after members i m (subst IsPoolSet is are.sound) within
+
+  pub set-written : (c : Counts) → counted (f y) c ≡ m → MakeASet f (set xs i y) (set cs i c)
+  set-written c is_m = record {
+    counted = record {
+      few = rw length-set are.counted.few;
+      each = rw length-set are.counted.each;
+    };
+    sound = subst IsPoolSet
+        (sym (written f xs cs members is are.counted i below y c m is_m)) sound_after;
+  }
 
 pub pool_set-return :
     (members : List Member) (i n : ℕ) → IsPoolSet members → i < length members →

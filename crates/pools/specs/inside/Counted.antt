@@ -1,8 +1,8 @@
 -- The pools of a set beside their counts.
-use Rattle.std.specs.Prelude.{◌≡◌, ◌≤◌, List, [], ◌∷◌, length}
-use Rattle.pools.specs.declared.members.Counts.{Counts}
+use Rattle.std.specs.Prelude.{◌≡◌, ◌≤◌, List, [], ◌∷◌, length, map}
+use Rattle.pools.specs.declared.pool_set.Counts.{Counts}
 use Rattle.pools.specs.Account.{Account}
-use Rattle.pools.specs.Members.{Member}
+use Rattle.pools.specs.Members.{IsPoolSet, Member}
 
 -- an account with its counts
 abbrev pub counted : Account → Counts → Member
@@ -22,3 +22,9 @@ members_of (account ∷ accounts) (c ∷ counts) = counted account c ∷ members
 pub record AreCounted {P : Type 0} (pools : List P) (counts : List Counts) : Type 0 where
   pub few : length pools ≤ 16
   pub each : length counts ≡ 16
+
+-- these pools with these counts make a set
+pub record MakeASet {P : Type 0} (account : P → Account) (pools : List P) (counts : List Counts)
+    : Type 0 where
+  pub counted : AreCounted pools counts
+  pub sound : IsPoolSet (members_of (map account pools) counts)

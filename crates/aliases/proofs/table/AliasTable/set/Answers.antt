@@ -2,7 +2,7 @@ use Rattle.std.proofs.Common.{ap, sym, ◌∙◌, refl}
 use Rattle.std.specs.Option.{option_map}
 use Rattle.std.specs.FinMap as map
 use Rattle.keyed.proofs.Decide.{some_none}
-use Rattle.aliases.specs.Held.{Holding}
+use Rattle.aliases.specs.Held.{HeldAliases, Holding, holding_by, with_alias}
 use Rattle.aliases.proofs.StoredAliases.{AreApart-stored, held_insert, get_alias}
 use Rattle.aliases.proofs.table.AliasTable.set.Goals as goal
 use Rattle.aliases.proofs.table.AliasTable.set.Goals.{in-Ok, in-Err}
@@ -14,9 +14,10 @@ pub returns-clause-ok : goal.returns-clause-ok
 returns-clause-ok c =
     elim c.match-insert.branch [
       | in-Ok w ↦ rw w.result-is
-          (held_insert c.self.inside.rows c.insert.new.self c.args.alias c.new-row.result
-          w.in-Ok.ensures.updates
-          ∙ (λ k. map.insert (c.self.view_is k).held c.args.alias (c.new-row.ensures k)))
+          (held_insert c.self.inside.rows c.insert.new.self c.args.alias
+          (holding_by c.args.holder c.args.address) w.in-Ok.ensures.updates
+          ∙ ap (λ (t : HeldAliases).
+          with_alias t.held c.args.alias c.args.holder c.args.address) c.self.view_is)
       | in-Err w ↦ rw w.result-is tt
     ]
 

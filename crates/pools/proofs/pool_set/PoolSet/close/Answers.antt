@@ -1,5 +1,4 @@
-use Rattle.std.proofs.Common.{◌≡◌, ◌∙◌, List, ap, map, subst, sym, All}
-use Rattle.pools.specs.Account.{account_without_loans}
+use Rattle.std.proofs.Common.{◌≡◌, ◌∙◌, List, ap, subst, sym, All}
 use Rattle.pools.specs.Members.{Member, accounts_of}
 use Rattle.pools.proofs.Changing.{accounts_of-without_loans, all_repaid}
 use Rattle.pools.proofs.Lists.{accounts_without_loans}
@@ -14,7 +13,6 @@ pub returns-clause-accounts : goal.returns-clause-accounts
 returns-clause-accounts g c =
     c.into_pools.ensures ∙ ap accounts_of c.return_all_loans.ensures
     ∙ accounts_of-without_loans _
-    ∙ ap (λ (ms : List Member). map account_without_loans (accounts_of ms)) c.self.view_is
 
 pub returns-clause-repaid : goal.returns-clause-repaid
 returns-clause-repaid g c = accounts_without_loans _ _ (returns-clause-accounts g c)
