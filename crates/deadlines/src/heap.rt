@@ -123,20 +123,6 @@ pub fn settle(rows: &mut [Due], at: &mut [usize], i: usize)
     sift_down(rows, at, reached);
 }
 
-/// Changes the moment of the row at i.
-pub fn change(rows: &mut [Due], at: &mut [usize], i: usize, moment: u64)
-    requires indexed { IsIndexed rows.old at.old }
-    requires heap { IsHeap rows.old }
-    requires within { i < length rows.old }
-    ensures indexed { IsIndexed rows.new at.new }
-    ensures heap { IsHeap rows.new }
-    ensures moments { (r : Due) → slice_get rows.old i ≡ Some r
-        → moments_of rows.new ≡ map.insert (moments_of rows.old) r.place moment }
-{
-    rows[i].moment = moment;
-    settle(rows, at, i);
-}
-
 /// Adds a row for a place that has none.
 pub fn add(rows: &mut Vec<Due>, at: &mut [usize], due: Due)
     requires indexed { IsIndexed rows.old.items at.old }

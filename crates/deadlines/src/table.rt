@@ -6,7 +6,7 @@ ghost use Rattle.std.specs.FinMap as map;
 ghost use Rattle.deadlines.specs.Deadlines.{Moments, renamed, IsLeast};
 
 use crate::due::Due;
-use crate::heap::{add, change, relabel, row_of, take_out};
+use crate::heap::{add, relabel, row_of, settle, take_out};
 use std::alloc::{AllocError, Global};
 use std::marker::Model;
 
@@ -123,7 +123,10 @@ impl Deadlines {
         ensures held { self.new.held ≡ self.old.held }
     {
         match row_of(&self.rows, &self.at, place) {
-            Some(i) => change(&mut self.rows, &mut self.at, i, moment),
+            Some(i) => {
+                self.rows[i].moment = moment;
+                settle(&mut self.rows, &mut self.at, i);
+            }
             None => add(&mut self.rows, &mut self.at, Due { moment, place }),
         }
     }
