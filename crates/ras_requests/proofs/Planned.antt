@@ -33,10 +33,13 @@ Settles-renewal : (z : Tables) (now : ℕ) (q : RegistrationRequest) (id : List 
     → Settles z now (Rrq q) (keep_alive z now q (named z q.endpoint)) (renewal_of z g r)
 Settles-renewal z now q id r g sound names there stays seq_is granted_is until_is =
     let here : unwrap_or q.endpoint [] ≡ r.identifier = ap (λ w. unwrap_or w []) names
-        ∙ sym (sound.own id r there) in
+    ∙ sym (sound.own id r there) in
     record {
-      possible = (subst (λ w. IsSomeAnd w (λ i. IsSome (fin.get z.live i))) (sym names)
-          (is_there (fin.get z.live id) r there), tt);
+      possible = (
+        subst (λ w. IsSomeAnd w (λ i. IsSome (fin.get z.live i))) (sym names)
+            (is_there (fin.get z.live id) r there),
+        tt,
+      );
       is = ap (keep_alive z now q) (ap (named z) names ∙ there)
           ∙ ap (λ b. if b then rejection z q FullRegistrationRequired else Settled (record {
             reply = confirmation z q r.call_signal r.aliases r.identifier;
