@@ -7,7 +7,7 @@ use Rattle.settings.specs.declared.settings.Settings.{Settings}
 use Rattle.udp_server.specs.declared.report.ServeFault.{ServeFault}
 use Rattle.udp_server.specs.declared.report.ServeFault.TheVariants as server
 use Rattle.script.specs.Streams.{OutputState}
-use Rattle.gatekeeper.specs.Inputs.{GivesSettings, IsInputRead, input_status}
+use Rattle.commands.specs.Inputs.{GivesSettings, IsInputRead, input_status}
 use Rattle.gatekeeper.specs.declared.serving_fault.RunningFault.{RunningFault}
 use Rattle.gatekeeper.specs.declared.serving_fault.RunningFault.TheVariants.{Bind, Memory}
 use Rattle.gatekeeper.specs.declared.serving_fault.RunningFault.TheVariants.{WrongPools}

@@ -2,33 +2,24 @@
 #![tactic(auto)]
 
 ghost use Rattle.std.specs.Prelude.{◌≡◌};
-ghost use Rattle.gatekeeper.specs.Inputs.{input_status};
-ghost use Rattle.gatekeeper.specs.Replays.{status_of};
+ghost use Rattle.commands.specs.Inputs.{input_status};
+ghost use Rattle.commands.specs.Replays.{status_of};
 
-mod boxed_pools;
-mod cli;
 mod elapsed;
-mod key_lines;
 mod notices;
 mod over_socket;
-mod replay;
 mod report;
 mod serve;
 mod service;
 mod serving_fault;
-mod settings_check;
-mod settings_input;
 mod stop_signal;
 mod stopwatch;
 
-use cli::{Choice, chosen};
+use commands::{Choice, InputFault, ReplayFault, check_settings, chosen, replay};
 use log::Log;
 use notices::tell_place;
-use replay::{ReplayFault, replay};
 use script::Output;
 use serve::serve;
-use settings_check::check_settings;
-use settings_input::InputFault;
 use std::alloc::{AllocError, Global};
 use std::io::BufWriter;
 use std::net::Net;

@@ -1,7 +1,7 @@
 //! What the server tells by its log.
 
 use crate::report::has_faults;
-use crate::settings_input::{InputFault, PassedOver};
+use commands::{InputFault, PassedOver};
 use log::{Log, error, info, warn};
 use pools::Pool;
 use ras_module::{Address, Name};

@@ -6,13 +6,12 @@ ghost use Rattle.gatekeeper.specs.Serves.{AreServed, IsReportWritten, IsServiceW
 ghost use Rattle.settings.specs.Settings.{AreSettings};
 ghost use Rattle.udp_server.specs.Served.{IsServed};
 
-use crate::boxed_pools::{are_new, pools_of};
 use crate::notices::{tell_cause, tell_place, tell_zone, warn_of, warn_of_faults};
 use crate::over_socket::{ask_for_buffer, serve_socket};
 use crate::report::print_report;
 use crate::service::{Ending, Service};
 use crate::serving_fault::{RunningFault, ServingFault};
-use crate::settings_input::{ReadInput, read_input};
+use commands::{ReadInput, are_new, pools_of, read_input};
 use log::Log;
 use pools::{Pool, PoolSet};
 use ras_core::{Config, NewFault, Zone};

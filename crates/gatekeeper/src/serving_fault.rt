@@ -3,7 +3,7 @@
 ghost use Rattle.std.specs.Prelude.{◌≡◌};
 ghost use Rattle.gatekeeper.specs.Serves.{running_status, serve_status};
 
-use crate::settings_input::InputFault;
+use commands::InputFault;
 use std::alloc::AllocError;
 use thiserror::Error;
 use udp_server::ServeFault;

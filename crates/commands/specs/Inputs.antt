@@ -5,11 +5,11 @@ use Rattle.settings.specs.declared.fault.SettingsFault.{SettingsFault}
 use Rattle.settings.specs.declared.fault.SettingsFault.TheVariants as settings
 use Rattle.settings.specs.Settings.{settings_of, IsAnswer}
 use Rattle.settings.specs.declared.settings.Settings.{Settings}
-use Rattle.gatekeeper.specs.declared.settings_input.InputFault.{InputFault}
-use Rattle.gatekeeper.specs.declared.settings_input.InputFault.TheVariants.{Stream, TooLong}
-use Rattle.gatekeeper.specs.declared.settings_input.InputFault.TheVariants.{NotText, Refused}
-use Rattle.gatekeeper.specs.declared.settings_input.InputFault.TheVariants.{Memory}
-use Rattle.gatekeeper.specs.declared.settings_input.ReadInput.{ReadInput}
+use Rattle.commands.specs.declared.settings_input.InputFault.{InputFault}
+use Rattle.commands.specs.declared.settings_input.InputFault.TheVariants.{Stream, TooLong}
+use Rattle.commands.specs.declared.settings_input.InputFault.TheVariants.{NotText, Refused}
+use Rattle.commands.specs.declared.settings_input.InputFault.TheVariants.{Memory}
+use Rattle.commands.specs.declared.settings_input.ReadInput.{ReadInput}
 
 -- 1: the settings are refused; 3: no memory; 4: a read failed
 abbrev pub input_status : InputFault → ℕ

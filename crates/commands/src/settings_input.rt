@@ -2,8 +2,8 @@
 
 ghost use Rattle.std.specs.Prelude.{◌≡◌, ◌≤◌, length, IfErr, IfOk, IfSome};
 ghost use Rattle.settings.specs.Settings.{AreSettings};
-ghost use Rattle.gatekeeper.specs.Inputs.{input_status, IsReadFault, IsRefusal, IsInputRead};
-ghost use Rattle.gatekeeper.specs.Inputs.{IsTextRead};
+ghost use Rattle.commands.specs.Inputs.{input_status, IsReadFault, IsRefusal, IsInputRead};
+ghost use Rattle.commands.specs.Inputs.{IsTextRead};
 
 use crate::key_lines::{line_behind, line_of};
 use settings::{Settings, SettingsFault, UnknownKey, read_settings, unknown_keys};

@@ -1,6 +1,6 @@
 use denote.Text.{Utf8}
 use denote.Shadow.{shadow}
-use Rattle.gatekeeper.proofs.key_lines.line_of.Given as goal
+use Rattle.commands.proofs.key_lines.line_of.Given as goal
 
 abbrev pub invariant-loop-i : goal.invariant-loop-i
 invariant-loop-i l =

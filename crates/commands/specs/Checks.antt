@@ -1,9 +1,9 @@
 -- What a check of settings returns and writes.
 use Rattle.std.specs.Prelude.{ℕ, ◌≡◌, List, Result, Ok, Err, IsTrue}
 use Rattle.script.specs.Streams.{OutputState}
-use Rattle.gatekeeper.specs.Inputs.{GivesSettings, IsInputRead}
-use Rattle.gatekeeper.specs.declared.settings_input.InputFault.{InputFault}
-use Rattle.gatekeeper.specs.declared.settings_input.InputFault.TheVariants.{Stream}
+use Rattle.commands.specs.Inputs.{GivesSettings, IsInputRead}
+use Rattle.commands.specs.declared.settings_input.InputFault.{InputFault}
+use Rattle.commands.specs.declared.settings_input.InputFault.TheVariants.{Stream}
 
 -- settings are checked only if the octets are settings; otherwise the fault is that of reading them
 abbrev pub AreChecked : {A : Type 0} → List ℕ → Result A InputFault → Type 0

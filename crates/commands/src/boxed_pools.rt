@@ -4,7 +4,7 @@ ghost use Rattle.std.specs.Prelude.{◌≡◌, map, IfOk, IsTrue, OnErr};
 ghost use Rattle.pools.specs.Account.{opening_account};
 ghost use Rattle.pools.specs.Specs.{account_of, pool_of};
 ghost use Rattle.script.specs.Events.{fresh_pools};
-ghost use Rattle.gatekeeper.specs.Replays.{RunsScript};
+ghost use Rattle.commands.specs.Replays.{RunsScript};
 
 use pools::{Pool, PoolSpec, StandardPool};
 use script::{Output, RunFault, Script, run_script};
@@ -33,7 +33,7 @@ fn is_new<P: Pool>(pool: &P, spec: &PoolSpec) -> bool
 }
 
 /// Whether these are the pools that are described, in order, and were asked nothing yet.
-pub(crate) fn are_new<P: Pool>(pools: &[P], specs: &[PoolSpec]) -> bool
+pub fn are_new<P: Pool>(pools: &[P], specs: &[PoolSpec]) -> bool
     ensures { IsTrue result → map P.account pools.now ≡ map account_of specs.now }
 {
     if pools.len() != specs.len() {
@@ -67,7 +67,7 @@ fn run_made<P: Pool, W: Write + Drop>(
 }
 
 /// The pools that are described, in order, each of its kind and with nothing lent.
-pub(crate) fn pools_of(alloc: Global, specs: &[PoolSpec]) -> Result<Vec<StandardPool>, AllocError>
+pub fn pools_of(alloc: Global, specs: &[PoolSpec]) -> Result<Vec<StandardPool>, AllocError>
     ensures { IfOk result (λ pools. pools.items ≡ map pool_of specs.now) }
 {
     let mut pools = Vec::new(alloc);
@@ -79,7 +79,7 @@ pub(crate) fn pools_of(alloc: Global, specs: &[PoolSpec]) -> Result<Vec<Standard
 
 /// Makes the pools of a script, and those that are to take the places of others, each in a box, and
 /// runs it; nothing is written if there is no memory for the pools.
-pub fn run_with_pools<W: Write + Drop>(
+pub(crate) fn run_with_pools<W: Write + Drop>(
     alloc: Global,
     script: Script,
     out: &mut Output<W>,

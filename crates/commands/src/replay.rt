@@ -1,7 +1,7 @@
 //! Replaying a script.
 
 ghost use Rattle.std.specs.Prelude.{◌≡◌};
-ghost use Rattle.gatekeeper.specs.Replays.{status_of, Replays};
+ghost use Rattle.commands.specs.Replays.{status_of, Replays};
 
 use crate::boxed_pools::run_with_pools;
 use script::{Input, Output, RunFault, ScriptFault, read_script};

@@ -1,7 +1,7 @@
 //! Checking settings: they are written as the server would take them.
 
 ghost use Rattle.std.specs.Prelude.{IfSome, IsTrue, OnOk};
-ghost use Rattle.gatekeeper.specs.Checks.{AreChecked, IsWritten};
+ghost use Rattle.commands.specs.Checks.{AreChecked, IsWritten};
 
 use crate::settings_input::{InputFault, PassedOver, ReadInput, read_input};
 use script::Output;

@@ -1,6 +1,6 @@
 use Rattle.std.proofs.Common.{rules, ap, ◌≤◌, length}
-use Rattle.gatekeeper.proofs.Fronts.{whole_if_short}
-use Rattle.gatekeeper.proofs.settings_input.read_octets.Goals as goal
+use Rattle.commands.proofs.Fronts.{whole_if_short}
+use Rattle.commands.proofs.settings_input.read_octets.Goals as goal
 
 pub returns-in-Ok-2-clause-ok : goal.returns-in-Ok-2-clause-ok
 returns-in-Ok-2-clause-ok g c =

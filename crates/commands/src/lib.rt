@@ -1,0 +1,16 @@
+//! What the program does without a server: the words of its command line; settings and scripts from
+//! an input; a check of settings, and a replay; the boxes of the pools.
+#![tactic(auto)]
+
+mod boxed_pools;
+mod cli;
+mod key_lines;
+mod replay;
+mod settings_check;
+mod settings_input;
+
+pub use boxed_pools::{are_new, pools_of};
+pub use cli::{Choice, chosen};
+pub use replay::{ReplayFault, replay};
+pub use settings_check::check_settings;
+pub use settings_input::{InputFault, PassedOver, ReadInput, read_input};
