@@ -11,9 +11,9 @@ use Rattle.script.specs.Events.{fresh_pools}
 use Rattle.script.specs.Reads.{ReadsScript}
 use Rattle.script.specs.Runs.{IsRunAnswer, IsFlushedAfter}
 use Rattle.script.specs.Streams.{InputState, OutputState}
-use Rattle.commands.specs.declared.replay.ReplayFault.{ReplayFault}
-use Rattle.commands.specs.declared.replay.ReplayFault.TheVariants.{Script as OfScript}
-use Rattle.commands.specs.declared.replay.ReplayFault.TheVariants.{Run as OfRun}
+use Rattle.commands.specs.declared.replaying.ReplayFault.{ReplayFault}
+use Rattle.commands.specs.declared.replaying.ReplayFault.TheVariants.{Script as OfScript}
+use Rattle.commands.specs.declared.replaying.ReplayFault.TheVariants.{Run as OfRun}
 
 -- 1: the input is refused; 3: no memory; 4: a stream failed
 abbrev pub status_of : ReplayFault → ℕ

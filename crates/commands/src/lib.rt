@@ -5,12 +5,12 @@
 mod boxed_pools;
 mod cli;
 mod key_lines;
-mod replay;
+mod replaying;
 mod settings_check;
 mod settings_input;
 
 pub use boxed_pools::{are_new, pools_of};
 pub use cli::{Choice, chosen};
-pub use replay::{ReplayFault, replay};
+pub use replaying::{ReplayFault, replay};
 pub use settings_check::check_settings;
 pub use settings_input::{InputFault, PassedOver, ReadInput, read_input};
