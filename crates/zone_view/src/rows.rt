@@ -1,0 +1,76 @@
+//! Rows of what a zone has.
+
+ghost use Rattle.std.specs.Prelude.{◌≡◌, ◌≤◌, length, take};
+
+use arrayvec::ArrayVec;
+use ras_module::{Address, Alias, CallKey, EndpointId};
+use std::marker::Model;
+
+/// The first aliases of an endpoint: eight of them if it has more. Contracts see the list.
+#[derive(Drop)]
+pub struct ShownAliases {
+    items: ArrayVec<Alias, 8>,
+}
+
+impl Model for ShownAliases {
+    ghost use Rattle.std.specs.Prelude.{List};
+    ghost use Rattle.ras_module.specs.declared.alias.Alias.{Alias};
+
+    ghost Value = { List Alias };
+
+    ghost view = { λ a. a.items.items };
+}
+
+impl ShownAliases {
+    /// The first of these aliases.
+    pub fn first_of(aliases: &[Alias]) -> Self
+        ensures { result ≡ take 8 aliases.now }
+    {
+        let mut items = ArrayVec::new();
+        for alias in aliases.iter().take(8) {
+            items.push(*alias);
+        }
+        ShownAliases { items }
+    }
+
+    /// The aliases, in the order of the endpoint's last full RegistrationRequest.
+    pub fn as_slice(&self) -> &[Alias]
+        ensures { result.now ≡ self.now }
+    {
+        self.items.as_slice()
+    }
+}
+
+/// A registered endpoint. Moments are milliseconds of the zone's clock.
+#[derive(Drop)]
+pub struct EndpointRow {
+    pub identifier: EndpointId,
+    /// Its address for call signalling.
+    pub call_signal: Address,
+    /// Its address for RAS messages.
+    pub ras: Address,
+    /// Its first aliases.
+    pub aliases: ShownAliases,
+    /// How many aliases it has: 0 to 32.
+    pub alias_count: usize,
+    /// In how many calls it takes part.
+    pub legs: usize,
+    /// When its registration ends, unless it is renewed.
+    pub deadline: u64,
+    /// When it was last heard.
+    pub heard: u64,
+}
+
+/// An open call. Bandwidth is in units of 100 bit/s (H.225.0, BandWidth).
+#[derive(Clone, Copy, PartialEq, Eq)]
+pub struct CallRow {
+    pub key: CallKey,
+    /// The place of the pool that lent its bandwidth.
+    pub pool: usize,
+    /// The bandwidth that it may use.
+    pub units: u32,
+    /// The endpoint that was admitted first.
+    pub first: EndpointId,
+    /// The other endpoint, if it was admitted too.
+    pub second: Option<EndpointId>,
+}

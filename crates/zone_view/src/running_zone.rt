@@ -1,0 +1,61 @@
+//! A zone that is being served, as who looks at it sees it.
+
+ghost use Rattle.std.specs.Prelude.{◌≡◌, ◌≤◌, ◌<◌, All, [], vec_capacity, vec_len, OnOk};
+
+use crate::counts::Counts;
+use crate::figures::{ServerFigures, ZoneFigures};
+use crate::rows::{CallRow, EndpointRow};
+use pools::Figures;
+use std::alloc::AllocError;
+
+/// A zone that is being served. Each call may wait for those who make its steps, for as long as
+/// they make one.
+///
+/// Rows are told by falling places, some of them at a time. An endpoint or a call that stays while
+/// all places are told is told; one that comes or goes meanwhile may be missing, or be told twice.
+pub trait RunningZone: Drop {
+    ghost use Rattle.std.specs.Prelude.{List};
+    ghost use Rattle.zone_view.specs.declared.figures.ZoneFigures.{ZoneFigures};
+    ghost use Rattle.zone_view.specs.declared.rows.CallRow.{CallRow};
+    ghost use Rattle.zone_view.specs.declared.rows.EndpointRow.{EndpointRow};
+
+    /// These are its figures at some moment.
+    ghost has_figures: { Self → ZoneFigures → Type 0 };
+
+    /// At some moment it has an endpoint with this row.
+    ghost has_endpoint: { Self → EndpointRow → Type 0 };
+
+    /// At some moment it has a call with this row.
+    ghost has_call: { Self → CallRow → Type 0 };
+
+    /// Its figures now.
+    fn figures(&self) -> ZoneFigures
+        ensures figures { has_figures self.now result }
+        ensures within { result.in_use ≤ result.limit };
+
+    /// The figures of its pools now, in order.
+    fn pools(&self) -> Result<Vec<Figures>, AllocError>;
+
+    /// What the server counted so far.
+    fn server(&self) -> ServerFigures;
+
+    /// What was counted of its steps so far.
+    fn counts(&self) -> Counts;
+
+    /// Puts rows of endpoints at places below this one into `rows`, which has none yet: as many as
+    /// there is room for. Returns the place below which the next ones stand; 0 if there are none.
+    fn endpoints_below(&self, place: usize, rows: &mut Vec<EndpointRow>) -> usize
+        requires empty { rows.old.items ≡ [] }
+        ensures rows { All (has_endpoint self.now) rows.new.items }
+        ensures room { vec_capacity rows.new ≡ vec_capacity rows.old };
+
+    /// Puts rows of calls at places below this one into `rows`, which has none yet: as many as
+    /// there is room for. Returns the place below which the next ones stand; 0 if there are none.
+    fn calls_below(&self, place: usize, rows: &mut Vec<CallRow>) -> usize
+        requires empty { rows.old.items ≡ [] }
+        ensures rows { All (has_call self.now) rows.new.items }
+        ensures room { vec_capacity rows.new ≡ vec_capacity rows.old };
+
+    /// Whether it is no longer served: nothing more happens in it.
+    fn has_ended(&self) -> bool;
+}
