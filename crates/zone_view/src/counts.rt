@@ -1,34 +1,48 @@
 //! Counts, by what is counted.
 
-ghost use Rattle.std.specs.Prelude.{◌≡◌, ◌<◌, ℕ, nat_eq, min};
-ghost use Rattle.std.specs.List.{replicate};
-ghost use Rattle.zone_view.specs.Kinds.{count_place, no_counts, with_more};
+ghost use Rattle.std.specs.Prelude.{◌≡◌};
+ghost use Rattle.zone_view.specs.Counts.{count_at, no_counts, with_more};
 
 use crate::count::{Count, PLACES};
+use std::marker::Model;
 
-/// How often each of the things that are counted came. A count at `u64::MAX` stays there.
-#[derive(Clone, Copy, Debug, PartialEq, Eq)]
+/// How often each of the things that are counted came. A count at `u64::MAX` stays there. Contracts
+/// see the list of the numbers, by the places of what is counted.
+#[derive(Clone, Copy)]
 pub struct Counts {
     numbers: [u64; PLACES],
 }
 
+impl Model for Counts {
+    ghost use Rattle.std.specs.Prelude.{ℕ, List};
+
+    ghost Value = { List ℕ };
+
+    ghost view = { λ c. c.numbers };
+}
+
 impl Counts {
     /// Nothing came yet.
-    pub fn none() -> Self {
+    pub fn none() -> Self
+        ensures { result ≡ no_counts }
+    {
         Counts {
             numbers: [0; PLACES],
         }
     }
 
     /// How often this came.
-    pub fn get(&self, count: Count) -> u64 {
+    pub fn get(&self, count: Count) -> u64
+        ensures { result ≡ count_at count self.now }
+    {
         self.numbers[count.place()]
     }
 
-    /// Counts this so often more at this place of the counts, if there is one.
-    pub fn add(&mut self, place: usize, more: u64) {
-        if let Some(number) = self.numbers.get_mut(place) {
-            *number = number.saturating_add(more);
-        }
+    /// Counts this so often more.
+    pub fn add(&mut self, count: Count, more: u64)
+        ensures { self.new ≡ with_more count more self.old }
+    {
+        let place = count.place();
+        self.numbers[place] = self.numbers[place].saturating_add(more);
     }
 }
