@@ -1,7 +1,7 @@
 -- What a change of one call does to the stored calls.
 use Rattle.std.proofs.Common.{◌≡◌, ◌≢◌, ℕ, rules, ◌+◌, ◌-◌, ◌*◌, ◌^◌}
 use Rattle.std.proofs.Common.{◌<◌, ◌≤◌, ◌↔◌, List, length, refl}
-use Rattle.std.proofs.Common.{sym, ◌∙◌, ap, subst, Some, None, arith}
+use Rattle.std.proofs.Common.{IfSome, sym, ◌∙◌, ap, subst, Some, None, arith}
 use Rattle.std.specs.Prelude.{Option, MatchOption, IsSome, slice_get, Bool, true, false, nat_eq}
 use Rattle.std.specs.Prelude.{is_some, if◌then◌else◌}
 use Rattle.std.specs.FinMap as fin
@@ -328,3 +328,9 @@ full_stored calls most t s view =
     let len_is = len_stored calls most t s view in
     let most_is : most ≡ t.most = ap (λ u. u.most) view in
     (λ e. sym len_is ∙ (e ∙ sym most_is), λ e. len_is ∙ (e ∙ most_is))
+
+-- what holds of a value that is there holds of it in other words
+pub in_other_words : {T : Type 0} (o : Option T) (P Q : T → Type 0) → IfSome o P
+    → ((x : T) → P x → Q x) → IfSome o Q
+in_other_words (Some x) P Q is each = each x is
+in_other_words None P Q is each = tt
