@@ -2,6 +2,7 @@
 
 ghost use Rattle.std.specs.Prelude.{◌≡◌, ◌<◌, ◌≤◌, ◌^◌, ◌+◌, ◌↔◌, All, IfOk};
 ghost use Rattle.std.specs.Prelude.{IfSome, IsTrue, OnErr, OnOk, Some, length};
+ghost use Rattle.std.specs.FinMap as fin;
 ghost use Rattle.zone_tables.specs.Pools.{IsIdle};
 ghost use Rattle.ras_machine.specs.State.{opening};
 ghost use Rattle.ras_machine.specs.Machine.{Hearing, most_steps};
