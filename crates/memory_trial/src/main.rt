@@ -10,7 +10,7 @@
 //! a line `settings` come settings, which it reads and prints. If there is nothing, the tables and
 //! the values have their turn.
 //!
-//! `./try-memory` runs it once for each of its requests for memory, and has that one refused.
+//! `tools/try-memory` runs it once for each of its requests for memory, and has that one refused.
 #![tactic(auto)]
 
 ghost use Rattle.std.specs.Prelude.{◌≤◌, IfOk};
