@@ -19,6 +19,8 @@
 //!
 //! The words are those of the definitions (specs/Machine.antt): an event calls for a `Course`; a
 //! request that is served is a `Task`, which has a `Job` and a `Plan`.
+//!
+//! proved: a step does what its event calls for, as chosen, or changes nothing (`Machine::perform`)
 #![tactic(auto)]
 
 mod course;
