@@ -1,5 +1,5 @@
-//! The zone, its tables and the values of messages under refusals of memory. The program prints the
-//! same, whichever one of its requests for memory is refused: a step or a run that was refused
+//! The zone, its tables and the values of messages under refusals of memory. The program prints
+//! the same, whichever one of its requests for memory is refused: a step or a run that was refused
 //! leaves the zone as it was, a call of a table its table, and the same call with memory then
 //! returns what it would have returned.
 //!

@@ -1,5 +1,5 @@
-//! The gatekeeper as a machine (ITU-T H.323, the gatekeeper's duties; ITU-T H.225.0, RAS): what an
-//! event calls for, as a value, and the deed that it comes to. What may be chosen is handed in: the
+//! The machine: what an event calls for, as a value, and the deed that it comes to. It has the
+//! duties of a gatekeeper (ITU-T H.323; ITU-T H.225.0, RAS). What may be chosen is handed in: the
 //! kept entry that is dropped, the item that is done of those that are due, the identifier that is
 //! handed out. The pools choose their answers.
 //!
