@@ -2,7 +2,8 @@
 
 ghost use Rattle.std.specs.Prelude.{All};
 ghost use Rattle.std.specs.Prelude.{◌≡◌, ◌≢◌, ◌<◌, ◌≤◌, ◌+◌, ◌^◌, ◌↔◌, length, None, Err, IsOk};
-ghost use Rattle.std.specs.Prelude.{IsSome, IsTrue, IfOk, OnOk, OnErr, IsOkUnless, MatchOption};
+ghost use Rattle.std.specs.Prelude.{IfSome, IsSome, IsTrue, IfOk, OnOk, OnErr, IsOkUnless};
+ghost use Rattle.std.specs.Prelude.{MatchOption, Some};
 ghost use Rattle.std.specs.Option.{option_copied};
 ghost use Rattle.std.specs.FinMap as map;
 ghost use Rattle.keyed.specs.Maps.{update};
@@ -148,6 +149,16 @@ impl Calls {
         ensures sound { IsConsistent self.now }
     {
         self.calls.get(key)
+    }
+
+    /// The call with this number, and its key. The numbers below `len` have one each, and each call
+    /// has one number, as long as the table isn't changed.
+    pub fn nth(&self, i: usize) -> Option<(&CallKey, &Call)>
+        ensures some { IsSome result ↔ (i < map.len self.now.calls) }
+        ensures call { IfSome result (λ it. map.get self.now.calls it.0.now ≡ Some it.1.now) }
+        ensures sound { IsConsistent self.now }
+    {
+        self.calls.get_index(i)
     }
 
     /// Where the call with this key stands. Only a search for a call asks this.

@@ -126,6 +126,13 @@ impl Machine {
         &self.tables
     }
 
+    /// How many replies are kept, or being made.
+    pub fn kept_len(&self) -> usize
+        ensures { result ≡ fin.len self.now.kept }
+    {
+        self.kept.len()
+    }
+
     /// The same state, in tables of its own.
     pub fn copy(&self) -> Result<Self, AllocError>
         ensures { IfOk result (λ copy. copy ≡ self.now) }

@@ -1,12 +1,11 @@
 //! A zone that is being served, as who looks at it sees it.
 
-ghost use Rattle.std.specs.Prelude.{◌≡◌, ◌≤◌, ◌<◌, All, [], vec_capacity, vec_len, OnOk};
+ghost use Rattle.std.specs.Prelude.{◌≡◌, ◌≤◌, All, [], vec_capacity};
 
 use crate::counts::Counts;
 use crate::figures::{ServerFigures, ZoneFigures};
 use crate::rows::{CallRow, EndpointRow};
 use pools::Figures;
-use std::alloc::AllocError;
 
 /// A zone that is being served. Each call may wait for those who make its steps, for as long as
 /// they make one.
@@ -15,12 +14,13 @@ use std::alloc::AllocError;
 /// all places are told is told; one that comes or goes meanwhile may be missing, or be told twice.
 pub trait RunningZone: Drop {
     ghost use Rattle.std.specs.Prelude.{List};
+    ghost use Rattle.pools.specs.declared.interface.Figures.{Figures};
     ghost use Rattle.zone_view.specs.declared.figures.ZoneFigures.{ZoneFigures};
     ghost use Rattle.zone_view.specs.declared.rows.CallRow.{CallRow};
     ghost use Rattle.zone_view.specs.declared.rows.EndpointRow.{EndpointRow};
 
-    /// These are its figures at some moment.
-    ghost has_figures: { Self → ZoneFigures → Type 0 };
+    /// These are its figures, and those of its pools, at some moment.
+    ghost has_figures: { Self → ZoneFigures → List Figures → Type 0 };
 
     /// At some moment it has an endpoint with this row.
     ghost has_endpoint: { Self → EndpointRow → Type 0 };
@@ -28,13 +28,13 @@ pub trait RunningZone: Drop {
     /// At some moment it has a call with this row.
     ghost has_call: { Self → CallRow → Type 0 };
 
-    /// Its figures now.
-    fn figures(&self) -> ZoneFigures
-        ensures figures { has_figures self.now result }
+    /// Its figures now, and those of its pools, in order, at the same moment: they are put into
+    /// `pools`, which has none yet, and room for 16, of which a zone has no more.
+    fn figures(&self, pools: &mut Vec<Figures>) -> ZoneFigures
+        requires empty { pools.old.items ≡ [] }
+        requires room { 16 ≤ vec_capacity pools.old }
+        ensures figures { has_figures self.now result pools.new.items }
         ensures within { result.in_use ≤ result.limit };
-
-    /// The figures of its pools now, in order.
-    fn pools(&self) -> Result<Vec<Figures>, AllocError>;
 
     /// What the server counted so far.
     fn server(&self) -> ServerFigures;
