@@ -199,6 +199,9 @@ impl Registrations {
     }
 
     /// How many endpoints are registered.
+    ///
+    /// promise endpoints-are-numbered: Each registration has one number below `len`, by which
+    /// `nth` returns it (`IsNumbered`).
     pub fn len(&self) -> usize
         ensures len { result ≡ map.len self.now.live }
         ensures few { map.len self.now.live ≤ self.now.most }
@@ -247,8 +250,6 @@ impl Registrations {
 
     /// The registration with this number. The numbers below `len` have one each, and each
     /// registration has one number, as long as the table isn't changed.
-    ///
-    /// promise endpoints-are-numbered: Each registration has one number (`IsNumbered`).
     pub fn nth(&self, i: usize) -> Option<&Registration>
         ensures nth { option_copied result ≡ slice_get self.now.order i }
         ensures some { IsSome result ↔ (i < map.len self.now.live) }

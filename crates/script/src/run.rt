@@ -47,9 +47,10 @@ fn zone_of<P: Pool>(alloc: Global, config: Config, pools: Vec<P>) -> Result<Zone
 /// is a fresh one that was refused.
 ///
 /// promise printed-lines-are-of-a-run: The lines printed are exactly those of a run of a fresh
-/// zone, event by event; at a stop, of the events before; then it is flushed (`RunsAndPrints`).
+/// zone, event by event; at a stop, of the events before; then it is flushed (`IsRunAnswer`,
+/// `IsFlushedAfter`).
 /// promise wrong-pools-print-nothing: Other pools than the script's are refused before anything is
-/// written.
+/// written (`are_boxes_of`).
 pub fn run_script<P: Pool, W: Write + Drop>(
     alloc: Global,
     script: Script,

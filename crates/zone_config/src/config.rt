@@ -183,7 +183,7 @@ impl Config {
     ///
     /// promise settings-are-in-range: Settings are accepted if and only if all are in their ranges
     /// and there is a default pool; else the first key out of range, or the missing pool, is named
-    /// (`range_fault`, `has_default`).
+    /// (`IsConfigAnswer`, `range_fault`).
     pub fn new(parts: ConfigParts) -> Result<Self, ConfigFault>
         ensures { IsConfigAnswer parts result }
     {
