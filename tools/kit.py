@@ -59,7 +59,7 @@ def stands(crate):
 
 def build_below(above):
     """Builds the libraries that these crates stand on. Returns one's name if it isn't proved."""
-    below = [dep for it in above for dep in it.below()]
+    below = {dep.name: dep for it in above for dep in it.below()}.values()
     # (rt ci leaves no stamps: then it has just made these libraries)
     if all(stands(it) and not os.path.exists(f"{it.folder}/out/rlib/stamp") for it in below):
         return None
