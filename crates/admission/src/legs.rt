@@ -16,6 +16,9 @@ use std::marker::Model;
 
 /// The legs of a call, in the order in which they were admitted: one or two, of different
 /// endpoints. Contracts see the list.
+///
+/// promise call-has-two-different-legs: A call has one or two legs, of different endpoints, by its
+/// type.
 #[derive(Drop)]
 pub struct Legs {
     items: ArrayVec<Leg, 2>,

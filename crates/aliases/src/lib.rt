@@ -1,4 +1,6 @@
 //! The aliases that the endpoints of a zone hold.
+//!
+//! proved: a finite map; exactly duplicates are refused (`AliasTable::set`)
 #![tactic(auto)]
 
 mod fault;

@@ -68,6 +68,8 @@ impl AliasTable {
     }
 
     /// Who holds the alias.
+    ///
+    /// promise aliases-are-a-finite-map: A look-up returns what the map has.
     pub fn holder(&self, alias: &Alias) -> Option<&EndpointId>
         ensures { option_copied result ≡ holder_of self.now.held alias.now }
     {
@@ -77,6 +79,9 @@ impl AliasTable {
 
     /// Those of these aliases that an endpoint with another call signal address holds: in the order
     /// of the list, repeats included.
+    ///
+    /// promise conflicts-are-told-in-order: Conflicts are the aliases held at another call signal
+    /// address, in the request's order.
     pub fn conflicts(&self, aliases: &[Alias], address: Address) -> Result<AliasList, AllocError>
         ensures { IfOk result (λ list. list ≡ conflicts self.now.held address aliases.now) }
     {
@@ -122,6 +127,9 @@ impl AliasTable {
     /// Enters an alias for its holder, in place of what was entered for it there. It is refused if
     /// another endpoint holds it, and for want of memory; the alias then comes back. It never fails
     /// for want of memory if there is room, or if this endpoint holds the alias already.
+    ///
+    /// promise alias-has-one-holder: An alias is refused as a duplicate if and only if another
+    /// endpoint holds it.
     pub fn set(
         &mut self,
         alias: Alias,

@@ -21,6 +21,11 @@ use pools::Pool;
 /// first fault: its place isn't in the history, the entry there is another one, an earlier receipt
 /// has this place, or an earlier receipt of its seat has a higher one. This takes no memory, and it
 /// looks for each receipt at all chapters and at all receipts before it.
+///
+/// promise audit-passes-if-joined-and-good: A history passes if and only if its chapters are joined
+/// and its receipts good; else the fault is the first (`IsJoined`, `IsGood`, `IsFault`).
+/// promise audited-history-is-a-run: After it the entries are a run with these totals, and as many
+/// receipts as entries tell each. It wants no memory (`AreTotals`, `AreTold`).
 pub fn audit<P: Pool>(
     chapters: &[Chapter],
     finished: &Finished<P>,

@@ -12,6 +12,9 @@ use step_check::redo;
 
 /// Whether the steps of the book, done again one after the other from its base, lead to the state
 /// of the zone. One running machine does them all; the book and the zone stay as they are.
+///
+/// promise book-replays-if-a-run: A book replays if and only if its entries are a run to the zone
+/// (`BookRun`).
 pub fn replays<P: Pool>(book: &Book, zone: &Zone<P>) -> Result<bool, AllocError>
     ensures { IfOk result (λ is_run. IsTrue is_run
         ↔ BookRun book.now.base book.now.entries.items zone.now.state) }

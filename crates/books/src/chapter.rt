@@ -53,6 +53,9 @@ impl Drop for Chapter {
 
 impl Chapter {
     /// A chapter of entries that lead from the one state to the other.
+    ///
+    /// promise chapter-leads-to-its-end: Entries of a chapter lead from its first state to its last
+    /// (`BookRun`).
     pub fn new(first: usize, base: SharedSnapshot, entries: Vec<Entry>, end: SharedSnapshot) -> Self
         requires { BookRun base entries.items end }
         ensures first { result.first ≡ first }

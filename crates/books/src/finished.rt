@@ -61,6 +61,9 @@ impl<P: Pool> Drop for Finished<P> {
 impl<P: Pool> Finished<P> {
     /// A history whose last entries lead from this state to the zone. If no state is given, it is
     /// that of the zone.
+    ///
+    /// promise finished-history-leads-to-its-zone: Entries of a finished history lead to its zone
+    /// (`BookRun`).
     pub fn new(
         zone: Zone<P>,
         base: Option<SharedSnapshot>,

@@ -12,6 +12,9 @@ ghost use Rattle.books.specs.Books.{AreCounted, BookRun, entries_of_seat};
 ghost use Rattle.books.specs.Totals.{lent_of, units_lent};
 
 /// Without entries, the book leads from a state to that state, and its calls are counted.
+///
+/// promise book-begins-without-entries: A book without entries is a run from its base to its base
+/// (`BookRun`, `AreCounted`).
 pub fn a_book_begins_without_entries()
     ensures run { (base : State) → BookRun base [] base }
     ensures counted { AreCounted [] }
@@ -19,6 +22,9 @@ pub fn a_book_begins_without_entries()
 
 /// One more entry, made by a step from where the book leads to, leads on to the state after that
 /// step. If its call is the number of entries of its seat so far, the calls stay counted.
+///
+/// promise book-goes-on-by-a-step: With one more entry, made by a step, a book is a run to the
+/// state after it (`BookRun`).
 pub fn a_book_goes_on_by_a_step()
     ensures run { (base now after : State) (entries : List Entry) (entry : Entry)
         → BookRun base entries now → ChangeStep now entry.event entry.outcome after
@@ -30,6 +36,9 @@ pub fn a_book_goes_on_by_a_step()
 
 /// After a step, no more bandwidth is in use than was in use before it, plus the units that were
 /// lent in it. The settings stay, and the machine made one step more.
+///
+/// promise step-uses-no-more-than-lent: After a step no more is in use than before plus what was
+/// lent, and the settings stay (`lent_of`).
 pub fn a_step_uses_no_more_than_is_lent()
     ensures units { (s : State) (what : Change) (outcome : Outcome) (after : State)
         → ChangeStep s what outcome after → in_use after.tables.calls
@@ -41,6 +50,8 @@ pub fn a_step_uses_no_more_than_is_lent()
 {}
 
 /// The same holds of all steps of a book together.
+///
+/// promise book-uses-no-more-than-lent: The same of the steps of a book.
 pub fn a_book_uses_no_more_than_is_lent()
     ensures units { (base now : State) (entries : List Entry) → BookRun base entries now
         → in_use now.tables.calls ≤ in_use base.tables.calls + lent_of entries }

@@ -1,5 +1,7 @@
 //! Books of a zone: where its history begins, and each step that was made since, with who made it.
 //! Nothing here makes a step.
+//!
+//! proved: a chapter's entries lead from its first state to its last (`Chapter`)
 #![tactic(auto)]
 
 mod book;

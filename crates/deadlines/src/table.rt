@@ -91,6 +91,9 @@ impl Deadlines {
     }
 
     /// The least moment, with any one of the places that have it. None if no place has a moment.
+    ///
+    /// promise earliest-has-none-before: The earliest is an entry that no other is before; None if
+    /// and only if there is none (`IsLeast`).
     pub fn earliest(&self) -> Option<(u64, usize)>
         ensures there { IfSome result (λ d. map.get self.now.moments d.1 ≡ Some d.0) }
         ensures least { IfSome result (λ d. IsLeast self.now.moments d.0) }
@@ -116,6 +119,9 @@ impl Deadlines {
     }
 
     /// Gives this place the moment, whether it had one or not. This takes no memory.
+    ///
+    /// promise deadlines-are-a-finite-map: Moments are a finite map from places, and each change is
+    /// one equation on it; only `reserve` and copies want memory.
     pub fn set(&mut self, place: usize, moment: u64)
         requires { place < self.old.room }
         ensures moments { self.new.moments ≡ map.insert self.old.moments place moment }

@@ -17,6 +17,9 @@ use zone_tables::item_in_call;
 /// Something that is due now: any one item that is due. None if and only if nothing is due. The
 /// pools' next turn is at the moment `next_turn`. Moments are in milliseconds. This takes no
 /// memory.
+///
+/// promise due-item-is-told: An item is told that is due; None if and only if nothing is, without
+/// memory (`IsDue`).
 pub fn due(
     registrations: &Registrations,
     calls: &Calls,

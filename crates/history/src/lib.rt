@@ -1,5 +1,7 @@
-//! A zone with its book and its workers, of which one after the other does something: what holds of
-//! the replies, of the zone and of the book in every order in which they do it. Nothing here waits.
+//! A model of workers over one zone with its book, in every order in which they act. It says what
+//! holds of the replies, of the zone and of the book. Nothing here waits.
+//!
+//! proved: in any order of acts the book is a run, and replies are taken in order (`World::act`)
 #![tactic(auto)]
 
 mod fault;

@@ -20,6 +20,10 @@ impl<P: Pool> World<P> {
     /// the number of workers. Or nothing changes, and the fresh pool comes back. The memory for the
     /// entry is asked for once the fresh pool is found to be idle, and before it is asked to take
     /// over the loans.
+    ///
+    /// promise world-replaces-a-pool: A pool is replaced by one step, an entry of no worker; or
+    /// refused in the order Closed, NoPool, NotIdle, Memory, NotLent, and nothing changes
+    /// (`ReplacesPool`, `IsOldPool`, `IsRefusalOrMemory`).
     pub fn replace(&mut self, pool: usize, fresh: P, moment: Moment) -> Result<P, (P, ReplaceFault)>
         ensures ok { OnOk result (ReplacesPool self.old
             (change_by pool (P.account fresh) moment)

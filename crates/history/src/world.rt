@@ -148,6 +148,12 @@ impl<P: Pool> World<P> {
 
     /// Does one step, or changes nothing. Neither receiving nor taking is refused for want of
     /// memory.
+    ///
+    /// promise acts-keep-the-order: After any acts in any order the book is a run to the zone,
+    /// which is sound, and replies are taken in order (`IsInOrder`, `IsServed`).
+    /// promise act-does-what-it-says: An act does what its definition says; else it is refused for
+    /// the first cause that holds, or for want of memory, and nothing changes (`Happens`,
+    /// `refusal`, `needs_memory`).
     pub fn act(&mut self, step: WorldStep) -> Result<Acted, WorldFault>
         ensures ok { IfOk result (λ acted. Happens self.old step acted self.new) }
         ensures refused { MatchOption (refusal self.old step)

@@ -1,5 +1,5 @@
-//! Tests of worlds over their public calls: the orders in which workers act, two calls that their
-//! pool can't carry together, a ring that is full, and refusals.
+//! Tests of worlds: orders in which workers act, full rings, and refusals. Two calls come that
+//! their pool can't carry together.
 #![tactic(auto)]
 
 #[cfg(test)]

@@ -67,6 +67,8 @@ impl Kept {
     }
 
     /// The identifiers that the kept RegistrationConfirms tell, in any order.
+    ///
+    /// promise told-identifiers-are-listed: The identifiers are exactly those that kept RCFs tell.
     pub fn identifiers(&self) -> Result<Vec<EndpointId>, AllocError>
         ensures { IfOk result
             (λ ids. (id : List ℕ) → Contains ids.items id ↔ IsNamed self.now.kept id) }
@@ -75,6 +77,9 @@ impl Kept {
     }
 
     /// Copies, by rising birth.
+    ///
+    /// promise kept-replies-have-one-birth: The list is by rising birth, which no two entries share
+    /// (`IsListOf`).
     pub fn list(&self) -> Result<KeptList, AllocError>
         ensures { IfOk result (IsListOf self.now.kept) }
     {

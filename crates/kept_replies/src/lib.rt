@@ -1,5 +1,7 @@
-//! What the gatekeeper keeps of its replies, so that a request that is sent again gets the same
-//! reply (H.225.0, RAS timers and request in progress).
+//! The replies that are kept for repeats, and the requests that wait. A request that is sent again
+//! gets the same reply (H.225.0, RAS timers and request in progress).
+//!
+//! proved: a finite map; Busy if and only if full and nothing is over (`Kept::reserve`)
 #![tactic(auto)]
 
 mod birth_places;

@@ -32,6 +32,9 @@ impl RequestOctets {
     /// The octets of a vector, or the vector itself if they are more than `Request::MOST`. This
     /// takes memory only if they are no more, and the vector has room for more: then they are
     /// copied into a buffer of their length.
+    ///
+    /// promise kept-datagrams-are-bounded: Octets are taken if and only if they are at most 4,096,
+    /// in a buffer with room for no more (`IsBounded`, `FitsOrReturns`).
     pub fn new(octets: Vec<u8>) -> Result<Result<Self, Vec<u8>>, AllocError>
         ensures octets { IfOk result (FitsOrReturns octets) }
         ensures in_place { vec_capacity octets ≤ Request.MOST → IsOk result }

@@ -145,6 +145,8 @@ impl Kept {
     }
 
     /// What is kept for this datagram.
+    ///
+    /// promise kept-replies-are-a-finite-map: A look-up returns what is kept for a datagram.
     pub fn find(&self, key: &KeptKey) -> Option<&KeptEntry>
         ensures found { option_copied result ≡ map.get self.now.kept key.now }
         ensures sound { IsConsistent self.now }
@@ -168,6 +170,9 @@ impl Kept {
     }
 
     /// Makes room for one more, if there may be one more after an entry that is over was dropped.
+    ///
+    /// promise busy-if-full-and-nothing-over: One more is refused as Busy if and only if the map is
+    /// full and nothing in it is over (`IsBusy`).
     pub fn reserve(&mut self, now: u64) -> Result<(), ReserveFault>
         ensures kept { self.new.kept ≡ self.old.kept }
         ensures most { self.new.most ≡ self.old.most }
@@ -188,6 +193,9 @@ impl Kept {
     }
 
     /// Makes room for one more. How many there may be, and which are over, isn't looked at.
+    ///
+    /// promise room-is-made-or-memory-refused: Room for one more is made, or refused for want of
+    /// memory alone, which changes nothing.
     pub fn make_room(&mut self) -> Result<(), AllocError>
         ensures kept { self.new.kept ≡ self.old.kept }
         ensures most { self.new.most ≡ self.old.most }
@@ -315,6 +323,9 @@ impl Kept {
 
     /// Drops an entry that is over, any of them, and returns its birth. If none is over, it returns
     /// None and nothing is changed. This takes no memory.
+    ///
+    /// promise only-what-is-over-is-dropped: One entry that is over is dropped, and its birth is
+    /// returned; None if and only if none is over.
     pub fn drop_one_expired(&mut self, now: u64) -> Option<u64>
         ensures over { IfSome result (Passes (is_over now) self.old.kept) }
         ensures dropped { IfSome result

@@ -1,3 +1,5 @@
-//! Tables whose rows have keys of their own, as finite maps: the definitions that their contracts
-//! share, and the lemmas for each way to store the rows.
+//! What the tables share: definitions of finite maps, and lemmas. There are lemmas for each way to
+//! store rows that have keys of their own.
+//!
+//! proved: definitions and lemmas alone
 #![tactic(auto)]

@@ -1,4 +1,4 @@
-//! Tests of a zone's lock with its history, over public calls: seats, lists, chapters, and threads.
+//! Tests of a zone's lock with its history: seats, lists, chapters, and threads.
 #![tactic(auto)]
 
 #[cfg(test)]

@@ -1,6 +1,6 @@
 /*
- * Refuses one of a program's requests for memory, to see what the program does then. ./try-memory
- * loads it into the program by LD_PRELOAD.
+ * Refuses one of a program's requests for memory, to see what the program does then.
+ * tools/try-memory loads it into the program by LD_PRELOAD.
  *
  * REFUSED gives the number of the request, counted from 1. When the program makes that request, an
  * octet is written to descriptor 9, if it is open. So a caller that counts up knows that it is past

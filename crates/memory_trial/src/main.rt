@@ -1,5 +1,5 @@
-//! The zone, its tables and the values of messages under refusals of memory. The program prints the
-//! same, whichever one of its requests for memory is refused: a step or a run that was refused
+//! The zone, its tables and the values of messages under refusals of memory. The program prints
+//! the same, whichever one of its requests for memory is refused: a step or a run that was refused
 //! leaves the zone as it was, a call of a table its table, and the same call with memory then
 //! returns what it would have returned.
 //!
@@ -10,7 +10,7 @@
 //! a line `settings` come settings, which it reads and prints. If there is nothing, the tables and
 //! the values have their turn.
 //!
-//! `./try-memory` runs it once for each of its requests for memory, and has that one refused.
+//! `tools/try-memory` runs it once for each of its requests for memory, and has that one refused.
 #![tactic(auto)]
 
 ghost use Rattle.std.specs.Prelude.{◌≤◌, IfOk};

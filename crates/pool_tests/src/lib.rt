@@ -1,6 +1,6 @@
-//! Tests of the pools and of sets of pools over their public calls: worked examples, pools behind
-//! boxes and of one's own, and what no contract says of them. They stand above `pools`, so that it
-//! needn't be proved once more for them.
+//! Tests of pools and of sets of pools, with pools of its own. There are worked examples, pools
+//! behind boxes, and what no contract says of them. They stand above `pools`, so that it needn't
+//! be proved once more for them.
 #![tactic(auto)]
 
 #[cfg(test)]

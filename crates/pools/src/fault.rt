@@ -22,6 +22,9 @@ pub enum PoolFault {
 
 impl PoolFault {
     /// The number of the fault.
+    ///
+    /// promise faults-have-numbers: Each fault has its number, in every crate
+    /// (`pool_fault_number`).
     pub fn number(&self) -> u8
         ensures { result ≡ pool_fault_number self.now }
     {

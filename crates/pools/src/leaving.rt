@@ -32,6 +32,10 @@ impl<P: Pool> PoolSet<P> {
     /// `i` isn't below `len`, else `NotIdle` if and only if it has something lent, or has counted
     /// 2^62 refusals or waits. It is asked nothing then. `NotLent` is for one that answers
     /// otherwise than by a loan of all that was asked. It is asked no more, and has nothing lent.
+    ///
+    /// promise fresh-pool-takes-over-all-loans: A fresh pool takes over all loans, and the old one
+    /// comes back with nothing lent; else the set stays, and the fresh one comes back: as NoPool,
+    /// NotIdle or NotLent (`members_after_replacing`, `IsReplaceFault`, `IsHandedBack`).
     pub fn replace(&mut self, i: usize, fresh: P) -> Result<P, (P, ReplaceFault)>
         ensures ok { IfOk result (λ old.
             P.account old ≡ account_without_loans (member_at self.old i).account) }
@@ -67,6 +71,9 @@ impl<P: Pool> PoolSet<P> {
 
     /// The pools that were handed in, in their order, with nothing lent. Their limits, refusals,
     /// waits and last answers stay.
+    ///
+    /// promise closed-pools-have-nothing-lent: All pools come back in order, with their limits,
+    /// counts and last answers, and nothing lent (`account_without_loans`).
     pub fn close(self) -> Vec<P>
         ensures accounts { map P.account result.items
             ≡ map account_without_loans (accounts_of self) }

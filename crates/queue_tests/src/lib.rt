@@ -1,4 +1,4 @@
-//! Tests of the reply queues over their public calls: in one thread, and between two.
+//! Tests of the reply queues, in one thread and between two.
 #![tactic(auto)]
 
 #[cfg(test)]

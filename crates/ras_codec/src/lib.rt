@@ -1,5 +1,9 @@
-//! The messages of RAS (ITU-T H.225.0) as octets in BASIC-PER, ALIGNED (ITU-T X.691). A request is
-//! read from octets. A reply is written as octets, from which it is read again.
+//! What other crates call to read requests and write replies. The messages of RAS (ITU-T H.225.0)
+//! are octets in BASIC-PER, ALIGNED (ITU-T X.691). A request is read from octets. A reply is
+//! written as octets, from which it is read again.
+//!
+//! proved: two replies with one encoding are one (`one_reply`)
+//! tested: that this is H.225.0
 #![tactic(auto)]
 
 mod laws;

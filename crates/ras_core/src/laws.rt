@@ -24,6 +24,10 @@ use zone_events::{Event, Note};
 /// kept for it, and nothing changes but the clock and the number of steps: while its window isn't
 /// over, and, if the reply confirms a registration, while that is there. The datagram has at most
 /// 4,096 octets, and is a request that has a reply.
+///
+/// promise repeat-gets-kept-reply: A repeat gets its kept reply, until its window is over, and
+/// nothing but clock and step number changes; a kept RCF only while its endpoint is registered
+/// (`is_repeat`).
 pub fn a_repeat_gets_its_kept_reply()
     ensures { (s : State) (source : Address) (bytes : List ℕ) (moment : ℕ) (request : Request)
         (entry : KeptEntry) (outcome : Outcome) (after : State)
@@ -37,6 +41,8 @@ pub fn a_repeat_gets_its_kept_reply()
 {}
 
 /// A turn is idle only if nothing is due.
+///
+/// promise idle-only-if-nothing-is-due: A turn is idle only if nothing is due.
 pub fn a_turn_is_idle_only_if_nothing_is_due()
     ensures { (s : State) (moment : ℕ) (outcome : Outcome) (after : State)
         → Step s (Event.Turn moment) outcome after → outcome.note ≡ Note.Idle
@@ -45,6 +51,9 @@ pub fn a_turn_is_idle_only_if_nothing_is_due()
 
 /// In every state that a run of steps and replacements comes to, bandwidth in use, the sum over the
 /// calls, is within the zone's limit, and each pool has lent what its calls use.
+///
+/// promise bandwidth-is-within-the-limit: In every state of a run, bandwidth in use is within the
+/// zone's limit, and each pool has lent what its calls use (`EachState`, `IsWithinLimit`).
 pub fn bandwidth_is_within_the_limit_all_along()
     ensures { (old : Running) (entries : List (Change × Outcome)) (new : Running)
         (run : RunningRun old entries new) → EachState IsWithinLimit old entries new run }

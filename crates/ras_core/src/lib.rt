@@ -1,6 +1,9 @@
-//! The zone of a gatekeeper: the machine with choices of its own, always sound, its runs and its
-//! laws (ITU-T H.323, the gatekeeper's duties; ITU-T H.225.0, RAS). Nothing here waits, prints or
-//! reads a clock: moments are handed in.
+//! The zone: the machine with choices of its own, always sound, its runs and its laws. Nothing
+//! here waits, prints or reads a clock: moments are handed in.
+//!
+//! proved: outcome and zone are the RAS machine's (`Zone::step`, `run`, `replace`), and always
+//! sound
+//! tested: replies octet for octet
 #![tactic(auto)]
 
 mod choices;

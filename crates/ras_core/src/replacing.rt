@@ -29,6 +29,10 @@ impl<P: Pool> Zone<P> {
     /// if and only if the fresh one has something lent, or has counted 2^62 refusals or waits. It
     /// is asked nothing then. `NotLent` is for one that answers otherwise than by a loan of all
     /// that was asked. It is asked no more, and has nothing lent.
+    ///
+    /// promise zone-replaces-a-pool: A fresh pool replaces one by one step, with its loans, and
+    /// calls stay; else nothing changes, and it comes back as Closed, NoPool, NotIdle or NotLent.
+    /// It wants no memory (`Replaces`, `RunningReplacement`, `IsRefusal`, `IsOldPool`).
     pub fn replace(
         &mut self,
         pool: usize,
@@ -67,6 +71,9 @@ impl<P: Pool> Zone<P> {
 
     /// Why a fresh pool wouldn't even be asked by `replace`; None if it would be. No memory is
     /// taken.
+    ///
+    /// promise replacement-refusal-is-told-beforehand: It is told exactly why a fresh pool wouldn't
+    /// be asked (`fault_unasked`).
     pub fn fault_unasked(&self, pool: usize, fresh: &P) -> Option<ReplaceFault>
         ensures { result ≡ fault_unasked self.now.state pool (P.account fresh.now) }
     {

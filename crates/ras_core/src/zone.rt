@@ -68,6 +68,10 @@ impl<P: Pool> Zone<P> {
     /// refusals and waits each, as `PoolSet::new` gives them. Its clock stands at 0. It is refused
     /// as WrongPools if and only if the number of pools is not the number of networks; the pools
     /// then come back.
+    ///
+    /// promise zone-begins-as-set: A new zone has its settings, its pools' figures, clock 0 and no
+    /// step; WrongPools if and only if there are not as many pools as networks, which then come
+    /// back (`opening`).
     pub fn new(
         alloc: Global,
         config: Config,
@@ -93,6 +97,34 @@ impl<P: Pool> Zone<P> {
     /// One step of the machine: the outcome of the event is returned. It is refused as Closed if
     /// and only if 2^62 steps were made; after a refusal nothing has changed, including the clock
     /// and the pools.
+    ///
+    /// promise step-is-of-the-machine: Outcome and zone are the RAS machine's, and what is sent has
+    /// at most 20,000 octets (`RunningStep`, `Step`, `HasFewOctets`).
+    /// promise step-memory-changes-nothing: After a refusal the zone is as it was, with its clock
+    /// and pools; Closed if and only if 2^62 steps were made (`most_steps`).
+    /// promise handed-out-identifier-is-unused: An identifier that is handed out is one that no
+    /// endpoint has and no kept RCF tells (`IsAllowed`, `IsUnusedFor`).
+    /// promise kept-replies-stay-in-their-window: No entry is dropped inside its window, and Busy
+    /// comes only if nothing kept is over (`IsAllowed`).
+    /// promise request-in-progress-ends: Such a request is told to wait, is served again when due,
+    /// and is refused after the last wait; a retry keeps its birth and hears nobody (`by_answer`,
+    /// `kept_after`, `plan_at`).
+    /// promise loan-leaves-the-least-grant: A loan that would leave a call below its least goes
+    /// back in the same step, and the request is rejected (`least_units`, `making`, `resizing`,
+    /// `with_answer`).
+    /// promise turn-does-one-due-item: One item that is due is done; only at the pools' turn does
+    /// each pool make one (`effect`, `tallies_after`).
+    /// promise pool-is-asked-once: The pool that the machine asks is asked once, for its units, and
+    /// no other is (`ask_in`, `tallies_after`).
+    /// promise endpoints-and-calls-are-sound: Each alias and call signal address has one
+    /// registration, each leg a registered endpoint, each call one or two legs (`Sound`,
+    /// `SoundTables`).
+    /// promise bandwidth-is-sound: Each pool has lent what its calls use, within its limit;
+    /// bandwidth in use is within the zone's (`Sound`, `SoundTables`).
+    /// promise sizes-are-sound: No table is above its size, settings are in range, the clock is
+    /// below 2^53, steps and pools' counts are bounded (`Sound`).
+    /// promise kept-entries-are-sound: Entries differ in birth and are older than the step; one
+    /// that waits is an ARQ or BRQ told requestInProgress, and is served again (`Sound`).
     pub fn step(&mut self, event: Event) -> Result<Outcome, StepFault>
         ensures step { IfOk result (λ outcome. RunningStep self.old event outcome self.new) }
         ensures closed { (result ≡ Err StepFault.Closed) ↔ (self.old.state.steps ≡ most_steps) }
@@ -156,6 +188,9 @@ impl<P: Pool> Zone<P> {
 
     /// The endpoints that are registered, by rising identifier: character by character, a prefix
     /// before what it begins.
+    ///
+    /// promise zone-lists-its-endpoints: Endpoints are listed by rising identifier; likewise calls,
+    /// by `Zone::calls` (`IsListOf`).
     pub fn endpoints(&self) -> Result<RegistrationList, AllocError>
         ensures { IfOk result (IsListOf self.now.state.tables.live) }
     {
@@ -170,6 +205,9 @@ impl<P: Pool> Zone<P> {
     }
 
     /// The bandwidth in use: the units of all calls, of 100 bit/s each.
+    ///
+    /// promise zone-tells-bandwidth-in-use: Bandwidth in use is the sum over the live calls
+    /// (`in_use`).
     pub fn in_use(&self) -> u64
         ensures sum { result ≡ in_use self.now.state.tables.calls }
         ensures limit { result ≤ self.now.state.tables.config.limit }
@@ -178,6 +216,9 @@ impl<P: Pool> Zone<P> {
     }
 
     /// The state as it stands, in lists of its own.
+    ///
+    /// promise snapshot-is-sound: It has the state at one moment, and is sound by its type
+    /// (`Sound`).
     pub fn snapshot(&self) -> Result<Snapshot, AllocError>
         ensures { IfOk result (λ snapshot. snapshot ≡ self.now.state) }
     {
@@ -193,6 +234,8 @@ impl<P: Pool> Zone<P> {
 
     /// Ends the zone. Its pools come back in their order, with nothing lent; their limits,
     /// refusals, waits and last answers stay.
+    ///
+    /// promise zone-closes-with-nothing-lent: The pools come back with nothing lent.
     pub fn close(self) -> Vec<P>
         ensures figures { figures_of (map P.account result.items)
             ≡ figures_without_loans self.state.tables.pools }
@@ -227,6 +270,9 @@ impl<P: Pool> Zone<P> {
     /// One step for each event, in order; the outcomes are appended. A fault comes with the index
     /// of its event: the steps before that event stand, and their outcomes are appended; the event
     /// itself changed nothing.
+    ///
+    /// promise run-is-of-the-machine: There is one outcome for each event, and both are a run; at a
+    /// fault, of the events before it (`RunsOn`, `RunningRun`).
     pub fn run(
         &mut self,
         events: &[Event],

@@ -50,6 +50,9 @@ impl<'a> Decoder<'a> {
     }
 
     /// A constrained whole number.
+    ///
+    /// promise decoder-follows-grammar: A read gives what the grammar of its form gives; likewise
+    /// the other reads (`Gives`, `Grammar`).
     pub fn whole(&mut self, lo: u32, hi: u32) -> Result<u32, ReadFault>
         requires { lo ≤ hi }
         ensures gives { Gives (grammar.whole lo hi).reading self.old result self.new }

@@ -1,5 +1,8 @@
-//! What the messages of RAS (ITU-T H.225.0) share in BASIC-PER, ALIGNED (ITU-T X.691): what a
-//! grammar is, the small types that many messages have, and the decoder of the forms of X.691.
+//! What RAS messages share in aligned PER: what a grammar is, small types, and the decoder. It is
+//! the encoding BASIC-PER, ALIGNED (ITU-T X.691) of the messages of ITU-T H.225.0.
+//!
+//! proved: a read gives what its grammar gives (`Decoder`)
+//! tested: that this is H.225.0
 #![tactic(auto)]
 
 mod decoder;

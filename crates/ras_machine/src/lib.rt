@@ -1,5 +1,5 @@
-//! The gatekeeper as a machine (ITU-T H.323, the gatekeeper's duties; ITU-T H.225.0, RAS): what an
-//! event calls for, as a value, and the deed that it comes to. What may be chosen is handed in: the
+//! The machine: what an event calls for, as a value, and the deed that it comes to. It has the
+//! duties of a gatekeeper (ITU-T H.323; ITU-T H.225.0, RAS). What may be chosen is handed in: the
 //! kept entry that is dropped, the item that is done of those that are due, the identifier that is
 //! handed out. The pools choose their answers.
 //!
@@ -19,6 +19,8 @@
 //!
 //! The words are those of the definitions (specs/Machine.antt): an event calls for a `Course`; a
 //! request that is served is a `Task`, which has a `Job` and a `Plan`.
+//!
+//! proved: a step does what its event calls for, as chosen, or changes nothing (`Machine::perform`)
 #![tactic(auto)]
 
 mod course;

@@ -54,6 +54,9 @@ impl Model for Prepared {
 }
 
 /// Reads the datagram of an event, so that its step needs no reading.
+///
+/// promise datagram-is-read-before-its-step: What was read is the datagram of its event, read as it
+/// should be (`message_in`).
 pub fn prepare(alloc: Global, event: Event) -> Result<Prepared, AllocError>
     ensures { IfOk result (λ prepared. prepared ≡ event) }
 {

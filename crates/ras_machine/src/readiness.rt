@@ -19,6 +19,9 @@ use zone_events::{DueItem, IgnoredCause};
 impl Machine {
     /// Whether what was chosen so far for a course may be done now: the entry that is dropped, and
     /// the item. This takes no memory.
+    ///
+    /// promise recorded-choices-are-checked: It is told exactly whether recorded choices may be
+    /// made; likewise identifiers, by `may_be_named` (`IsReady`, `MayBeNamed`).
     pub fn is_ready(&self, now: Moment, course: &Course) -> bool
         requires { Stands self.now now course.now }
         ensures { IsTrue result ↔ IsReady self.now now (course_of self.now now course.now) }

@@ -12,6 +12,9 @@ use zone_events::{Note, Outcome, PoolChange};
 impl Machine {
     /// One step in which a fresh pool takes the place of another one. Of the pools the machine
     /// keeps the figures: whoever has the pools has exchanged them. No memory is taken.
+    ///
+    /// promise machine-replaces-a-pool: A fresh pool takes the place of another by one step
+    /// (`Replaces`).
     pub fn replace_pool(&mut self, change: &PoolChange) -> Outcome
         requires few { self.old.steps < most_steps }
         requires may { MayReplace self.old.tables.pools change.now.pool change.now.offered }

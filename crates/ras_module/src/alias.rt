@@ -38,6 +38,8 @@ impl PartialEq for Alias {
 
     ghost laws = { partial_equiv_from_equiv (decided same_alias alias_decides) };
 
+    /// promise aliases-are-compared: Two aliases are equal if and only if their kinds and
+    /// characters are, which is an equivalence; likewise other values of messages (`same_alias`).
     fn eq(&self, other: &Self) -> bool {
         match (self, other) {
             (Alias::Digits(digits), Alias::Digits(others)) => digits == others,

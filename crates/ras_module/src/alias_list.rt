@@ -147,6 +147,9 @@ impl ReplyAliases {
 
     /// These aliases. None if and only if there are more than `MOST`. A list that has memory for
     /// more is copied, so that what is kept takes no more than it may.
+    ///
+    /// promise reply-aliases-are-bounded: Aliases of a reply are accepted if and only if they are
+    /// at most 32.
     pub fn new(list: AliasList) -> Result<Option<Self>, AllocError>
         ensures { IfOk result (λ found. MatchOption found (Self.MOST < length list)
             (λ few. (few ≡ list) × (length list ≤ Self.MOST))) }

@@ -51,6 +51,9 @@ impl<const MOST: usize> Model for BmpString<MOST> {
 impl<const MOST: usize> BmpString<MOST> {
     /// The text of these characters. None if and only if there is none of them, or more than
     /// `MOST`.
+    ///
+    /// promise text-has-its-length: A text is accepted if and only if it has 1 to `MOST` characters
+    /// (`IsText`).
     #[tactic(auto, using(crate::proofs::Pads::is_padded, crate::proofs::Pads::front_of_padded))]
     pub fn new(text: &[u16]) -> Option<Self>
         ensures { SomeIff result (IsText MOST text.now) text.now }
@@ -106,6 +109,7 @@ impl<const MOST: usize> Ord for BmpString<MOST> {
 
     ghost matches_eq = { Prim.search (comparing, rules) };
 
+    /// promise identifiers-are-ordered: Texts are in a total order.
     fn cmp(&self, other: &Self) -> Ordering {
         self.as_slice().cmp(other.as_slice())
     }

@@ -43,6 +43,9 @@ fn are_dialled(text: &[u16]) -> bool
 
 impl DialledDigits {
     /// The digits of this text. None if and only if a character is none of `0123456789#*,`.
+    ///
+    /// promise digits-can-be-dialled: A text is accepted as digits if and only if each character
+    /// can be dialled (`AreDialled`).
     pub fn new(characters: BmpString<128>) -> Option<Self>
         ensures { SomeIff result (AreDialled characters) characters }
     {

@@ -1,5 +1,7 @@
-//! The values of RAS messages (ITU-T H.225.0), without their encoding: what the gatekeeper keeps
-//! of a request, and all that it says in a reply.
+//! The values of RAS messages (ITU-T H.225.0), without their encoding. They have what the
+//! gatekeeper keeps of a request, and all that it says in a reply.
+//!
+//! proved: values are within their bounds (`BmpString::new`, `ReplyAliases::new`)
 #![tactic(auto)]
 
 mod address;

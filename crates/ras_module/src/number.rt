@@ -25,6 +25,9 @@ impl Model for RequestSeqNum {
 
 impl RequestSeqNum {
     /// This number. None if and only if it is 0.
+    ///
+    /// promise number-is-not-zero: A number is accepted if and only if it is at least 1; so are
+    /// those of `Delay` and `TimeToLive`.
     pub fn new(number: u16) -> Option<Self>
         ensures { SomeIff result (0 < number) number }
     {

@@ -139,6 +139,9 @@ impl Reply {
     pub const SHORT: usize = 64;
 
     /// Octets that are enough for the encoding of this reply: at most `MOST`.
+    ///
+    /// promise reply-room-is-bounded: The room of a reply is as defined, and at most 20,000 octets
+    /// (`room_of`).
     pub fn room(&self) -> usize
         ensures room { result ≡ room_of self.now }
         ensures most { result ≤ Self.MOST }

@@ -95,6 +95,9 @@ impl Request {
     pub const MOST: usize = 4_096;
 
     /// An equal request.
+    ///
+    /// promise request-copy-is-equal: A copy of a request equals it; likewise copies of replies,
+    /// events, outcomes and settings.
     pub fn copy(&self) -> Result<Request, AllocError>
         ensures { IfOk result (λ copy. copy ≡ self.now) }
     {

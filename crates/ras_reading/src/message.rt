@@ -54,6 +54,10 @@ fn message(alloc: Global, octets: &[u8]) -> Result<Option<Request>, ReadFault>
 
 /// The request that octets begin with, or None if they are a message that is not served. What
 /// follows is not read.
+///
+/// promise messages-are-read-exactly: Octets are a request if and only if they begin with an
+/// encoding of one that is served; not served if and only if their first bits say so; else the
+/// fault is the grammar's. Want of memory is left aside (`Reads`, `NotServed`, `message_reading`).
 pub fn read(alloc: Global, octets: &[u8]) -> Result<Option<Request>, ReadFault>
     ensures gives { IsUnlessMemory (message_reading octets.now) result }
 

@@ -1,6 +1,8 @@
-//! What each request to a gatekeeper comes to (ITU-T H.225.0, RAS), as it is decided by look-ups in
-//! the tables of the zone: a reply with a change; or a registration that is kept alive; or a new
-//! endpoint, for which an identifier is chosen; or units that are requested of a pool.
+//! What each request comes to, decided by look-ups in the tables alone. It is a reply with a
+//! change; or a registration that is kept alive; or a new endpoint, for which an identifier is
+//! chosen; or units that are requested of a pool (ITU-T H.225.0, RAS).
+//!
+//! proved: a request's plan is the defined one (`plan_of`)
 #![tactic(auto)]
 
 mod arq;

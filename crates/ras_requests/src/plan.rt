@@ -56,6 +56,9 @@ pub struct Newcomer {
 
 impl Newcomer {
     /// The registration under this identifier, with its RegistrationConfirm.
+    ///
+    /// promise newcomer-has-its-registration: A new endpoint under an identifier is its
+    /// registration, with its RCF (`settlement_under`).
     pub fn under(self, alloc: Global, identifier: &EndpointId) -> Result<Settlement, AllocError>
         ensures { IfOk result (λ settlement. settlement ≡ settlement_under self identifier.now) }
     {

@@ -9,6 +9,9 @@ use ras_module::{AdmissionRejectReason, BandRejectReason, Delay, Reply, RequestS
 use zone_tables::{Purpose, UnitRequest};
 
 /// The reply after a pool's answer, or the reply that the request is in progress.
+///
+/// promise reply-follows-the-pool-answer: The reply is a confirm with the units granted, a reject
+/// without any, or a RequestInProgress (`reply_of`).
 pub fn unit_reply(
     seq: RequestSeqNum,
     request: &UnitRequest,

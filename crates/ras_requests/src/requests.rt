@@ -19,6 +19,10 @@ use zone_tables::ZoneTables;
 
 /// The plan of a request: what it comes to, by look-ups alone. An InfoRequestResponse is no request
 /// that has a reply.
+///
+/// promise plan-is-the-defined-one: By look-ups alone, a request comes to its defined plan, which
+/// can be carried out; only a GRQ or RRQ that names no other gatekeeper can want memory (`plan_of`,
+/// `IsPlanOf`, `MayWantMemory`).
 pub fn plan_of(
     alloc: Global,
     tables: &ZoneTables,

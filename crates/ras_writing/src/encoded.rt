@@ -36,6 +36,9 @@ impl Model for EncodedReply {
 impl EncodedReply {
     /// A reply for which these octets were written. They are copied into this empty buffer, which
     /// takes no memory.
+    ///
+    /// promise encoded-reply-is-its-reply: A reply that stands as octets is the one as which they
+    /// are read, and two are equal if and only if the replies are (`IsEncoded`, `reply_of`).
     pub fn new(buffer: Vec<u8>, reply: &Reply, octets: &[u8]) -> Self
         requires empty { buffer.items ≡ [] }
         requires room { length octets.now ≤ vec_capacity buffer }

@@ -1,5 +1,8 @@
-//! The replies of the gatekeeper (ITU-T H.225.0), written as octets in BASIC-PER, ALIGNED
-//! (ITU-T X.691).
+//! A reply to octets, and the grammar by which they are read again. The replies of the gatekeeper
+//! (ITU-T H.225.0) go out in BASIC-PER, ALIGNED (ITU-T X.691).
+//!
+//! proved: a reply has one encoding, within its room, which reads back (`write_reserved`)
+//! tested: that this is H.225.0
 #![tactic(auto)]
 
 mod confirm;

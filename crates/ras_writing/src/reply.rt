@@ -451,6 +451,9 @@ fn write_components(writer: &mut BitWriter, reply: &Reply)
 
 /// Writes a reply after what is there. There has to be room for `reply.room()` more octets. The
 /// reply is read again from what is written.
+///
+/// promise replies-have-one-encoding: A reply is appended as its one encoding, within its room
+/// (`encoding_of`).
 #[tactic(auto, using(crate::proofs::Rooms::room_enough, crate::proofs::Rooms::few_octets, crate::proofs::RepliesRead::reads_back))]
 pub fn write_reserved(reply: &Reply, octets: &mut Vec<u8>)
     requires { vec_len octets.old + room_of reply.now ≤ vec_capacity octets.old }
@@ -484,6 +487,9 @@ pub fn write_confirm(confirm: &LentConfirm<'_>, octets: &mut Vec<u8>)
 /// Writes a reply after what is there, in no more than `reply.room()` octets. The reply is read
 /// again from these. It fails only for want of memory, and not if there is room for `reply.room()`
 /// more octets.
+///
+/// promise refused-writing-changes-nothing: If memory is refused, the octets stay; it isn't if
+/// there is room for `Reply::room` octets.
 pub fn write_into(reply: &Reply, octets: &mut Vec<u8>) -> Result<(), AllocError>
     ensures ok { OnOk result (octets.new.items ≡ octets.old.items ++ encoding_of reply.now) }
     ensures err { OnErr result (octets.new.items ≡ octets.old.items) }

@@ -24,6 +24,9 @@ impl Registrations {
 
     /// A registration whose endpoint has a leg and has been silent for too long: any of them. None
     /// if there is none.
+    ///
+    /// promise ended-silence-is-told: An endpoint is told whose silence has ended; None if and only
+    /// if there is none.
     pub fn silent(&self, now: u64) -> Option<&Registration>
         ensures ended { IfSome result (λ r.
             HasEnded now self.now.times self.now.live self.now.legs r.now.identifier) }
@@ -78,6 +81,9 @@ impl Registrations {
     }
 
     /// Notes that an endpoint takes part in one call more.
+    ///
+    /// promise legs-are-counted: Each endpoint's number of legs is counted, without memory
+    /// (`Counts`).
     pub fn leg_comes(&mut self, id: &EndpointId)
         requires live { IsSome (map.get self.old.live id.now) }
         requires few { IfSome (map.get self.old.legs id.now) (λ legs. legs ≤ 20000) }

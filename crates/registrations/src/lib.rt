@@ -1,4 +1,7 @@
 //! The endpoints that are registered, by identifier.
+//!
+//! proved: a finite map; a new endpoint gets an unused identifier (`Registrations::add`); an ended
+//! silence is told (`silent`)
 #![tactic(auto)]
 
 mod fault;

@@ -199,6 +199,9 @@ impl Registrations {
     }
 
     /// How many endpoints are registered.
+    ///
+    /// promise endpoints-are-numbered: Each registration has one number below `len`, by which
+    /// `nth` returns it (`IsNumbered`).
     pub fn len(&self) -> usize
         ensures len { result ≡ map.len self.now.live }
         ensures few { map.len self.now.live ≤ self.now.most }
@@ -209,6 +212,10 @@ impl Registrations {
     }
 
     /// The registration under this identifier.
+    ///
+    /// promise registrations-are-a-finite-map: A look-up returns what the map has; no two
+    /// registrations share a call signal address, nor, while the aliases agree, an alias
+    /// (`IsConsistent`, `Agree`).
     pub fn get(&self, id: &EndpointId) -> Option<&Registration>
         ensures found { option_copied result ≡ map.get self.now.live id.now }
         ensures sound { IsConsistent self.now.live }
@@ -253,6 +260,9 @@ impl Registrations {
     }
 
     /// Copies, by rising identifier: character by character, a prefix before what it begins.
+    ///
+    /// promise endpoints-are-listed-in-order: The list has all registrations, by rising identifier
+    /// (`IsListOf`).
     pub fn list(&self) -> Result<RegistrationList, AllocError>
         ensures { IfOk result (IsListOf self.now.live) }
     {
@@ -281,6 +291,9 @@ impl Registrations {
     }
 
     /// An identifier that no registration has, and that is not taken: any such one.
+    ///
+    /// promise free-identifier-is-not-reused-soon: An unused identifier isn't below where the
+    /// search begins, which rises with each registration (`IsFoundFrom`, `start_after`).
     pub fn unused(&self, taken: &[EndpointId]) -> EndpointId
         ensures unused { IsUnused self.now.live taken.now result }
         ensures from { IsFoundFrom self.now.next
@@ -309,6 +322,10 @@ impl Registrations {
     /// Registers an endpoint under an unused identifier, which is written into the registration.
     /// Nothing is added if the table is full, or for want of memory. It never fails for want of
     /// memory if there is room.
+    ///
+    /// promise new-endpoint-has-unused-identifier: An endpoint is refused as Full if and only if
+    /// the table is; else, want of memory aside, it gets an identifier that nobody has and that
+    /// isn't taken (`IsUnused`).
     pub fn add(
         &mut self,
         registration: Registration,

@@ -1,5 +1,5 @@
-//! Tests of recorded steps over public calls: the book of a worked call is run again, and each
-//! change of an entry is found.
+//! Tests of recorded steps. The book of a worked call is run again, and each change of an entry is
+//! found.
 #![tactic(auto)]
 
 #[cfg(test)]

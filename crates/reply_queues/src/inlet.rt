@@ -33,6 +33,9 @@ impl Inlet {
     ghost use Rattle.reply_queues.specs.Rings.{SameInlet, IsMarkOf, Settles};
 
     /// Takes the next datagram, if the ring has one. The outlet may put one at any time.
+    ///
+    /// promise next-datagram-is-taken: The next datagram is taken; one that was seen is given
+    /// (`datagrams_taken`, `datagrams_seen`).
     pub fn take(&mut self) -> Option<Datagram>
         ensures ring { SameInlet self.old self.new }
         ensures taken { IfSome result
@@ -53,6 +56,9 @@ impl Inlet {
 
     /// Takes nothing more, and tells whether all that was put was taken. What is left in the ring
     /// is let go.
+    ///
+    /// promise whole-ring-lost-nothing: A ring settles as whole if and only if it has its mark and
+    /// nothing is left; then all that was put was taken, in order (`Settles`, `Ends`).
     pub fn settle(self, mark: Option<Ended>) -> Settled
         requires own_mark { ForSome mark (λ ended. IsMarkOf ended self) }
         ensures no_mark { IfNone mark (result ≡ Settled.Unknown) }

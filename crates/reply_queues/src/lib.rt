@@ -1,6 +1,9 @@
-//! The queues by which the workers of a server hand replies to its sender: rings of datagrams, each
-//! with one end that puts and one end that takes, which may stand in two threads. No call waits,
-//! and none but `rings` takes memory.
+//! The rings by which the workers of a server hand replies to its sender. Each has one end that
+//! puts datagrams and one that takes them, which may stand in two threads. No call waits, and none
+//! but `rings` takes memory.
+//!
+//! proved: if a ring settles as whole, what was taken is what was put (`Inlet::settle`)
+//! tested: that there is a mark
 #![tactic(auto)]
 
 mod inlet;

@@ -22,6 +22,9 @@ impl Outlet {
 
     /// Puts a datagram behind those that were put, or hands it back if it finds no place. The
     /// inlet may free places at any time.
+    ///
+    /// promise offered-reply-stands-behind: A datagram stands behind those that were put, or comes
+    /// back; a new ring takes as many as its capacity (`datagrams_put`, `free_places`).
     pub fn offer(&mut self, datagram: Datagram) -> Result<(), Datagram>
         ensures ring { SameOutlet self.old self.new }
         ensures put { OnOk result

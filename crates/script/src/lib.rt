@@ -1,4 +1,7 @@
 //! Scripts of events for one zone: read whole, run, and their outcomes printed.
+//!
+//! proved: what a text says (`read_script`); exactly a run's lines are printed (`run_script`)
+//! tested: streams that fail
 #![tactic(auto)]
 
 mod draft;

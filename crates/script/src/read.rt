@@ -53,6 +53,12 @@ fn script_of(alloc: Global, text: &[u8]) -> Result<Script, ScriptFault>
 
 /// Reads the script that an input is, to the input's end. Lines are counted from 1, the blank ones
 /// too. At most one octet past the greatest size is read.
+///
+/// promise scripts-mean-their-lines: Settings, pools and events are those of the lines; else the
+/// first line that isn't understood, a missing zone or a last pool with a network is told
+/// (`ReadsScript`).
+/// promise script-input-is-bounded: A script has at most 1,048,576 octets, and at most one octet
+/// more is read; a failed stream is told if and only if the last read failed (`ReadsScript`).
 pub fn read_script<R: Read + Drop>(
     alloc: Global,
     input: &mut Input<R>,

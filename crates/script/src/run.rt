@@ -45,6 +45,12 @@ fn zone_of<P: Pool>(alloc: Global, config: Config, pools: Vec<P>) -> Result<Zone
 /// Otherwise they are refused before anything is written. If an event can't be run, the lines of
 /// those before it are written. The writer is flushed. A pool that was replaced is let go, and so
 /// is a fresh one that was refused.
+///
+/// promise printed-lines-are-of-a-run: The lines printed are exactly those of a run of a fresh
+/// zone, event by event; at a stop, of the events before; then it is flushed (`IsRunAnswer`,
+/// `IsFlushedAfter`).
+/// promise wrong-pools-print-nothing: Other pools than the script's are refused before anything is
+/// written (`are_boxes_of`).
 pub fn run_script<P: Pool, W: Write + Drop>(
     alloc: Global,
     script: Script,

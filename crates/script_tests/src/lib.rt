@@ -1,6 +1,5 @@
-//! Tests of scripts, of the texts of values, of the keys of settings and of outcomes, over the
-//! public calls of their crates, which they stand above, so that these needn't be proved once more
-//! for them.
+//! Tests of scripts, texts of values, keys of settings, and outcomes. They use public calls and
+//! stand above these crates, so that these needn't be proved once more for them.
 #![tactic(auto)]
 
 #[cfg(test)]

@@ -1,5 +1,5 @@
-//! Tests of settings, over the public calls of `settings`, which they stand above, so that it
-//! needn't be proved once more for them.
+//! Tests of settings. They use public calls and stand above `settings`, so that it needn't be
+//! proved once more for them.
 #![tactic(auto)]
 
 #[cfg(test)]

@@ -1,5 +1,8 @@
-//! From a sound state each step leads to a sound one: laws over the definitions alone, whatever
-//! code makes the steps. Nothing here makes a step.
+//! Laws of all steps and runs, whatever code makes them. From a sound state each step leads to a
+//! sound one. Nothing here makes a step.
+//!
+//! proved: each state of a run from a sound one is within the limit
+//! (`every_state_of_a_run_is_within_the_limit`)
 #![tactic(auto)]
 
 mod laws;

@@ -1,5 +1,9 @@
-//! The check of a recorded step: the machine's own deed, done again with what the outcome shows to
-//! have been chosen, and with pools that repeat the recorded answer. There is no second machine.
+//! The check of a recorded step. The machine's own deed is done again with what the outcome shows
+//! to have been chosen, and with pools that repeat the recorded answer. There is no second
+//! machine.
+//!
+//! proved: a recorded step is accepted if and only if the machine has it (`accepts`)
+//! tested: altered books
 #![tactic(auto)]
 
 mod course;

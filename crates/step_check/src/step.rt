@@ -77,6 +77,9 @@ fn redo_replacement(machine: &mut Machine, replacement: &PoolChange, outcome: &O
 /// Does a recorded step again, if the machine has one of this change with this outcome from that
 /// state: then it returns true, and the snapshot is the state after it. Else it returns false, and
 /// the snapshot is as it was.
+///
+/// promise recorded-step-is-checked: A recorded step is accepted if and only if the machine has it
+/// from the snapshot, which then is the state after it, and else stays (`Accepts`).
 pub fn accepts(
     snapshot: &mut Snapshot,
     change: &Change,
@@ -97,6 +100,8 @@ pub fn accepts(
 
 /// Whether the snapshot is the state of the zone: its tables, what it keeps, its clock and
 /// counters, and the figures of its pools. This takes no memory.
+///
+/// promise snapshot-is-compared: Whether a snapshot is the state of a zone is told exactly.
 pub fn same<P: Pool>(snapshot: &Snapshot, zone: &Zone<P>) -> bool
     ensures { IsTrue result ↔ (snapshot.now ≡ zone.now.state) }
 {

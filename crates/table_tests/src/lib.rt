@@ -1,4 +1,4 @@
-//! Tests of the zone's tables, and of what is due by them, over their public calls. They stand
+//! Tests of the zone's tables, and of what is due by them. They stand
 //! above the tables, so that none of these needs to be proved once more for them.
 #![tactic(auto)]
 

@@ -1,5 +1,5 @@
-//! Changes of the tables that ask for no memory. Each test sets two marks, and `./try-memory` counts
-//! what is asked for between them.
+//! Changes of the tables that ask for no memory. Each test sets two marks, and `tools/try-memory`
+//! counts what is asked for between them.
 
 use crate::fixtures::{address, endpoint, kept_reply, no_alias, request_octets, seq};
 use admission::{CallFault, Calls, Leg};

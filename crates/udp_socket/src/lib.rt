@@ -1,5 +1,8 @@
-//! A UDP socket over IPv4, bound to the address of a zone, with the ends by which a server receives
-//! and sends over it.
+//! A UDP socket, and the ends over it. It is bound to the address of a zone, over IPv4; by its
+//! ends a server receives and sends.
+//!
+//! proved: each failed call is counted once (`SocketEnd`)
+//! tested: a discovery over a socket
 #![tactic(auto)]
 
 mod addresses;

@@ -1,4 +1,6 @@
-//! The texts of values: whole numbers, names, addresses, networks and the kinds of pools.
+//! Texts of whole numbers, names, addresses, networks and the kinds of pools.
+//!
+//! proved: exactly what a text says, or None (`number_of`)
 #![tactic(auto)]
 
 mod address;

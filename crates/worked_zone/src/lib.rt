@@ -1,5 +1,5 @@
-//! The zone of the worked examples, which the tests of several crates share: named gk, at 10.0.0.1,
-//! port 1719, over one pool of 2,500 units, which serves all addresses.
+//! The zone of the worked examples, which tests share. It is named gk, at 10.0.0.1, port 1719,
+//! over one pool of 2,500 units, which serves all addresses.
 #![tactic(auto)]
 
 use pools::{FixedPool, PoolSet};

@@ -180,6 +180,10 @@ impl Config {
     /// the fault names the first key, in the order of the fields, whose number is out of range, and
     /// after the keys a network with too many bits. If there is none of these, the fault is that
     /// there is no default pool.
+    ///
+    /// promise settings-are-in-range: Settings are accepted if and only if all are in their ranges
+    /// and there is a default pool; else the first key out of range, or the missing pool, is named
+    /// (`IsConfigAnswer`, `range_fault`).
     pub fn new(parts: ConfigParts) -> Result<Self, ConfigFault>
         ensures { IsConfigAnswer parts result }
     {

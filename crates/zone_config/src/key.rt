@@ -159,6 +159,9 @@ impl Key {
     }
 
     /// Whether the number lies in its range.
+    ///
+    /// promise keys-stand-in-one-table: A key takes the numbers of its range; name, range and
+    /// default stand in one table (`takes`, `row_of`).
     pub fn takes(self, number: u64) -> bool
         ensures { result ≡ takes self number }
     {

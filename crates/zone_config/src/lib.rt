@@ -1,5 +1,7 @@
-//! What is set for a zone: its name and address, its limits and times, and the networks of its
-//! pools. Nothing here reads a clock: moments are numbers that are handed in.
+//! What is set for a zone, and moments. A zone has a name and an address, limits and times, and
+//! the networks of its pools. Nothing here reads a clock: moments are numbers that are handed in.
+//!
+//! proved: settings are in their ranges, with a default pool (`Config::new`)
 #![tactic(auto)]
 
 mod config;

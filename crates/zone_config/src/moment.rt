@@ -27,6 +27,8 @@ impl Moment {
     pub const START: Moment = Moment { milliseconds: 0 };
 
     /// The moment after this many milliseconds. None if and only if they are 2^53 or more.
+    ///
+    /// promise moments-are-bounded: A moment is accepted if and only if it is below 2^53.
     pub fn new(milliseconds: u64) -> Option<Self>
         ensures { SomeIff result (milliseconds < 2 ^ 53) milliseconds }
     {

@@ -92,6 +92,9 @@ impl Networks {
     }
 
     /// The place of the first pool that serves the address.
+    ///
+    /// promise first-network-gives-the-pool: The pool of an address is the first without a network
+    /// or whose network holds it (`pool_of`).
     pub fn pool_of(&self, ip: [u8; 4]) -> usize
         ensures { result ≡ pool_of self.now ip }
     {

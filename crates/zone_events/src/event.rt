@@ -18,6 +18,9 @@ pub enum Event {
 
 impl Event {
     /// The moment of the event.
+    ///
+    /// promise event-has-its-moment: An event has its moment, as a change of a pool has
+    /// (`moment_in`, `moment_of_change`).
     pub fn moment(&self) -> Moment
         ensures { result ≡ moment_in self.now }
     {

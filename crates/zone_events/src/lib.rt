@@ -1,6 +1,7 @@
-//! What comes to a gatekeeper and what it does in return, as values: events, changes of pools,
-//! outcomes, and what can be due. Code that only carries them, such as a script or a queue of
-//! replies, need not know the machine.
+//! Events, changes of pools, outcomes, and what can be due, as values. Code that only carries
+//! them, such as a script or a queue of replies, need not know the machine.
+//!
+//! proved: each event has its moment (`Event::moment`)
 #![tactic(auto)]
 
 mod change;

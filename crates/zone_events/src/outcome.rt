@@ -92,6 +92,9 @@ pub struct Outcome {
 
 impl Outcome {
     /// The outcome of a step in which no request was served.
+    ///
+    /// promise noted-outcome-has-nothing-else: Such an outcome has its note and what is sent, and
+    /// nothing else (`noted_outcome`).
     pub fn noted(note: Note, output: Option<Datagram>) -> Self
         ensures { result ≡ noted_outcome note output }
     {

@@ -1,6 +1,9 @@
-//! The tables of a gatekeeper's zone (ITU-T H.323): its endpoints with their aliases, its calls
-//! with the pools that lend them their bandwidth, and its settings. Each change of them is made as
-//! a whole or not at all.
+//! The tables of a zone, changed as a whole or not at all. They have its endpoints with their
+//! aliases, its calls with the pools that lend them their bandwidth, and its settings (ITU-T
+//! H.323).
+//!
+//! proved: a change, and a pool's answer, leave the tables as defined, or as they were
+//! (`ZoneTables::apply`, `request_units`)
 #![tactic(auto)]
 
 mod bandwidth;

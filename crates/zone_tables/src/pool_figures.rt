@@ -102,6 +102,9 @@ impl PoolFigures {
 
     /// Whether a fresh pool that is offered with these figures may take the place of pool i. `i`
     /// may be any number.
+    ///
+    /// promise replacement-is-told-beforehand: A fresh pool may replace one if and only if there is
+    /// one, it is idle, and its limit is enough (`MayReplace`).
     pub fn may_replace(&self, i: usize, offered: Figures) -> bool
         ensures { IsTrue result ↔ MayReplace self.now i offered }
     {

@@ -101,6 +101,9 @@ impl ZoneTables {
     }
 
     /// The same settings, endpoints and calls, in tables of their own.
+    ///
+    /// promise table-copy-has-the-same: A copy has what the tables have; likewise copies of its
+    /// parts, and of machines.
     pub fn copy(&self) -> Result<Self, AllocError>
         ensures { IfOk result (λ copy. copy ≡ self.now) }
     {
@@ -113,6 +116,9 @@ impl ZoneTables {
 
     /// Whether the other tables have the same settings, endpoints, calls and figures. This takes no
     /// memory.
+    ///
+    /// promise same-tables-are-told: Whether two have the same is told exactly, without memory;
+    /// likewise of its parts, and of machines.
     pub fn is_same(&self, other: &Self) -> bool
         ensures { IsTrue result ↔ (self.now ≡ other.now) }
     {
@@ -147,6 +153,8 @@ impl ZoneTables {
     }
 
     /// The registered endpoints.
+    ///
+    /// promise tables-are-sound: The tables are sound, as after each change (`SoundTables`).
     pub fn registrations(&self) -> &Registrations
         ensures live { result.now.live ≡ self.now.live }
         ensures sound { SoundTables self.now }
@@ -193,6 +201,10 @@ impl ZoneTables {
     /// Makes a change of a request that names this endpoint, if it names one. Memory is asked for
     /// only if something is entered for the first time, or an endpoint registers anew, and before
     /// anything changes.
+    ///
+    /// promise changes-are-whole-or-none: A change leaves the tables as defined or, if refused, as
+    /// they were; only opening a call or registering in full can want memory (`after_change`,
+    /// `TakesMemory`).
     pub fn apply(
         &mut self,
         now: Moment,
@@ -259,6 +271,10 @@ impl ZoneTables {
     /// Requests units of a pool, once, for a call of an endpoint. If enough units are lent, the
     /// call opens with them, or gets them if it is open. The memory is there before the pool is
     /// asked.
+    ///
+    /// promise units-follow-the-answer: Whoever lends is asked once, after all memory is there; a
+    /// loan below the least goes back in the same step (`units_requested`, `grant_of`,
+    /// `pools_after_answer`).
     pub fn request_units<L: Lender>(
         &mut self,
         endpoint: &EndpointId,
@@ -294,6 +310,9 @@ impl ZoneTables {
 
     /// Notes that a fresh pool, which was offered with these figures, took the place of a pool and
     /// took over its loans.
+    ///
+    /// promise replaced-figures-keep-the-loans: The fresh figures stand there with the old loans,
+    /// and nothing else changes (`pools_after_replacing`).
     pub fn replace_pool(&mut self, pool: usize, offered: Figures)
         requires { MayReplace self.old.pools pool offered }
         ensures tables { self.new ≡ record self.old {
@@ -318,6 +337,9 @@ impl ZoneTables {
     }
 
     /// Removes a registration, with the endpoint's legs.
+    ///
+    /// promise registration-ends-with-its-legs: A registration that ends takes its legs along, and
+    /// calls without a leg give their units back (`without_endpoint`).
     pub fn lapse(&mut self, id: &EndpointId)
         ensures tables { self.new ≡ without_endpoint self.old id.now }
         ensures sound { SoundTables self.new }
@@ -328,6 +350,9 @@ impl ZoneTables {
     }
 
     /// Removes the legs of a silent endpoint, which stays registered.
+    ///
+    /// promise silent-endpoint-loses-its-legs: A silent endpoint loses its legs, and stays
+    /// registered (`without_silent`).
     pub fn silence(&mut self, id: &EndpointId)
         ensures tables { self.new ≡ without_silent self.old id.now }
         ensures sound { SoundTables self.new }
@@ -350,6 +375,9 @@ impl ZoneTables {
 
     /// An item that is due of an endpoint in a call, any such item: the endpoint is asked for a
     /// sign of life, or counts as silent. None if there is none.
+    ///
+    /// promise due-endpoint-is-told: An item is told that is due of an endpoint; None if and only
+    /// if nothing is (`IsEndpointItem`, `IsNoEndpointDue`).
     pub fn endpoint_due(&self, now: Moment) -> Option<DueItem>
         ensures { MatchOption result
             (IsNoEndpointDue now (times_of self.now.config) self.now.live self.now.calls)

@@ -1,4 +1,4 @@
-//! Tests of the zone over its public calls: worked examples, octet for octet. They stand above
+//! Tests of the zone, octet for octet, with pools that count their calls. They stand above
 //! `ras_core`, so that the zone needn't be proved once more for them.
 #![tactic(auto)]
 
