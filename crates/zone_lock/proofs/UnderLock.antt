@@ -1,7 +1,7 @@
 -- What is told of the zone that was locked.
 use Rattle.std.proofs.Common.{◌≡◌, ◌+◌, ℕ, [], ◌∷◌, ◌++◌}
 use Rattle.std.proofs.Common.{length, ap, subst, Ok, Err, IfOk}
-use Rattle.std.specs.Prelude.{Result, None, Some, IfErr, MatchResult, ◌↔◌}
+use Rattle.std.specs.Prelude.{All, List, Result, None, Some, IfErr, MatchResult, ◌↔◌}
 use Rattle.pools.specs.Account.{Account}
 use Rattle.pools.specs.declared.fault.ReplaceFault.{ReplaceFault}
 use Rattle.zone_events.specs.declared.change.Change.{Change}
@@ -20,6 +20,10 @@ use Rattle.zone_lock.specs.Held.{IsRefusedUnderLock, IsReplacedUnderLock, IsStep
 use Rattle.zone_lock.specs.Held.{IsWithoutBase, entry_by, receipt_at}
 use Rattle.zone_lock.specs.Listings.{IsListing, IsListingUnderLock}
 use Rattle.zone_lock.specs.Seats.{Seated}
+use Rattle.zone_lock.specs.Views.{IsCallRow, IsCallUnderLock, IsEndpointRow}
+use Rattle.zone_lock.specs.Views.{IsEndpointUnderLock}
+use Rattle.zone_view.specs.declared.rows.CallRow.{CallRow}
+use Rattle.zone_view.specs.declared.rows.EndpointRow.{EndpointRow}
 
 -- a step of the zone that was locked is one of some sound zone
 pub step_under_lock : (opened : State) (r : Result Receipt StepFault) (old new : Held) (s : Seated)
@@ -145,3 +149,24 @@ module _ {P : Type 0} (account : P → Account) (opened : State) where
   refused_under_lock (Ok done) h pool fresh kept refusal = tt
   refused_under_lock (Err refused) h pool fresh kept refusal =
       record { held = h; kept = kept; refusal = refusal }
+
+-- what holds of each holds of it in other words
+pub each_in_other_words : {T : Type 0} (P Q : T → Type 0) → ((x : T) → P x → Q x) → (xs : List T)
+    → All P xs → All Q xs
+each_in_other_words P Q words [] each = each
+each_in_other_words P Q words (x ∷ xs) each =
+    (words x each.0, each_in_other_words P Q words xs each.1)
+
+-- rows of what stood behind the lock are rows of some of it
+pub endpoints_under_lock : (opened : State) (held : Held) (rows : List EndpointRow)
+    → IsKept opened held → All (IsEndpointRow held.zone.state.tables) rows
+    → All (IsEndpointUnderLock opened) rows
+endpoints_under_lock opened held rows kept each =
+    each_in_other_words (IsEndpointRow held.zone.state.tables) (IsEndpointUnderLock opened)
+    (λ row is. record { held = held; kept = kept; row_is = is }) rows each
+
+pub calls_under_lock : (opened : State) (held : Held) (rows : List CallRow) → IsKept opened held
+    → All (IsCallRow held.zone.state.tables) rows → All (IsCallUnderLock opened) rows
+calls_under_lock opened held rows kept each =
+    each_in_other_words (IsCallRow held.zone.state.tables) (IsCallUnderLock opened)
+    (λ row is. record { held = held; kept = kept; row_is = is }) rows each

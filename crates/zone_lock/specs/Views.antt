@@ -26,7 +26,7 @@ pub record AreFigures (s : State) (f : ZoneFigures) (pools : List Figures) : Typ
   pub in_use : f.in_use ≡ in_use s.tables.calls
   pub limit : f.limit ≡ s.tables.config.limit
   pub within : f.in_use ≤ f.limit
-  pub pools : pools ≡ s.tables.pools
+  pub pools_are : pools ≡ s.tables.pools
 
 -- the row of an endpoint that takes part in this many calls
 abbrev pub endpoint_row : Registration → ℕ → EndpointRow
@@ -45,7 +45,7 @@ endpoint_row registration legs = record {
 pub record IsEndpointRow (tables : Tables) (row : EndpointRow) : Type 0 where
   pub registration : Registration
   pub live : map.get tables.live row.identifier ≡ Some registration
-  pub row : row ≡ endpoint_row registration (legs_of tables.calls row.identifier)
+  pub row_is : row ≡ endpoint_row registration (legs_of tables.calls row.identifier)
 
 -- the endpoint that was admitted first to a call with these legs
 abbrev pub first_of : List Leg → List ℕ
@@ -72,7 +72,7 @@ call_row key call = record {
 pub record IsCallRow (tables : Tables) (row : CallRow) : Type 0 where
   pub call : Call
   pub is_open : map.get tables.calls row.key ≡ Some call
-  pub row : row ≡ call_row row.key call
+  pub row_is : row ≡ call_row row.key call
 
 -- What follows is told of what stood behind the lock of a zone, which was locked in this state.
 
@@ -88,7 +88,7 @@ pub record AreEndpointsUnderLock (opened : State) (place : ℕ) (rows : List End
     : Type 0 where
   pub held : Held
   pub kept : IsKept opened held
-  pub rows : All (IsEndpointRow held.zone.state.tables) rows
+  pub each : All (IsEndpointRow held.zone.state.tables) rows
   pub count : length rows + next ≡ min place (map.len held.zone.state.tables.live)
 
 -- the same of calls
@@ -96,15 +96,15 @@ pub record AreCallsUnderLock (opened : State) (place : ℕ) (rows : List CallRow
   where
     pub held : Held
     pub kept : IsKept opened held
-    pub rows : All (IsCallRow held.zone.state.tables) rows
+    pub each : All (IsCallRow held.zone.state.tables) rows
     pub count : length rows + next ≡ min place (map.len held.zone.state.tables.calls)
 
 pub record IsEndpointUnderLock (opened : State) (row : EndpointRow) : Type 0 where
   pub held : Held
   pub kept : IsKept opened held
-  pub row : IsEndpointRow held.zone.state.tables row
+  pub row_is : IsEndpointRow held.zone.state.tables row
 
 pub record IsCallUnderLock (opened : State) (row : CallRow) : Type 0 where
   pub held : Held
   pub kept : IsKept opened held
-  pub row : IsCallRow held.zone.state.tables row
+  pub row_is : IsCallRow held.zone.state.tables row

@@ -43,7 +43,7 @@ fn figures_of_zone<P: Pool>(zone: &Zone<P>, pools: &mut Vec<Figures>) -> ZoneFig
     let tables = machine.tables();
     pools.extend_from_slice(tables.pools().as_slice()).unwrap();
     ZoneFigures {
-        clock: machine.clock().get(),
+        clock: machine.clock().milliseconds(),
         steps: machine.steps(),
         endpoints: tables.registrations().len(),
         calls: tables.calls().len(),
