@@ -155,7 +155,7 @@ impl Calls {
     /// has one number, as long as the table isn't changed.
     pub fn nth(&self, i: usize) -> Option<(&CallKey, &Call)>
         ensures some { IsSome result ↔ (i < map.len self.now.calls) }
-        ensures open { IfSome result (λ it. map.get self.now.calls it.0.now ≡ Some it.1.now) }
+        ensures call { IfSome result (λ it. map.get self.now.calls it.0.now ≡ Some it.1.now) }
         ensures sound { IsConsistent self.now }
     {
         self.calls.get_index(i)

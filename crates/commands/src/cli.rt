@@ -152,6 +152,10 @@ the line, the column and the reason), or by the first key that fails:
   settings: 4 OutOfRange KEY   it is out of its range, or is no address, network or kind of pool
   settings: 5 NoDefaultPool    there is no pool, or the last one has a network
 
+If the key serve.status has an address, as in status = \"127.0.0.1:8719\", it also serves a page
+there, over HTTP, that tells what it does: endpoints, calls, bandwidth, counts; with metrics under
+/metrics, and the same for programs under /zone.json, /endpoints.json and /calls.json.
+
 It ends in good order at SIGTERM or SIGINT, if it was started with these blocked, as
 `./gatekeeper` starts it, or once each receiving thread has received N times. Then it prints
 how many datagrams and turns of the timers there were; how many replies were sent, and how many
@@ -159,8 +163,8 @@ were dropped, since too many of them waited; how many steps were refused for wan
 and how many receives and sends failed.
 
 Exit status: 0 done, 1 the settings were refused, 2 wrong words on the command line, 3 out of
-memory, 4 the address can't be bound (`bind failed`, behind a line of the log with the cause), or
-a standard stream failed.";
+memory, 4 an address can't be bound (`bind failed`, behind a line of the log with the cause), or a
+standard stream failed.";
 
 fn replay_command<'a>(alloc: Global) -> Command<'a> {
     Command::new(alloc, "replay")

@@ -5,7 +5,7 @@ use Rattle.settings.specs.ServeKeys as serve
 use Rattle.settings.specs.declared.setting_key.SettingKey.{SettingKey}
 use Rattle.settings.specs.declared.setting_key.SettingKey.TheVariants.{ZoneTable, Identifier}
 use Rattle.settings.specs.declared.setting_key.SettingKey.TheVariants.{Address, Zone, ServeTable}
-use Rattle.settings.specs.declared.setting_key.SettingKey.TheVariants.{Serve, Pools, PoolKind}
+use Rattle.settings.specs.declared.setting_key.SettingKey.TheVariants.{Serve, Status, Pools, PoolKind}
 use Rattle.settings.specs.declared.setting_key.SettingKey.TheVariants.{PoolLimit, PoolStep}
 use Rattle.settings.specs.declared.setting_key.SettingKey.TheVariants.{PoolBurst, PoolNetwork}
 
@@ -17,6 +17,7 @@ path_of Address = codes "zone.address"
 path_of (Zone key) = zone.path_of key
 path_of ServeTable = codes "serve"
 path_of (Serve key) = serve.path_of key
+path_of Status = codes "serve.status"
 path_of Pools = codes "pool"
 path_of PoolKind = codes "pool.kind"
 path_of PoolLimit = codes "pool.limit"

@@ -11,7 +11,7 @@ use Rattle.settings.specs.declared.fault.Refusal.{Refusal}
 use Rattle.settings.specs.declared.fault.Refusal.TheVariants as refused
 use Rattle.settings.specs.declared.fault.SettingsFault.{SettingsFault}
 use Rattle.settings.specs.declared.fault.SettingsFault.TheVariants.{Syntax, Memory}
-use Rattle.settings.specs.declared.serve.ServeNumbers.{ServeNumbers}
+use Rattle.settings.specs.declared.serve.ServeParts.{ServeParts}
 use Rattle.settings.specs.declared.serve_key.ServeKey.{ServeKey}
 use Rattle.settings.specs.declared.serve_key.ServeKey.TheVariants.{Receivers, Ring, Faults, Tick}
 use Rattle.settings.specs.declared.serve_key.ServeKey.TheVariants.{Buffer}
@@ -36,7 +36,7 @@ abbrev pub config_with : ConfigParts → List (Option Network) → Option Config
 config_with parts networks =
     if has_default networks then Some (record parts { networks = networks }) else None
 
-abbrev pub settings_from : Option ConfigParts → ServeNumbers → List PoolEntry
+abbrev pub settings_from : Option ConfigParts → ServeParts → List PoolEntry
     → Result Settings Refusal
 settings_from None serve pools = Err refused.NoDefaultPool
 settings_from (Some config) serve pools = Ok (record {
@@ -47,9 +47,10 @@ settings_from (Some config) serve pools = Ok (record {
   faults = serve.faults;
   tick = serve.tick;
   buffer = serve.buffer;
+  status = serve.status;
 })
 
-abbrev pub settings_with : ConfigParts → ServeNumbers → List PoolEntry → Result Settings Refusal
+abbrev pub settings_with : ConfigParts → ServeParts → List PoolEntry → Result Settings Refusal
 settings_with parts serve pools =
     settings_from (config_with parts (map (λ p. p.1) pools)) serve pools
 

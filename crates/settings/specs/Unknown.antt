@@ -21,7 +21,7 @@ abbrev pub known_keys : List SettingKey
 known_keys =
     (key.ZoneTable ∷ key.Identifier ∷ key.Address ∷ []) ++ map (λ k. key.Zone k) all_keys
     ++ key.ServeTable ∷ [] ++ map (λ k. key.Serve k) all_serve_keys
-    ++ (key.Pools ∷ key.PoolKind ∷ key.PoolLimit ∷ key.PoolStep ∷ key.PoolBurst
+    ++ (key.Status ∷ key.Pools ∷ key.PoolKind ∷ key.PoolLimit ∷ key.PoolStep ∷ key.PoolBurst
     ∷ key.PoolNetwork ∷ [])
 
 -- no known key has a dot in its name, which a quoted one may have

@@ -55,6 +55,14 @@ text_in key reading value = do
   text ← of_kind key (as_str value)
   in_range key (reading text)
 
+-- one that need not be there
+abbrev pub optional_text : {A : Type 0} → SettingKey → (List ℕ → Option A) → Option Data
+    → Result (Option A) Refusal
+optional_text key reading (Some value) = do
+  read ← text_in key reading value
+  Ok (Some read)
+optional_text key reading None = Ok None
+
 abbrev pub required_text : {A : Type 0} → SettingKey → (List ℕ → Option A) → Option Data
     → Result A Refusal
 required_text key reading value = do

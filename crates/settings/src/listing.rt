@@ -34,15 +34,15 @@ fn write_identifier<W: Write>(identifier: &Name, out: &mut W) -> io::Result<()> 
     out.write_all(b"\"\n")
 }
 
-fn write_address<W: Write>(address: &Address, out: &mut W) -> io::Result<()> {
+fn write_address<W: Write>(path: &str, address: &Address, out: &mut W) -> io::Result<()> {
     let [a, b, c, d] = address.ip;
-    writeln!(out, "zone.address = \"{a}.{b}.{c}.{d}:{}\"", address.port)
+    writeln!(out, "{path} = \"{a}.{b}.{c}.{d}:{}\"", address.port)
 }
 
 fn write_zone<W: Write>(settings: &Settings, out: &mut W) -> io::Result<()> {
     let parts = settings.config.parts();
     write_identifier(&parts.identifier, out)?;
-    write_address(&parts.address, out)?;
+    write_address("zone.address", &parts.address, out)?;
     for key in Key::ALL {
         write_number(key.path(), key.get(parts), key.default(), out)?;
     }
@@ -53,7 +53,10 @@ fn write_serve<W: Write>(settings: &Settings, out: &mut W) -> io::Result<()> {
     for key in ServeKey::ALL {
         write_number(key.path(), settings.get(key), key.default(), out)?;
     }
-    Ok(())
+    match &settings.status {
+        Some(address) => write_address("serve.status", address, out),
+        None => Ok(()),
+    }
 }
 
 fn write_pool<W: Write>(spec: &PoolSpec, out: &mut W) -> io::Result<()> {

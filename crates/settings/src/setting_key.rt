@@ -21,6 +21,8 @@ pub(crate) enum SettingKey {
     ServeTable,
     /// A whole number of the server.
     Serve(ServeKey),
+    /// The address of the status page.
+    Status,
     /// The tables `[[pool]]`.
     Pools,
     /// The kind of a pool.
@@ -37,7 +39,7 @@ pub(crate) enum SettingKey {
 
 impl SettingKey {
     /// The tables and keys, in the order in which they are tested.
-    pub(crate) const ALL: [SettingKey; 29] = [
+    pub(crate) const ALL: [SettingKey; 30] = [
         SettingKey::ZoneTable,
         SettingKey::Identifier,
         SettingKey::Address,
@@ -61,6 +63,7 @@ impl SettingKey {
         SettingKey::Serve(ServeKey::Faults),
         SettingKey::Serve(ServeKey::Tick),
         SettingKey::Serve(ServeKey::Buffer),
+        SettingKey::Status,
         SettingKey::Pools,
         SettingKey::PoolKind,
         SettingKey::PoolLimit,
@@ -80,6 +83,7 @@ impl SettingKey {
             SettingKey::Zone(key) => key.path(),
             SettingKey::ServeTable => "serve",
             SettingKey::Serve(key) => key.path(),
+            SettingKey::Status => "serve.status",
             SettingKey::Pools => "pool",
             SettingKey::PoolKind => "pool.kind",
             SettingKey::PoolLimit => "pool.limit",

@@ -12,12 +12,13 @@ ghost use Rattle.settings.specs.Settings.{serve_number_in, settings_of, settings
 
 use crate::fault::{Refusal, SettingsFault, SyntaxError, fault_of};
 use crate::pool::{PoolTable, networks_of, pools_of, specs_of};
-use crate::serve::{ServeNumbers, serve_of};
+use crate::serve::{ServeParts, serve_of};
 use crate::serve_key::ServeKey;
 use crate::setting_key::SettingKey;
 use crate::value::member;
 use crate::zone::zone_of;
 use pools::PoolSpecs;
+use ras_module::Address;
 use std::alloc::Global;
 use toml::Table;
 use zone_config::{Config, ConfigFault, ConfigParts, Networks};
@@ -40,6 +41,8 @@ pub struct Settings {
     /// How many octets of datagrams that aren't received yet the system is asked to hold: 1 to
     /// 1073741823, or 0 for as many as it holds by itself.
     pub buffer: u64,
+    /// Where the status page is served; None if it isn't.
+    pub status: Option<Address>,
 }
 
 impl Settings {
@@ -88,7 +91,7 @@ fn config_with(mut parts: ConfigParts, networks: Networks) -> Option<Config>
 fn settings_with(
     alloc: Global,
     parts: ConfigParts,
-    serve: ServeNumbers,
+    serve: ServeParts,
     pools: &[PoolTable],
 ) -> Result<Settings, Refusal>
     requires zone { HasNumbersInRange parts }
@@ -112,6 +115,7 @@ fn settings_with(
         faults: serve.faults,
         tick: serve.tick,
         buffer: serve.buffer,
+        status: serve.status,
     })
 }
 

@@ -3,11 +3,15 @@
 ghost use Rattle.std.specs.Prelude.{◌≡◌, ◌≤◌, IfOk, option_map};
 ghost use Rattle.toml.specs.Data.{get_member};
 ghost use Rattle.toml.specs.View.{table_view, view};
-ghost use Rattle.settings.specs.Values.{number_in, number_or, required_number, whole_number};
+ghost use Rattle.settings.specs.Values.{number_in, number_or, required_number, text_in};
+ghost use Rattle.settings.specs.Values.{whole_number};
+ghost use Rattle.value_texts.specs.Texts as texts;
 
 use crate::fault::Refusal;
 use crate::setting_key::SettingKey;
+use ras_module::Address;
 use toml::{Table, Value};
+use value_texts::address_of;
 
 /// What stands under a name in a table.
 pub(crate) fn member<'a>(table: &'a Table, name: &str) -> Option<&'a Value>
@@ -83,5 +87,15 @@ pub(crate) fn number_or(
     match member(table, name) {
         Some(value) => number_in(key, least, most, value),
         None => Ok(default),
+    }
+}
+
+/// The address that this value is.
+pub(crate) fn address_in(key: SettingKey, value: &Value) -> Result<Address, Refusal>
+    ensures { result ≡ text_in key texts.address_of (view value.now) }
+{
+    match value.as_str() {
+        Some(text) => address_of(text.as_bytes()).ok_or(Refusal::OutOfRange(key)),
+        None => Err(Refusal::WrongKind(key)),
     }
 }

@@ -13,11 +13,11 @@ ghost use Rattle.settings.specs.Zones.{with_numbers, zone_number, zone_of};
 
 use crate::fault::Refusal;
 use crate::setting_key::SettingKey;
-use crate::value::{member, number_or};
+use crate::value::{address_in, member, number_or};
 use ras_module::Name;
 use std::alloc::Global;
 use toml::{Table, Value};
-use value_texts::{address_of, name_of};
+use value_texts::name_of;
 use zone_config::{ConfigParts, Key, Networks};
 
 fn identifier_in(value: &Value) -> Result<Name, Refusal>
@@ -41,23 +41,12 @@ fn identifier_of(zone: &Table) -> Result<Name, Refusal>
     }
 }
 
-fn address_in(value: &Value) -> Result<ras_module::Address, Refusal>
-    ensures { result ≡ text_in Address texts.address_of (view value.now) }
-{
-    match value.as_str() {
-        Some(text) => {
-            address_of(text.as_bytes()).ok_or(Refusal::OutOfRange(SettingKey::Address))
-        }
-        None => Err(Refusal::WrongKind(SettingKey::Address)),
-    }
-}
-
 fn ras_address_of(zone: &Table) -> Result<ras_module::Address, Refusal>
     ensures { result ≡ required_text Address texts.address_of
         (get_member (codes "address") (table_view zone.now)) }
 {
     match member(zone, "address") {
-        Some(value) => address_in(value),
+        Some(value) => address_in(SettingKey::Address, value),
         None => Err(Refusal::Missing(SettingKey::Address)),
     }
 }

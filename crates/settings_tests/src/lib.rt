@@ -11,4 +11,6 @@ mod numbers;
 #[cfg(test)]
 mod reading;
 #[cfg(test)]
+mod status;
+#[cfg(test)]
 mod unknown;

@@ -15,6 +15,7 @@ use Rattle.zone_lock.specs.Seats.{Seated, seated_after}
 use Rattle.zone_lock.specs.Turns.{AreTurnsUnderLock}
 use Rattle.zone_lock.specs.declared.turns.TurnsEnd.{TurnsEnd}
 use Rattle.zone_lock.specs.declared.turns.TurnsEnd.TheVariants as turns_end
+use Rattle.zone_view.specs.Counts.{no_counts}
 use Rattle.reply_queues.specs.Rings.{datagrams_put, free_places}
 use Rattle.reply_queues.specs.declared.outlet.Outlet.{Outlet}
 use Rattle.udp_server.specs.declared.datagrams.DeviceFault.{DeviceFault}
@@ -104,7 +105,8 @@ pub record AreTurnsServed (opened : State) (tells : ℕ → Type 0) (most : ℕ)
   pub sent : List Datagram
   pub seat_then : Seated
   pub told : tells moment
-  pub turns : AreTurnsUnderLock opened old.seat moment most sent why seat_then
+  pub counts : List ℕ
+  pub turns : AreTurnsUnderLock opened old.seat moment most sent why seat_then no_counts counts
   pub handed_on : AreHandedOn sent
       (record old { seat = seat_then; refused = refused_after why old.refused }) new
 

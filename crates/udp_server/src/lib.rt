@@ -16,8 +16,11 @@ mod receiver;
 mod report;
 mod sender;
 mod server;
+mod tally;
 mod threads;
 mod unrecorded;
+mod view;
+mod watcher;
 mod worker;
 
 pub use datagrams::{Datagrams, DeviceFault, MOST_RECEIVED, Received};
@@ -27,4 +30,5 @@ pub use moments::Moments;
 pub use orders::PoolOrder;
 pub use plan::Plan;
 pub use report::{Report, ServeFault};
-pub use server::{serve, serve_zone};
+pub use server::{serve, serve_watched, serve_zone, serve_zone_watched};
+pub use watcher::{NoWatcher, Watcher};

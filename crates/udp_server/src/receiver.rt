@@ -98,11 +98,13 @@ fn serve_next<
         (standing worker.old.seat worker.old.outlet worker.old.counts)
         (standing worker.new.seat worker.new.outlet worker.new.counts) }
 {
-    match receive_next(shared, receiver, worker) {
+    let goes_on = match receive_next(shared, receiver, worker) {
         Next::Event(event) => !matches!(worker.step(shared, event), StepResult::Closed),
         Next::Nothing => true,
         Next::End => false,
-    }
+    };
+    shared.show(worker.number, worker.counts);
+    goes_on
 }
 
 /// The same, with each step as an entry of the history.
@@ -156,11 +158,13 @@ fn serve_next_recorded<
         (standing worker.old.seat worker.old.outlet worker.old.counts)
         (standing worker.new.seat worker.new.outlet worker.new.counts) }
 {
-    match receive_next(shared, receiver, worker) {
+    let goes_on = match receive_next(shared, receiver, worker) {
         Next::Event(event) => !matches!(worker.step_recorded(shared, event), StepResult::Closed),
         Next::Nothing => true,
         Next::End => false,
-    }
+    };
+    shared.show(worker.number, worker.counts);
+    goes_on
 }
 
 /// Waits for a datagram.
@@ -194,6 +198,7 @@ fn receive_next<
         }
         Ok(Received::Datagram(source, length)) => {
             receiver.failed_in_a_row = 0;
+            shared.count_received(worker.number);
             let moment = worker.clock.now();
             match event_of(shared.alloc, source, &receiver.buffer[..length], moment) {
                 Ok(event) => Next::Event(event),

@@ -6,6 +6,7 @@ ghost use Rattle.udp_server.specs.Sending.{IsNextSent, IsSendCounted};
 
 use crate::board::Board;
 use crate::datagrams::{Datagrams, DeviceFault};
+use crate::tally::Tallies;
 use reply_queues::Inlet;
 use std::sync::Wait;
 use zone_events::Datagram;
@@ -28,6 +29,7 @@ pub(crate) struct SendCounts {
 pub(crate) fn send_all<R: Wait, N: Datagrams>(
     rt: &R,
     board: &Board,
+    tallies: &Tallies,
     workers: usize,
     inlets: Vec<Inlet>,
     end: N,
@@ -43,6 +45,7 @@ pub(crate) fn send_all<R: Wait, N: Datagrams>(
     let mut is_last = false;
     for _ in rt.forever() {
         if sender.has_sent(&mut inlets) {
+            tallies.show_sent(sender.sent);
             continue;
         }
         if is_last {

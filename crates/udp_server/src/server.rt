@@ -14,7 +14,9 @@ use crate::orders::{Orders, PoolOrder};
 use crate::plan::Plan;
 use crate::report::{Report, ServeFault};
 use crate::sender::SendCounts;
+use crate::tally::Tallies;
 use crate::threads::{Crew, CrewRecord, run};
+use crate::watcher::{NoWatcher, Watcher};
 use crate::worker::{Counts, Shared, Worker, WorkerRecord};
 use books::{Chapter, Finished, Receipt, totals_of};
 use pools::Pool;
@@ -62,6 +64,58 @@ pub fn serve<
     ensures wrong_counts { (result ≡ Err ServeFault.WrongCounts)
         ↔ ¬ AreCounts (vec_len seats) (vec_len receivers) (vec_len clocks) }
 {
+    serve_watched(
+        rt,
+        alloc,
+        lock,
+        seats,
+        receivers,
+        sender,
+        gate,
+        clocks,
+        orders,
+        plan,
+        None::<NoWatcher>,
+    )
+}
+
+/// Serves the zone of a lock until each receiving end has stopped. It takes all seats of the lock:
+/// one for each receiving end, in order, and the last one for the turns of the timers; and a clock
+/// for each seat. The worker of the timers carries out the orders, each once its clock has reached
+/// the order's moment, in their order: a fresh pool takes the place of one of the zone's, or comes
+/// back. What is refused is let go. One who looks at the server does so in one more thread, and is
+/// waited for at the end.
+pub fn serve_watched<
+    P: Pool + Send,
+    D: Hall + Send + Sync,
+    T: Ledger + Send + Sync,
+    U: Ledger + Send + Sync,
+    V: Ledger + Send + Sync,
+    R: Threads + Wait + Clock + Sync,
+    N: Datagrams + Send,
+    G: Gate + Sync,
+    C: Moments + Send,
+    W: Watcher + Send,
+>(
+    rt: &R,
+    alloc: Global,
+    lock: ZoneLock<P, D, T, U, V>,
+    seats: Vec<Seat<D, T, U, V>>,
+    receivers: Vec<N>,
+    sender: N,
+    gate: &G,
+    clocks: Vec<C>,
+    orders: Vec<PoolOrder<P>>,
+    plan: Plan,
+    watcher: Option<W>,
+) -> Result<Report<P>, ServeFault>
+    requires seats { (vec_len seats ≡ D.all) × (vec_len seats ≤ 16) }
+    requires plan { IsPlan plan }
+    ensures served { IfOk result (λ r. IsServed D.opened r.finished r.datagrams r.turns
+        r.changes) }
+    ensures wrong_counts { (result ≡ Err ServeFault.WrongCounts)
+        ↔ ¬ AreCounts (vec_len seats) (vec_len receivers) (vec_len clocks) }
+{
     let count = seats.len();
     if receivers.len() >= count || receivers.len() + 1 != count || clocks.len() != count {
         return Err(ServeFault::WrongCounts);
@@ -77,6 +131,9 @@ pub fn serve<
         // made without a record.
         drop(lock.discard(rt, Vec::new(alloc)));
     }
+    let Ok(tallies) = Tallies::new(alloc, count) else {
+        return Err(ServeFault::Memory);
+    };
     let board = Board::new();
     let shared = Shared {
         rt,
@@ -84,9 +141,10 @@ pub fn serve<
         lock: &lock,
         board: &board,
         gate,
+        tallies: &tallies,
         plan,
     };
-    match run(&shared, crew, inlets, sender) {
+    match run(&shared, crew, inlets, sender, watcher) {
         Ok(record) => report_of(alloc, lock, record),
         Err(AllocError) => Err(ServeFault::Memory),
     }
@@ -270,13 +328,55 @@ pub fn serve_zone<
     ensures wrong_counts { (result ≡ Err ServeFault.WrongCounts)
         ↔ ¬ AreCountsOfEnds (vec_len receivers) (vec_len clocks) }
 {
+    serve_zone_watched(
+        rt,
+        alloc,
+        zone,
+        receivers,
+        sender,
+        gate,
+        clocks,
+        orders,
+        plan,
+        None::<NoWatcher>,
+    )
+}
+
+/// Puts a zone behind a lock and serves it: a seat for each receiving end, of which there are at
+/// most 15, and one for the turns of the timers. One who looks at the server does so in one more
+/// thread, and is waited for at the end.
+pub fn serve_zone_watched<
+    P: Pool + Send,
+    R: Threads + Wait + Clock + Sync,
+    N: Datagrams + Send,
+    G: Gate + Sync,
+    C: Moments + Send,
+    W: Watcher + Send,
+>(
+    rt: &R,
+    alloc: Global,
+    zone: Zone<P>,
+    receivers: Vec<N>,
+    sender: N,
+    gate: &G,
+    clocks: Vec<C>,
+    orders: Vec<PoolOrder<P>>,
+    plan: Plan,
+    watcher: Option<W>,
+) -> Result<Report<P>, ServeFault>
+    requires plan { IsPlan plan }
+    ensures served { IfOk result (λ r. IsServed zone.state r.finished r.datagrams r.turns
+        r.changes) }
+    ensures wrong_counts { (result ≡ Err ServeFault.WrongCounts)
+        ↔ ¬ AreCountsOfEnds (vec_len receivers) (vec_len clocks) }
+{
     if receivers.len() > 15 || clocks.len() != receivers.len() + 1 {
         return Err(ServeFault::WrongCounts);
     }
     let seats = receivers.len() + 1;
     let blanks = Blanks::new(seats);
-    open_and_serve::<P, Brand, Brand, Brand, Brand, R, N, G, C>(
-        rt, alloc, zone, seats, blanks, receivers, sender, gate, clocks, orders, plan,
+    open_and_serve::<P, Brand, Brand, Brand, Brand, R, N, G, C, W>(
+        rt, alloc, zone, seats, blanks, receivers, sender, gate, clocks, orders, plan, watcher,
     )
 }
 
@@ -291,6 +391,7 @@ fn open_and_serve<
     N: Datagrams + Send,
     G: Gate + Sync,
     C: Moments + Send,
+    W: Watcher + Send,
 >(
     rt: &R,
     alloc: Global,
@@ -303,6 +404,7 @@ fn open_and_serve<
     clocks: Vec<C>,
     orders: Vec<PoolOrder<P>>,
     plan: Plan,
+    watcher: Option<W>,
 ) -> Result<Report<P>, ServeFault>
     requires datagrams { (blanks.datagrams.name ≡ D.name)
         × (blanks.datagrams.parts ≡ D.parts) × (D.parts ≡ seats) }
@@ -321,8 +423,8 @@ fn open_and_serve<
     ensures counts { result ≢ Err ServeFault.WrongCounts }
 {
     match ZoneLock::<P, D, T, U, V>::open(alloc, zone, seats, blanks) {
-        Ok((lock, seats)) => serve(
-            rt, alloc, lock, seats, receivers, sender, gate, clocks, orders, plan,
+        Ok((lock, seats)) => serve_watched(
+            rt, alloc, lock, seats, receivers, sender, gate, clocks, orders, plan, watcher,
         ),
         Err((_, OpenFault::BadSeats)) => Err(ServeFault::WrongCounts),
         Err((_, OpenFault::Memory)) => Err(ServeFault::Memory),

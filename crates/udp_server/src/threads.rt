@@ -10,6 +10,8 @@ use crate::moments::Moments;
 use crate::orders::Orders;
 use crate::receiver::{work, work_recorded};
 use crate::sender::{SendCounts, send_all};
+use crate::view::View;
+use crate::watcher::Watcher;
 use crate::worker::{Shared, Worker, WorkerRecord};
 use pools::Pool;
 use reply_queues::Inlet;
@@ -48,7 +50,8 @@ pub(crate) struct CrewRecord<P: Pool, D: Hall, T: Ledger, U: Ledger, V: Ledger> 
     pub(crate) sent: SendCounts,
 }
 
-/// Runs the threads, the sender in this one, and joins them.
+/// Runs the threads, the sender in this one, and joins them; the one who looks at the server last,
+/// if there is one.
 pub(crate) fn run<
     P: Pool + Send,
     D: Hall + Send + Sync,
@@ -59,19 +62,21 @@ pub(crate) fn run<
     N: Datagrams + Send,
     G: Gate + Sync,
     C: Moments + Send,
+    W: Watcher + Send,
 >(
     shared: &Shared<'_, P, D, T, U, V, R, G>,
     crew: Crew<P, D, T, U, V, N, C>,
     inlets: Vec<Inlet>,
     sender: N,
+    watcher: Option<W>,
 ) -> Result<CrewRecord<P, D, T, U, V>, AllocError> {
     let record = thread::scope(
         thread::scope_env(),
         shared.rt,
         |scope| -> Option<CrewRecord<P, D, T, U, V>>
             requires { IsSend P.row × IsSend D.row × IsSend T.row × IsSend U.row × IsSend N.row
-                × IsSend C.row }
-        { run_in(scope, shared, crew, inlets, sender) },
+                × IsSend C.row × IsSend W.row }
+        { run_in(scope, shared, crew, inlets, sender, watcher) },
     );
     record.ok_or(AllocError)
 }
@@ -90,12 +95,14 @@ fn run_in<
     N: Datagrams + Send + 's,
     G: Gate + Sync + 's,
     C: Moments + Send + 's,
+    W: Watcher + Send + 's,
 >(
     scope: &'s Scope<'s, E>,
     shared: &'s Shared<'s, P, D, T, U, V, R, G>,
     crew: Crew<P, D, T, U, V, N, C>,
     inlets: Vec<Inlet>,
     sender: N,
+    watcher: Option<W>,
 ) -> Option<CrewRecord<P, D, T, U, V>> {
     let Crew {
         receivers,
@@ -118,12 +125,19 @@ fn run_in<
         shared.board.cancel(shared.rt);
         return None;
     };
-    shared.board.start(shared.rt);
     let all = others.saturating_add(1);
-    let sent = send_all(shared.rt, shared.board, all, inlets, sender);
+    let Ok(watching) = start_watcher(scope, shared, all, watcher) else {
+        shared.board.cancel(shared.rt);
+        return None;
+    };
+    shared.board.start(shared.rt);
+    let sent = send_all(shared.rt, shared.board, shared.tallies, all, inlets, sender);
     let mut records = join_all(shared.rt, handles, records);
     let ExpiryRecord { worker, boxes } = last.join(shared.rt);
     records.push_reserved(worker);
+    if let Some(handle) = watching {
+        handle.join(shared.rt);
+    }
     Some(CrewRecord {
         workers: records,
         boxes,
@@ -231,4 +245,48 @@ fn start_expiry<
     scope
         .spawn(move || expire(shared, others, worker, orders))
         .ok()
+}
+
+/// Starts the thread of one who looks at the server until this many workers have ended, if there is
+/// one. An error if no thread can be made.
+fn start_watcher<
+    's,
+    E,
+    P: Pool + Send + 's,
+    D: Hall + Send + Sync + 's,
+    T: Ledger + Send + Sync + 's,
+    U: Ledger + Send + Sync + 's,
+    V: Ledger + Send + Sync + 's,
+    R: Threads + Wait + Clock + Sync + 's,
+    G: Gate + Sync + 's,
+    W: Watcher + Send + 's,
+>(
+    scope: &'s Scope<'s, E>,
+    shared: &'s Shared<'s, P, D, T, U, V, R, G>,
+    workers: usize,
+    watcher: Option<W>,
+) -> Result<Option<JoinHandle<()>>, AllocError> {
+    let Some(watcher) = watcher else {
+        return Ok(None);
+    };
+    match scope.spawn(move || look(shared, workers, watcher)) {
+        Ok(handle) => Ok(Some(handle)),
+        Err(_) => Err(AllocError),
+    }
+}
+
+/// Looks at the server until this many workers have ended.
+fn look<P: Pool, D: Hall, T: Ledger, U: Ledger, V: Ledger, R: Wait, G: Gate, W: Watcher>(
+    shared: &Shared<'_, P, D, T, U, V, R, G>,
+    workers: usize,
+    watcher: W,
+) {
+    let view = View {
+        rt: shared.rt,
+        lock: shared.lock,
+        tallies: shared.tallies,
+        board: shared.board,
+        workers,
+    };
+    watcher.watch(&view);
 }

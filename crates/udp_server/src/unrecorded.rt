@@ -7,7 +7,7 @@ ghost use Rattle.udp_server.specs.Working.{refused_after, standing};
 
 use crate::gate::{Gate, Stage};
 use crate::moments::Moments;
-use crate::worker::{Counts, Shared, StepResult, Worker};
+use crate::worker::{Counts, Shared, StepResult, Worker, first_octet};
 use pools::Pool;
 use ras_core::{Event, StepFault, prepare};
 use std::sync::Wait;
@@ -44,6 +44,7 @@ impl<D: Hall, T: Ledger, U: Ledger, V: Ledger, C: Moments> Worker<D, T, U, V, C>
             (standing self.old.seat self.old.outlet self.old.counts)
             (standing self.new.seat self.new.outlet self.new.counts) }
     {
+        let first = first_octet(&event);
         let Ok(prepared) = prepare(shared.alloc, event) else {
             self.counts.refuse();
             return StepResult::Refused;
@@ -59,6 +60,7 @@ impl<D: Hall, T: Ledger, U: Ledger, V: Ledger, C: Moments> Worker<D, T, U, V, C>
             Err(StepFault::Closed) => return StepResult::Closed,
         }
         shared.gate.pass(self.number, Stage::AfterApply);
+        shared.count_step(self.number, first, &self.outcome);
         let reply = self.take_reply();
         self.hand_on(shared, reply);
         shared.gate.pass(self.number, Stage::AfterPost);
@@ -103,14 +105,34 @@ impl<D: Hall, T: Ledger, U: Ledger, V: Ledger, C: Moments> Worker<D, T, U, V, C>
         let moment = self.clock.now();
         shared.gate.pass(self.number, Stage::BeforeApply);
         let (seat, outcome) = (&mut self.seat, &mut self.outcome);
-        let end = shared
-            .lock
-            .turns(shared.rt, seat, moment, MOST_AT_ONCE, outcome, replies);
+        let mut counts = zone_view::Counts::none();
+        let end = shared.lock.turns(
+            shared.rt,
+            seat,
+            moment,
+            MOST_AT_ONCE,
+            outcome,
+            replies,
+            &mut counts,
+        );
         self.counts.count_end(end);
+        self.count_turns(shared, &counts);
         shared.gate.pass(self.number, Stage::AfterApply);
         self.post_all(shared, replies);
         shared.gate.pass(self.number, Stage::AfterPost);
         end
+    }
+
+    /// Counts turns, for those who look at the server, and shows what the worker counted.
+    fn count_turns<P: Pool, R, G>(
+        &self,
+        shared: &Shared<'_, P, D, T, U, V, R, G>,
+        counts: &zone_view::Counts,
+    ) {
+        if let Some(tally) = shared.tallies.of_worker(self.number) {
+            tally.count_steps(counts);
+            tally.show(self.counts);
+        }
     }
 
     /// Hands replies to the sender, in order. Those that find no place in the ring are dropped.

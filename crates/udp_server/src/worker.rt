@@ -11,6 +11,7 @@ use crate::board::Board;
 use crate::gate::{Gate, Stage};
 use crate::moments::Moments;
 use crate::plan::Plan;
+use crate::tally::Tallies;
 use books::{Chapter, Receipt};
 use pools::{Pool, ReplaceFault};
 use ras_core::{Event, Outcome, Prepared, StepFault, prepare};
@@ -22,6 +23,7 @@ use std::sync::ledger::Ledger;
 use zone_config::Moment;
 use zone_events::{Datagram, Note};
 use zone_lock::{Hall, Seat, ZoneLock};
+use zone_view::StepCounts;
 
 /// What all threads of a server share.
 #[derive(Drop)]
@@ -31,7 +33,39 @@ pub(crate) struct Shared<'a, P: Pool, D: Hall, T: Ledger, U: Ledger, V: Ledger, 
     pub(crate) lock: &'a ZoneLock<P, D, T, U, V>,
     pub(crate) board: &'a Board,
     pub(crate) gate: &'a G,
+    pub(crate) tallies: &'a Tallies,
     pub(crate) plan: Plan,
+}
+
+impl<P: Pool, D: Hall, T: Ledger, U: Ledger, V: Ledger, R, G> Shared<'_, P, D, T, U, V, R, G> {
+    /// Counts a step of the worker with this number, for those who look at the server.
+    pub(crate) fn count_step(&self, worker: usize, first: Option<u8>, outcome: &Outcome) {
+        if let Some(tally) = self.tallies.of_worker(worker) {
+            tally.count_step(&StepCounts::of(first, outcome));
+        }
+    }
+
+    /// Counts a datagram that the worker with this number received.
+    pub(crate) fn count_received(&self, worker: usize) {
+        if let Some(tally) = self.tallies.of_worker(worker) {
+            tally.count_received();
+        }
+    }
+
+    /// Shows what the worker with this number counted.
+    pub(crate) fn show(&self, worker: usize, counts: Counts) {
+        if let Some(tally) = self.tallies.of_worker(worker) {
+            tally.show(counts);
+        }
+    }
+}
+
+/// The first octet of the datagram of an event, if it has one.
+pub(crate) fn first_octet(event: &Event) -> Option<u8> {
+    match event {
+        Event::Datagram(_, octets, _) => octets.as_slice().first().copied(),
+        Event::Turn(_) => None,
+    }
 }
 
 /// What a worker counts. A count at `u64::MAX` stays there.
@@ -133,8 +167,9 @@ impl<D: Hall, T: Ledger, U: Ledger, V: Ledger, C: Moments> Worker<D, T, U, V, C>
             (standing self.old.seat self.old.outlet self.old.counts)
             (standing self.new.seat self.new.outlet self.new.counts) }
     {
+        let first = first_octet(&event);
         match self.ready(shared, event) {
-            Ok((prepared, buffer)) => self.apply(shared, prepared, buffer),
+            Ok((prepared, buffer)) => self.apply(shared, first, prepared, buffer),
             Err(AllocError) => {
                 self.counts.refuse();
                 StepResult::Refused
@@ -164,11 +199,12 @@ impl<D: Hall, T: Ledger, U: Ledger, V: Ledger, C: Moments> Worker<D, T, U, V, C>
         Ok((prepared, Some(buffer)))
     }
 
-    /// Makes a step that is prepared.
+    /// Makes a step that is prepared, of a datagram with this first octet, if of one.
     #[tactic(auto, using(crate::proofs::Steps::few_of))]
     fn apply<P: Pool, R: Wait, G: Gate>(
         &mut self,
         shared: &Shared<'_, P, D, T, U, V, R, G>,
+        first: Option<u8>,
         prepared: Prepared,
         buffer: Option<Vec<u8>>,
     ) -> StepResult
@@ -187,6 +223,7 @@ impl<D: Hall, T: Ledger, U: Ledger, V: Ledger, C: Moments> Worker<D, T, U, V, C>
             Err(StepFault::Closed) => return StepResult::Closed,
         };
         shared.gate.pass(self.number, Stage::AfterApply);
+        shared.count_step(self.number, first, &receipt.outcome);
         let place = receipt.place;
         let is_idle = matches!(receipt.outcome.note, Note::Idle);
         let reply = self.reply_of(receipt, buffer);

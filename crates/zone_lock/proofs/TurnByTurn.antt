@@ -1,6 +1,6 @@
 -- Turns, and one more.
 use Rattle.std.proofs.Common.{◌≡◌, ℕ, List, [], ◌∷◌, ◌++◌, refl, sym, ◌∙◌, ap, subst}
-use Rattle.std.specs.Prelude.{option_to_list}
+use Rattle.std.specs.Prelude.{None, option_to_list}
 use Rattle.std.proofs.lemmas.List.{append-nil, append_assoc}
 use Rattle.zone_events.specs.declared.outcome.Outcome.{Outcome}
 use Rattle.ras_machine.specs.State.{State}
@@ -9,8 +9,10 @@ use Rattle.ras_core.specs.declared.fault.StepFault.TheVariants as fault
 use Rattle.zone_events.specs.declared.outcome.Datagram.{Datagram}
 use Rattle.zone_lock.specs.Held.{Held, IsClosed, IsEntered, IsKept, entry_by}
 use Rattle.zone_lock.specs.Seats.{Seated, seated_after}
-use Rattle.zone_lock.specs.Turns.{AreTurns, AreTurnsMade, IsEndOf, seated_after_turns, sent_of}
-use Rattle.zone_lock.specs.Turns.{turn_at}
+use Rattle.zone_lock.specs.Turns.{AreTurns, AreTurnsMade, IsEndOf, counts_after}
+use Rattle.zone_lock.specs.Turns.{seated_after_turns, sent_of, turn_at}
+use Rattle.zone_view.specs.Counts.{with_step}
+use Rattle.zone_view.specs.StepCounts.{counts_of}
 use Rattle.zone_lock.specs.declared.turns.TurnsEnd.{TurnsEnd}
 use Rattle.zone_lock.specs.declared.turns.TurnsEnd.TheVariants as end
 
@@ -25,6 +27,11 @@ pub sent_more : (os : List Outcome) (o : Outcome)
 sent_more [] o = append-nil (option_to_list o.output)
 sent_more (x ∷ os) o = ap (λ ds. option_to_list x.output ++ ds) (sent_more os o)
     ∙ sym (append_assoc (option_to_list x.output) (sent_of os) (option_to_list o.output))
+
+pub counts_more : (counts : List ℕ) (os : List Outcome) (o : Outcome)
+    → counts_after counts (os ++ o ∷ []) ≡ with_step (counts_of None o) (counts_after counts os)
+counts_more counts [] o = refl
+counts_more counts (x ∷ os) o = counts_more (with_step (counts_of None x) counts) os o
 
 pub turns_more : (opened : State) (seat : Seated) (moment : ℕ) (old mid new : Held)
     (os : List Outcome) (o : Outcome) → AreTurns opened seat moment old os mid
@@ -70,11 +77,19 @@ pub sent_one_more : (before now : List Datagram) (os : List Outcome) (o : Outcom
 sent_one_more before now os o sent is =
     is ∙ (ap (λ ds. ds ++ option_to_list o.output) sent ∙ sym (sent_more os o))
 
+-- what is counted of it is added to what was counted of them
+pub counts_one_more : (counts before now : List ℕ) (os : List Outcome) (o : Outcome)
+    → before ≡ counts_after counts os → now ≡ with_step (counts_of None o) before
+    → now ≡ counts_after counts (os ++ o ∷ [])
+counts_one_more counts before now os o was is =
+    is ∙ (ap (λ ns. with_step (counts_of None o) ns) was ∙ sym (counts_more counts os o))
+
 -- a turn that was refused as closed saw that as many steps were made as there may be
 pub closed_by_turns : (opened : State) (seat : Seated) (moment most : ℕ) (old : Held)
     (sent : List Datagram) (why : TurnsEnd) (new : Held) (seat_then : Seated)
-    → AreTurnsMade opened seat moment most old sent why new seat_then → IsKept opened new
+    (counts counts_then : List ℕ)
+    → AreTurnsMade opened seat moment most old sent why new seat_then counts counts_then → IsKept opened new
     → why ≡ end.Refused fault.Closed → IsClosed opened
-closed_by_turns opened seat moment most old sent why new seat_then made kept is =
+closed_by_turns opened seat moment most old sent why new seat_then counts counts_then made kept is =
     let ended = subst (λ (w : TurnsEnd). IsEndOf w most made.outcomes new) is made.ended in
     record { held = new; kept = kept; steps = ended.1.0 refl }

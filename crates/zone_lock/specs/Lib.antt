@@ -3,3 +3,4 @@ pub mod Held
 pub mod Turns
 pub mod Listings
 pub mod Faults
+pub mod Views

@@ -1,7 +1,7 @@
 //! The lock.
 
 ghost use Rattle.std.specs.Prelude.{◌≡◌, ◌≢◌, ◌≤◌, ◌+◌, ◌<◌, ℕ, Some, slice_get, sum_by, vec_len};
-ghost use Rattle.std.specs.Prelude.{◌^◌, length, IfOk, IfErr, OnOk, OnErr, vec_capacity, ◌⊎◌, []};
+ghost use Rattle.std.specs.Prelude.{All, ◌^◌, length, IfOk, IfErr, OnOk, OnErr, vec_capacity, ◌⊎◌, []};
 ghost use Rattle.pools.specs.Replacing.{IsHandedBack};
 ghost use Rattle.ras_machine.specs.Soundness.{Sound};
 ghost use Rattle.ras_core.specs.Replacing.{change_by};
@@ -15,23 +15,27 @@ ghost use Rattle.zone_lock.specs.Faults.{open_fault_number};
 ghost use Rattle.zone_lock.specs.Listings.{IsListingUnderLock};
 ghost use Rattle.zone_lock.specs.Seats.{IsSeatCount, seated, seated_after};
 ghost use Rattle.zone_lock.specs.Turns.{AreTurnsUnderLock};
+ghost use Rattle.zone_lock.specs.Views.{AreCallsUnderLock, AreEndpointsUnderLock};
+ghost use Rattle.zone_lock.specs.Views.{AreFiguresUnderLock, IsCallUnderLock, IsEndpointUnderLock};
 
 use crate::cutting::{CutFault, Discarded, cut_locked, discard_locked};
 use crate::ending::finish_locked;
 use crate::ledgers::Ledgers;
 use crate::listing::Listing;
 use crate::locked::{Locked, fault_without_order, list_locked, make_step};
+use crate::looking::{calls_locked, endpoints_locked, figures_locked};
 use crate::order::Order;
 use crate::replacing::replace_locked;
 use crate::seat::{Hall, Seat};
 use crate::stepping::step_locked;
 use crate::turns::{TurnsEnd, turns_locked};
 use books::{Chapter, Entry, Finished, Receipt, SharedSnapshot, Totals};
-use pools::{Pool, ReplaceFault};
+use pools::{Figures, Pool, ReplaceFault};
 use ras_core::{Change, Datagram, Moment, Outcome, Prepared, StepFault, Zone};
 use std::alloc::{AllocError, Global};
 use std::sync::ledger::{Blank, Ledger, Share};
 use std::sync::{Mutex, Wait};
+use zone_view::{CallRow, Counts, EndpointRow, ZoneFigures};
 
 /// A zone behind a lock.
 pub struct ZoneLock<P: Pool, D: Hall, T: Ledger, U: Ledger, V: Ledger> {
@@ -206,8 +210,8 @@ impl<P: Pool, D: Hall, T: Ledger, U: Ledger, V: Ledger> ZoneLock<P, D, T, U, V> 
 
     /// Waits for the lock and makes turns at this moment, at most so many before it is free again,
     /// as `turns_locked` does. What they send is put into `replies` in order, which has none yet,
-    /// and room for all. Each is one step, as `step` makes it. What stands in place of the outcome
-    /// afterwards means nothing.
+    /// and room for all. What is counted of them is added to the counts. Each is one step, as `step`
+    /// makes it. What stands in place of the outcome afterwards means nothing.
     pub fn turns<R: Wait>(
         &self,
         rt: &R,
@@ -216,11 +220,12 @@ impl<P: Pool, D: Hall, T: Ledger, U: Ledger, V: Ledger> ZoneLock<P, D, T, U, V> 
         most: usize,
         outcome: &mut Outcome,
         replies: &mut Vec<Datagram>,
+        counts: &mut Counts,
     ) -> TurnsEnd
         requires empty { replies.old.items ≡ [] }
         requires room { most ≤ vec_capacity replies.old }
         ensures made { AreTurnsUnderLock D.opened seat.old moment most replies.new.items result
-            seat.new }
+            seat.new counts.old counts.new }
         ensures closed { result ≡ TurnsEnd.Refused StepFault.Closed → IsClosed D.opened }
     {
         turns_locked(
@@ -230,6 +235,7 @@ impl<P: Pool, D: Hall, T: Ledger, U: Ledger, V: Ledger> ZoneLock<P, D, T, U, V> 
             most,
             outcome,
             replies,
+            counts,
         )
     }
 
@@ -269,6 +275,46 @@ impl<P: Pool, D: Hall, T: Ledger, U: Ledger, V: Ledger> ZoneLock<P, D, T, U, V> 
         ensures { IfOk result (IsListingUnderLock D.opened) }
     {
         list_locked(&*self.inner.lock(rt))
+    }
+
+    /// Waits for the lock and tells the zone's figures, as `figures_locked` does.
+    pub fn figures<R: Wait>(&self, rt: &R, pools: &mut Vec<Figures>) -> ZoneFigures
+        requires empty { pools.old.items ≡ [] }
+        requires room { 16 ≤ vec_capacity pools.old }
+        ensures figures { AreFiguresUnderLock D.opened result pools.new.items }
+        ensures within { result.in_use ≤ result.limit }
+    {
+        figures_locked(&*self.inner.lock(rt), pools)
+    }
+
+    /// Waits for the lock and puts rows of endpoints at places below this one into `rows`, as
+    /// `endpoints_locked` does. Returns the place below which the next ones stand; 0 if there are
+    /// none.
+    pub fn endpoints_below<R: Wait>(
+        &self,
+        rt: &R,
+        place: usize,
+        rows: &mut Vec<EndpointRow>,
+    ) -> usize
+        requires empty { rows.old.items ≡ [] }
+        ensures rows { AreEndpointsUnderLock D.opened place rows.new.items result }
+        ensures each { All (IsEndpointUnderLock D.opened) rows.new.items }
+        ensures full { 0 < result → vec_len rows.new ≡ vec_capacity rows.new }
+        ensures room { vec_capacity rows.new ≡ vec_capacity rows.old }
+    {
+        endpoints_locked(&*self.inner.lock(rt), place, rows)
+    }
+
+    /// Waits for the lock and puts rows of calls at places below this one into `rows`, as
+    /// `calls_locked` does. Returns the place below which the next ones stand; 0 if there are none.
+    pub fn calls_below<R: Wait>(&self, rt: &R, place: usize, rows: &mut Vec<CallRow>) -> usize
+        requires empty { rows.old.items ≡ [] }
+        ensures rows { AreCallsUnderLock D.opened place rows.new.items result }
+        ensures each { All (IsCallUnderLock D.opened) rows.new.items }
+        ensures full { 0 < result → vec_len rows.new ≡ vec_capacity rows.new }
+        ensures room { vec_capacity rows.new ≡ vec_capacity rows.old }
+    {
+        calls_locked(&*self.inner.lock(rt), place, rows)
     }
 
     /// Waits for the lock and ends a chapter. It is refused as NoBase only if the state in which

@@ -14,6 +14,7 @@ use crate::stepping::step_locked;
 use pools::Pool;
 use ras_core::{Change, Datagram, Event, Moment, Note, Outcome, StepFault, prepare};
 use std::sync::ledger::Ledger;
+use zone_view::{Counts, StepCounts};
 
 /// Why no further turn was made.
 #[derive(Clone, Copy, Debug, PartialEq, Eq, Drop)]
@@ -28,8 +29,8 @@ pub enum TurnsEnd {
 
 /// Makes turns of the locked zone at this moment, each as `step_locked` makes a step, until nothing
 /// is due, until so many were made, or until one is refused, which changes nothing. What they send
-/// is put into `replies` in order, which has none yet, and room for all. What stands in place of
-/// the outcome afterwards means nothing.
+/// is put into `replies` in order, which has none yet, and room for all. What is counted of them is
+/// added to the counts. What stands in place of the outcome afterwards means nothing.
 pub fn turns_locked<P: Pool, D: Hall, T: Ledger, U: Ledger, V: Ledger>(
     locked: &mut Locked<P, D, T, U, V>,
     seat: &mut Seat<D, T, U, V>,
@@ -37,11 +38,12 @@ pub fn turns_locked<P: Pool, D: Hall, T: Ledger, U: Ledger, V: Ledger>(
     most: usize,
     outcome: &mut Outcome,
     replies: &mut Vec<Datagram>,
+    counts: &mut Counts,
 ) -> TurnsEnd
     requires empty { replies.old.items ≡ [] }
     requires room { most ≤ vec_capacity replies.old }
     ensures made { AreTurnsMade D.opened seat.old moment most locked.old replies.new.items result
-        locked.new seat.new }
+        locked.new seat.new counts.old counts.new }
     ensures before { IsKept D.opened locked.old }
     ensures kept { IsKept D.opened locked.new }
 {
@@ -50,6 +52,7 @@ pub fn turns_locked<P: Pool, D: Hall, T: Ledger, U: Ledger, V: Ledger>(
         if let Err(fault) = turn_locked(locked, seat, moment, outcome) {
             return TurnsEnd::Refused(fault);
         }
+        counts.add_step(&StepCounts::of(None, outcome));
         put_reply(outcome, replies);
         if is_idle(outcome.note) {
             return TurnsEnd::Idle;

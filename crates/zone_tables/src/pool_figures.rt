@@ -45,6 +45,14 @@ impl PoolFigures {
         PoolFigures { items }
     }
 
+    /// The figures, in the order of the pools, of which there are at most 16.
+    pub fn as_slice(&self) -> &[Figures]
+        ensures figures { result.now ≡ self.now }
+        ensures few { length result.now ≤ 16 }
+    {
+        self.items.as_slice()
+    }
+
     /// Whether the other figures are equal.
     pub fn is_same(&self, other: &Self) -> bool
         ensures { IsTrue result ↔ (self.now ≡ other.now) }

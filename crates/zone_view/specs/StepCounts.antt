@@ -1,17 +1,18 @@
 -- What is counted of one step.
 use Rattle.std.specs.Prelude.{◌/◌, ℕ, List, [], ◌∷◌, Option, None, Some, Bool, true, false}
-use Rattle.std.specs.Prelude.{nat_eq, if◌then◌else◌, slice_get}
+use Rattle.std.specs.Prelude.{option_map, nat_eq, if◌then◌else◌, slice_get}
 use Rattle.pools.specs.declared.interface.Lend.{Lend}
 use Rattle.pools.specs.declared.interface.Lend.TheVariants as lend
-use Rattle.ras_module.specs.declared.request.Request.{Request}
-use Rattle.ras_module.specs.declared.request.Request.TheVariants as asked
 use Rattle.zone_events.specs.declared.due_item.DueItem.{DueItem}
 use Rattle.zone_events.specs.declared.due_item.DueItem.TheVariants as item
 use Rattle.zone_events.specs.declared.outcome.Datagram.{Datagram}
 use Rattle.zone_events.specs.declared.outcome.IgnoredCause.{IgnoredCause}
+use Rattle.zone_events.specs.declared.outcome.IgnoredCause.TheVariants as cause
 use Rattle.zone_events.specs.declared.outcome.Note.{Note}
 use Rattle.zone_events.specs.declared.outcome.Note.TheVariants as note
 use Rattle.zone_events.specs.declared.outcome.Outcome.{Outcome}
+use Rattle.zone_view.specs.declared.count.Count.{Count}
+use Rattle.zone_view.specs.declared.count.Count.TheVariants as count
 use Rattle.zone_view.specs.declared.kinds.Answer.{Answer}
 use Rattle.zone_view.specs.declared.kinds.Answer.TheVariants as answer
 use Rattle.zone_view.specs.declared.kinds.ReplyKind.{ReplyKind}
@@ -24,15 +25,31 @@ use Rattle.zone_view.specs.declared.reject.Reject.{Reject}
 use Rattle.zone_view.specs.declared.reject.Reject.TheVariants as reject
 use Rattle.zone_view.specs.declared.step_counts.StepCounts.{StepCounts}
 
--- the kind of a request
-abbrev pub kind_of_request : Request → RequestKind
-kind_of_request (asked.Grq it) = request.Grq
-kind_of_request (asked.Rrq it) = request.Rrq
-kind_of_request (asked.Urq it) = request.Urq
-kind_of_request (asked.Arq it) = request.Arq
-kind_of_request (asked.Brq it) = request.Brq
-kind_of_request (asked.Drq it) = request.Drq
-kind_of_request (asked.Irr it) = request.Irr
+-- whether the datagram of the step was read as a request
+abbrev pub is_read : Note → Bool
+is_read note.Served = true
+is_read note.Kept = true
+is_read (note.Ignored cause.Busy) = true
+is_read (note.Ignored cause.UnknownEndpoint) = true
+is_read other = false
+
+-- The kind of a request, by the index of its alternative of RasMessage (H.225.0).
+unfoldable pub request_at : ℕ → Option RequestKind
+request_at index =
+    if nat_eq index 0 then Some request.Grq
+    else if nat_eq index 3 then Some request.Rrq
+    else if nat_eq index 6 then Some request.Urq
+    else if nat_eq index 9 then Some request.Arq
+    else if nat_eq index 12 then Some request.Brq
+    else if nat_eq index 15 then Some request.Drq
+    else if nat_eq index 22 then Some request.Irr
+    else None
+
+-- The kind of the request that was read: a root alternative has in its first octet the bit 0, the
+-- five bits of its index, and two bits more.
+abbrev pub request_by : Option ℕ → Note → Option RequestKind
+request_by None what = None
+request_by (Some octet) what = if is_read what then request_at (octet / 4) else None
 
 -- The kind of a message of a gatekeeper, by its first octet: a root alternative of RasMessage
 -- (H.225.0) has there the bit 0, the five bits of its index, and two bits more; requestInProgress,
@@ -143,7 +160,7 @@ deed_of other = None
 
 -- for which cause a datagram was ignored
 abbrev pub ignored_by : Note → Option IgnoredCause
-ignored_by (note.Ignored cause) = Some cause
+ignored_by (note.Ignored why) = Some why
 ignored_by other = None
 
 abbrev pub is_repeat : Note → Bool
@@ -156,9 +173,10 @@ answer_of (Some (lend.Lent units)) = Some answer.Lent
 answer_of (Some lend.Refused) = Some answer.Refused
 answer_of (Some lend.Wait) = Some answer.Wait
 
--- all that is counted of a step with this outcome
-abbrev pub counts_of : Outcome → StepCounts
-counts_of o = record {
+-- all that is counted of a step with this outcome, of a datagram with this first octet, if of one
+abbrev pub counts_of : Option ℕ → Outcome → StepCounts
+counts_of first o = record {
+  request = request_by first o.note;
   reply = kind_in (octets_sent o.output);
   reject = reject_in (kind_in (octets_sent o.output)) (octets_sent o.output);
   ignored = ignored_by o.note;
@@ -166,3 +184,11 @@ counts_of o = record {
   answer = answer_of o.answer;
   is_repeat = is_repeat o.note;
 }
+
+-- each thing that is counted once
+abbrev pub each_of : StepCounts → List (Option Count)
+each_of c =
+    option_map count.Request c.request ∷ option_map count.Reply c.reply
+    ∷ option_map count.Reject c.reject ∷ option_map count.Ignored c.ignored
+    ∷ option_map count.Turn c.turn ∷ option_map count.Answer c.answer
+    ∷ (if c.is_repeat then Some count.Repeat else None) ∷ []

@@ -1,9 +1,11 @@
 //! Counts, by what is counted.
 
-ghost use Rattle.std.specs.Prelude.{◌≡◌};
-ghost use Rattle.zone_view.specs.Counts.{count_at, no_counts, with_more};
+ghost use Rattle.std.specs.Prelude.{◌≡◌, get_or};
+ghost use Rattle.zone_view.specs.Counts.{count_at, no_counts, with_more, with_more_at};
+ghost use Rattle.zone_view.specs.Counts.{with_step};
 
 use crate::count::{Count, PLACES};
+use crate::step_counts::StepCounts;
 use std::marker::Model;
 
 /// How often each of the things that are counted came. A count at `u64::MAX` stays there. Contracts
@@ -38,11 +40,40 @@ impl Counts {
         self.numbers[count.place()]
     }
 
+    /// The number at this place; 0 if there is none.
+    pub fn at(&self, place: usize) -> u64
+        ensures { result ≡ get_or self.now place 0 }
+    {
+        match self.numbers.get(place) {
+            Some(number) => *number,
+            None => 0,
+        }
+    }
+
+    /// Counts this so often more at this place, if there is one.
+    pub fn add_at(&mut self, place: usize, more: u64)
+        ensures { self.new ≡ with_more_at place more self.old }
+    {
+        if let Some(number) = self.numbers.get_mut(place) {
+            *number = number.saturating_add(more);
+        }
+    }
+
     /// Counts this so often more.
     pub fn add(&mut self, count: Count, more: u64)
         ensures { self.new ≡ with_more count more self.old }
     {
-        let place = count.place();
-        self.numbers[place] = self.numbers[place].saturating_add(more);
+        self.add_at(count.place(), more);
+    }
+
+    /// Counts what is counted of a step.
+    pub fn add_step(&mut self, step: &StepCounts)
+        ensures { self.new ≡ with_step step.now self.old }
+    {
+        for count in &step.each() {
+            if let Some(count) = count {
+                self.add(*count, 1);
+            }
+        }
     }
 }

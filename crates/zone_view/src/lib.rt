@@ -18,4 +18,4 @@ pub use kinds::{Answer, ReplyKind, RequestKind, TurnDeed};
 pub use reject::Reject;
 pub use rows::{CallRow, EndpointRow, ShownAliases};
 pub use running_zone::RunningZone;
-pub use step_counts::{StepCounts, request_kind};
+pub use step_counts::StepCounts;

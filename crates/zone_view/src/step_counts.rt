@@ -1,22 +1,24 @@
 //! What is counted of one step.
 
-ghost use Rattle.std.specs.Prelude.{◌≡◌, slice_get, option_copied};
+ghost use Rattle.std.specs.Prelude.{◌≡◌};
 ghost use Rattle.zone_view.specs.StepCounts.{admission_reject, answer_of, bandwidth_reject};
-ghost use Rattle.zone_view.specs.StepCounts.{counts_of, deed_of, deed_of_item, disengage_reject};
-ghost use Rattle.zone_view.specs.StepCounts.{ignored_by, is_repeat, kind_by, kind_in};
-ghost use Rattle.zone_view.specs.StepCounts.{kind_of_request, kind_of_root, octets_sent};
+ghost use Rattle.zone_view.specs.StepCounts.{counts_of, deed_of, each_of, deed_of_item, disengage_reject};
+ghost use Rattle.zone_view.specs.StepCounts.{ignored_by, is_read, kind_by, kind_in};
+ghost use Rattle.zone_view.specs.StepCounts.{kind_of_root, octets_sent, request_at, request_by};
 ghost use Rattle.zone_view.specs.StepCounts.{registration_reject, reject_in, reject_of};
 ghost use Rattle.zone_view.specs.StepCounts.{unregistration_reject};
 
+use crate::count::Count;
 use crate::kinds::{Answer, ReplyKind, RequestKind, TurnDeed};
 use crate::reject::Reject;
 use pools::Lend;
-use ras_module::Request;
 use zone_events::{Datagram, DueItem, IgnoredCause, Note, Outcome};
 
 /// What is counted of one step.
 #[derive(Clone, Copy, Debug, PartialEq, Eq)]
 pub struct StepCounts {
+    /// The request that was read.
+    pub request: Option<RequestKind>,
     /// The message that is sent.
     pub reply: Option<ReplyKind>,
     /// Why it rejects the request, if it does.
@@ -32,14 +34,16 @@ pub struct StepCounts {
 }
 
 impl StepCounts {
-    /// What is counted of a step with this outcome. The message and its reason are read off the
-    /// octets that are sent (H.225.0, RasMessage; X.691).
-    pub fn of(outcome: &Outcome) -> Self
-        ensures { result ≡ counts_of outcome.now }
+    /// What is counted of a step with this outcome, which was made of a datagram with this first
+    /// octet, if it was one of a datagram. The kinds of request and reply, and the reason of a
+    /// reject, are read off the octets (H.225.0, RasMessage; X.691).
+    pub fn of(first: Option<u8>, outcome: &Outcome) -> Self
+        ensures { result ≡ counts_of first outcome.now }
     {
         let octets = sent(&outcome.output);
         let reply = kind_in(octets);
         StepCounts {
+            request: request_by(first, outcome.note),
             reply,
             reject: reject_in(reply, octets),
             ignored: ignored_by(outcome.note),
@@ -48,20 +52,59 @@ impl StepCounts {
             is_repeat: matches!(outcome.note, Note::Kept),
         }
     }
+
+    /// Each thing that is counted once.
+    pub fn each(&self) -> [Option<Count>; 7]
+        ensures { result ≡ each_of self.now }
+    {
+        [
+            self.request.map(Count::Request),
+            self.reply.map(Count::Reply),
+            self.reject.map(Count::Reject),
+            self.ignored.map(Count::Ignored),
+            self.turn.map(Count::Turn),
+            self.answer.map(Count::Answer),
+            self.is_repeat.then_some(Count::Repeat),
+        ]
+    }
 }
 
-/// The kind of a request.
-pub fn request_kind(request: &Request) -> RequestKind
-    ensures { result ≡ kind_of_request request.now }
+/// The kind of the request with this first octet, if the step's datagram was read as one.
+fn request_by(first: Option<u8>, note: Note) -> Option<RequestKind>
+    ensures { result ≡ request_by first note }
 {
-    match request {
-        Request::Grq(_) => RequestKind::Grq,
-        Request::Rrq(_) => RequestKind::Rrq,
-        Request::Urq(_) => RequestKind::Urq,
-        Request::Arq(_) => RequestKind::Arq,
-        Request::Brq(_) => RequestKind::Brq,
-        Request::Drq(_) => RequestKind::Drq,
-        Request::Irr(_) => RequestKind::Irr,
+    let first = first?;
+    if is_read(note) {
+        request_at(first / 4)
+    } else {
+        None
+    }
+}
+
+/// Whether the datagram of the step was read as a request.
+fn is_read(note: Note) -> bool
+    ensures { result ≡ is_read note }
+{
+    match note {
+        Note::Served | Note::Kept => true,
+        Note::Ignored(IgnoredCause::Busy | IgnoredCause::UnknownEndpoint) => true,
+        Note::Ignored(_) | Note::Done(_) | Note::Idle | Note::Replaced(_) => false,
+    }
+}
+
+/// The kind of the request at this index before the extension marker.
+fn request_at(index: u8) -> Option<RequestKind>
+    ensures { result ≡ request_at index }
+{
+    match index {
+        0 => Some(RequestKind::Grq),
+        3 => Some(RequestKind::Rrq),
+        6 => Some(RequestKind::Urq),
+        9 => Some(RequestKind::Arq),
+        12 => Some(RequestKind::Brq),
+        15 => Some(RequestKind::Drq),
+        22 => Some(RequestKind::Irr),
+        _ => None,
     }
 }
 

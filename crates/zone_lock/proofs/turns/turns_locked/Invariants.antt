@@ -1,7 +1,7 @@
 use Rattle.std.proofs.Common.{◌≡◌, ◌≤◌, List, length, vec_len, vec_capacity}
 use Rattle.zone_events.specs.declared.outcome.Outcome.{Outcome}
 use Rattle.zone_lock.specs.Held.{IsKept}
-use Rattle.zone_lock.specs.Turns.{AreBusy, AreTurns, seated_after_turns, sent_of}
+use Rattle.zone_lock.specs.Turns.{AreBusy, AreTurns, counts_after, seated_after_turns, sent_of}
 use Rattle.zone_lock.proofs.turns.turns_locked.Given as goal
 
 -- as many turns as there were passes, with these outcomes, and something was due in each
@@ -11,4 +11,4 @@ invariant-loop-turn g l = (outcomes : List Outcome)
     × (l.replies.items ≡ sent_of outcomes) × (length outcomes ≡ l._turn) × AreBusy outcomes
     × (l.seat ≡ seated_after_turns l.fn.seat l.fn.moment outcomes)
     × (vec_len l.replies ≤ l._turn) × (l.fn.most ≤ vec_capacity l.replies)
-    × IsKept g.D.Hall.opened l.locked
+    × IsKept g.D.Hall.opened l.locked × (l.counts ≡ counts_after l.fn.counts outcomes)

@@ -12,4 +12,4 @@ returns-clause-made g c = record {
 
 pub returns-clause-closed : goal.returns-clause-closed
 returns-clause-closed g c is =
-    closed_by_turns _ _ _ _ _ _ _ _ _ c.turns_locked.ensures.made c.turns_locked.ensures.kept is
+    closed_by_turns _ _ _ _ _ _ _ _ _ _ _ c.turns_locked.ensures.made c.turns_locked.ensures.kept is

@@ -1,9 +1,9 @@
 use Rattle.std.proofs.Common.{arith, refl, vec_len}
 use Rattle.udp_server.specs.Faults.{AreCounts}
-use Rattle.udp_server.proofs.server.serve.Goals as goal
-use Rattle.udp_server.proofs.server.serve.Goals.{then-len-count-via-then-len-count}
-use Rattle.udp_server.proofs.server.serve.Goals.{then-len-count-via-else-len-count+then-len-count-2}
-use Rattle.udp_server.proofs.server.serve.Goals.{then-len-count-via-else-len-count+else-len-count-2+then-len-count-3}
+use Rattle.udp_server.proofs.server.serve_watched.Goals as goal
+use Rattle.udp_server.proofs.server.serve_watched.Goals.{then-len-count-via-then-len-count}
+use Rattle.udp_server.proofs.server.serve_watched.Goals.{then-len-count-via-else-len-count+then-len-count-2}
+use Rattle.udp_server.proofs.server.serve_watched.Goals.{then-len-count-via-else-len-count+else-len-count-2+then-len-count-3}
 
 pub returns-then-len-count-clause-wrong_counts : goal.returns-then-len-count-clause-wrong_counts
 returns-then-len-count-clause-wrong_counts g c = (

@@ -1,4 +1,4 @@
-use Rattle.udp_server.proofs.server.serve_zone.Given as goal
+use Rattle.udp_server.proofs.server.serve_zone_watched.Given as goal
 
 -- each ledger is the blank's that is handed over, and the zone is locked as it is
 abbrev pub ghosts-open_and_serve-D-Ledger : goal.ghosts-open_and_serve-D-Ledger

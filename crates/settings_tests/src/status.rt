@@ -1,0 +1,74 @@
+//! The address of the status page.
+
+use ras_module::Address;
+use settings::{SettingsFault, read_settings, write_settings};
+use std::alloc::{AllocError, Global};
+use std::test::Fail;
+
+/// The settings that have to be there, before the line of the key.
+const FRONT: &str = "[zone]
+identifier = \"gk\"
+address = \"10.0.0.1:1719\"
+[[pool]]
+kind = \"fixed\"
+limit = 0
+[serve]
+";
+
+/// What a text with this line of `[serve]` sets for the page, or the fault that refuses it.
+fn status_with(
+    alloc: Global,
+    line: &str,
+) -> Result<Result<Option<Address>, SettingsFault>, AllocError> {
+    let mut text = String::from_str(alloc, FRONT)?;
+    text.push_str(line)?;
+    match read_settings(alloc, text.as_str()) {
+        Ok(settings) => Ok(Ok(settings.status)),
+        Err(fault) => Ok(Err(fault)),
+    }
+}
+
+#[test]
+fn the_page_has_the_address_that_is_set(rt: HostRuntime) -> Result<(), Fail> {
+    let page = Address {
+        ip: [127, 0, 0, 1],
+        port: 8719,
+    };
+    let set = status_with(rt.alloc(), "status = \"127.0.0.1:8719\"\n")?;
+    assert_eq!(rt; set, Ok(Some(page)));
+    Ok(())
+}
+
+#[test]
+fn there_is_no_page_if_none_is_set(rt: HostRuntime) -> Result<(), Fail> {
+    assert_eq!(rt; status_with(rt.alloc(), "ring = 8\n")?, Ok(None));
+    Ok(())
+}
+
+#[test]
+fn the_page_s_address_is_refused_if_it_is_none(rt: HostRuntime) -> Result<(), Fail> {
+    let number = status_with(rt.alloc(), "status = 8719\n")?;
+    assert_eq!(rt; number, Err(SettingsFault::WrongKind("serve.status")));
+    let name = status_with(rt.alloc(), "status = \"localhost:8719\"\n")?;
+    assert_eq!(rt; name, Err(SettingsFault::OutOfRange("serve.status")));
+    Ok(())
+}
+
+/// Whether the page's address stands in what is written of settings that have one.
+fn is_written(alloc: Global) -> Result<bool, AllocError> {
+    let mut text = String::from_str(alloc, FRONT)?;
+    text.push_str("status = \"127.0.0.1:8719\"\n")?;
+    let mut out = Vec::new(alloc);
+    let passed = match read_settings(alloc, text.as_str()) {
+        Ok(settings) => write_settings(&settings, &mut out).is_ok(),
+        Err(_) => false,
+    };
+    let line = b"\nserve.status = \"127.0.0.1:8719\"\n";
+    Ok(passed && out.as_slice().windows(line.len()).any(|part| part == line))
+}
+
+#[test]
+fn the_page_s_address_is_written(rt: HostRuntime) -> Result<(), Fail> {
+    assert!(rt; is_written(rt.alloc())?);
+    Ok(())
+}

@@ -1,0 +1,57 @@
+//! A server that runs, as those who look at it see it.
+
+ghost use Rattle.std.specs.Prelude.{◌≡◌, All};
+
+use crate::board::Board;
+use crate::tally::Tallies;
+use pools::{Figures, Pool};
+use std::sync::Wait;
+use std::sync::ledger::Ledger;
+use zone_lock::{Hall, ZoneLock};
+use zone_view::{CallRow, Counts, EndpointRow, RunningZone, ServerFigures, ZoneFigures};
+
+/// A server that runs: the lock of its zone, what its threads count, and whether they have ended.
+#[derive(Drop)]
+pub(crate) struct View<'a, P: Pool, D: Hall, T: Ledger, U: Ledger, V: Ledger, R> {
+    pub(crate) rt: &'a R,
+    pub(crate) lock: &'a ZoneLock<P, D, T, U, V>,
+    pub(crate) tallies: &'a Tallies,
+    pub(crate) board: &'a Board,
+    pub(crate) workers: usize,
+}
+
+impl<P: Pool, D: Hall, T: Ledger, U: Ledger, V: Ledger, R: Wait> RunningZone
+    for View<'_, P, D, T, U, V, R> {
+    ghost use Rattle.zone_lock.specs.Views.{AreFiguresUnderLock, IsCallUnderLock};
+    ghost use Rattle.zone_lock.specs.Views.{IsEndpointUnderLock};
+
+    ghost has_figures = { λ view figures pools. AreFiguresUnderLock D.opened figures pools };
+
+    ghost has_endpoint = { λ view row. IsEndpointUnderLock D.opened row };
+
+    ghost has_call = { λ view row. IsCallUnderLock D.opened row };
+
+    fn figures(&self, pools: &mut Vec<Figures>) -> ZoneFigures {
+        self.lock.figures(self.rt, pools)
+    }
+
+    fn server(&self) -> ServerFigures {
+        self.tallies.server()
+    }
+
+    fn counts(&self) -> Counts {
+        self.tallies.counts()
+    }
+
+    fn endpoints_below(&self, place: usize, rows: &mut Vec<EndpointRow>) -> usize {
+        self.lock.endpoints_below(self.rt, place, rows)
+    }
+
+    fn calls_below(&self, place: usize, rows: &mut Vec<CallRow>) -> usize {
+        self.lock.calls_below(self.rt, place, rows)
+    }
+
+    fn has_ended(&self) -> bool {
+        self.board.have_ended(self.rt, self.workers)
+    }
+}

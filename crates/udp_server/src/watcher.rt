@@ -1,0 +1,17 @@
+//! One who looks at a server while it runs.
+
+use zone_view::RunningZone;
+
+/// One who looks at a server while it runs, in a thread of its own.
+pub trait Watcher: Drop {
+    /// Looks at a zone until it is served no longer. The server ends only after that.
+    fn watch<Z: RunningZone>(self, zone: &Z);
+}
+
+/// Nobody: `serve` and `serve_zone` name this type, and make none.
+#[derive(Drop)]
+pub struct NoWatcher;
+
+impl Watcher for NoWatcher {
+    fn watch<Z: RunningZone>(self, _zone: &Z) {}
+}

@@ -1,0 +1,110 @@
+-- What is told of a zone to those who look at it.
+use Rattle.std.specs.Prelude.{◌≡◌, ◌≤◌, ◌+◌, ℕ, List, [], ◌∷◌, All, Option, None, Some, length}
+use Rattle.std.specs.Prelude.{min, take}
+use Rattle.std.specs.FinMap as map
+use Rattle.admission.specs.Calls.{in_use, legs_of}
+use Rattle.admission.specs.declared.call.Call.{Call}
+use Rattle.admission.specs.declared.leg.Leg.{Leg}
+use Rattle.pools.specs.declared.interface.Figures.{Figures}
+use Rattle.ras_machine.specs.State.{State}
+use Rattle.ras_module.specs.declared.call_key.CallKey.{CallKey}
+use Rattle.registrations.specs.declared.registration.Registration.{Registration}
+use Rattle.zone_tables.specs.Tables.{Tables}
+use Rattle.zone_lock.specs.Held.{Held, IsKept}
+use Rattle.zone_view.specs.declared.figures.ZoneFigures.{ZoneFigures}
+use Rattle.zone_view.specs.declared.rows.CallRow.{CallRow}
+use Rattle.zone_view.specs.declared.rows.EndpointRow.{EndpointRow}
+
+-- The figures of a zone in this state, and those of its pools. The bandwidth in use is the sum over
+-- the open calls, and within the limit of the zone.
+pub record AreFigures (s : State) (f : ZoneFigures) (pools : List Figures) : Type 0 where
+  pub clock : f.clock ≡ s.clock
+  pub steps : f.steps ≡ s.steps
+  pub endpoints : f.endpoints ≡ map.len s.tables.live
+  pub calls : f.calls ≡ map.len s.tables.calls
+  pub kept : f.kept ≡ map.len s.kept
+  pub in_use : f.in_use ≡ in_use s.tables.calls
+  pub limit : f.limit ≡ s.tables.config.limit
+  pub within : f.in_use ≤ f.limit
+  pub pools : pools ≡ s.tables.pools
+
+-- the row of an endpoint that takes part in this many calls
+abbrev pub endpoint_row : Registration → ℕ → EndpointRow
+endpoint_row registration legs = record {
+  identifier = registration.identifier;
+  call_signal = registration.call_signal;
+  ras = registration.ras;
+  aliases = take 8 registration.aliases;
+  alias_count = length registration.aliases;
+  legs = legs;
+  deadline = registration.deadline;
+  heard = registration.heard;
+}
+
+-- the row is that of an endpoint that is registered
+pub record IsEndpointRow (tables : Tables) (row : EndpointRow) : Type 0 where
+  pub registration : Registration
+  pub live : map.get tables.live row.identifier ≡ Some registration
+  pub row : row ≡ endpoint_row registration (legs_of tables.calls row.identifier)
+
+-- the endpoint that was admitted first to a call with these legs
+abbrev pub first_of : List Leg → List ℕ
+first_of [] = []
+first_of (first ∷ others) = first.endpoint
+
+-- the endpoint that joined it
+abbrev pub second_of : List Leg → Option (List ℕ)
+second_of [] = None
+second_of (first ∷ []) = None
+second_of (first ∷ second ∷ others) = Some second.endpoint
+
+-- the row of a call
+abbrev pub call_row : CallKey → Call → CallRow
+call_row key call = record {
+  key = key;
+  pool = call.pool;
+  units = call.units;
+  first = first_of call.legs;
+  second = second_of call.legs;
+}
+
+-- the row is that of an open call
+pub record IsCallRow (tables : Tables) (row : CallRow) : Type 0 where
+  pub call : Call
+  pub is_open : map.get tables.calls row.key ≡ Some call
+  pub row : row ≡ call_row row.key call
+
+-- What follows is told of what stood behind the lock of a zone, which was locked in this state.
+
+pub record AreFiguresUnderLock (opened : State) (f : ZoneFigures) (pools : List Figures) : Type 0
+  where
+    pub held : Held
+    pub kept : IsKept opened held
+    pub figures : AreFigures held.zone.state f pools
+
+-- Rows of endpoints at places below this one, and the place below which the next ones stand: all of
+-- one moment, one for each place between.
+pub record AreEndpointsUnderLock (opened : State) (place : ℕ) (rows : List EndpointRow) (next : ℕ)
+    : Type 0 where
+  pub held : Held
+  pub kept : IsKept opened held
+  pub rows : All (IsEndpointRow held.zone.state.tables) rows
+  pub count : length rows + next ≡ min place (map.len held.zone.state.tables.live)
+
+-- the same of calls
+pub record AreCallsUnderLock (opened : State) (place : ℕ) (rows : List CallRow) (next : ℕ) : Type 0
+  where
+    pub held : Held
+    pub kept : IsKept opened held
+    pub rows : All (IsCallRow held.zone.state.tables) rows
+    pub count : length rows + next ≡ min place (map.len held.zone.state.tables.calls)
+
+pub record IsEndpointUnderLock (opened : State) (row : EndpointRow) : Type 0 where
+  pub held : Held
+  pub kept : IsKept opened held
+  pub row : IsEndpointRow held.zone.state.tables row
+
+pub record IsCallUnderLock (opened : State) (row : CallRow) : Type 0 where
+  pub held : Held
+  pub kept : IsKept opened held
+  pub row : IsCallRow held.zone.state.tables row
