@@ -23,11 +23,15 @@ with_more_at place more numbers =
 abbrev pub with_more : Count → ℕ → List ℕ → List ℕ
 with_more count more numbers = with_more_at (count_place count) more numbers
 
+-- it came once more, if it is there
+abbrev pub with_one : Option Count → List ℕ → List ℕ
+with_one None numbers = numbers
+with_one (Some count) numbers = with_more count 1 numbers
+
 -- each of these that is there came once more
 abbrev pub with_each : List (Option Count) → List ℕ → List ℕ
 with_each [] numbers = numbers
-with_each (None ∷ others) numbers = with_each others numbers
-with_each (Some count ∷ others) numbers = with_each others (with_more count 1 numbers)
+with_each (one ∷ others) numbers = with_each others (with_one one numbers)
 
 -- what is counted of a step came once more
 abbrev pub with_step : StepCounts → List ℕ → List ℕ

@@ -1,6 +1,7 @@
 -- What is counted of one step.
 use Rattle.std.specs.Prelude.{◌/◌, ℕ, List, [], ◌∷◌, Option, None, Some, Bool, true, false}
 use Rattle.std.specs.Prelude.{option_map, nat_eq, if◌then◌else◌, slice_get}
+use Rattle.std.specs.Bool.{then_some}
 use Rattle.pools.specs.declared.interface.Lend.{Lend}
 use Rattle.pools.specs.declared.interface.Lend.TheVariants as lend
 use Rattle.zone_events.specs.declared.due_item.DueItem.{DueItem}
@@ -191,4 +192,4 @@ each_of c =
     option_map count.Request c.request ∷ option_map count.Reply c.reply
     ∷ option_map count.Reject c.reject ∷ option_map count.Ignored c.ignored
     ∷ option_map count.Turn c.turn ∷ option_map count.Answer c.answer
-    ∷ (if c.is_repeat then Some count.Repeat else None) ∷ []
+    ∷ then_some c.is_repeat count.Repeat ∷ []

@@ -2,7 +2,7 @@
 
 ghost use Rattle.std.specs.Prelude.{◌≡◌, get_or};
 ghost use Rattle.zone_view.specs.Counts.{count_at, no_counts, with_more, with_more_at};
-ghost use Rattle.zone_view.specs.Counts.{with_step};
+ghost use Rattle.zone_view.specs.Counts.{with_one, with_step};
 
 use crate::count::{Count, PLACES};
 use crate::step_counts::StepCounts;
@@ -21,6 +21,8 @@ impl Model for Counts {
     ghost Value = { List ℕ };
 
     ghost view = { λ c. c.numbers };
+
+    ghost inverse = { λ numbers. record { numbers = numbers } };
 }
 
 impl Counts {
@@ -54,8 +56,8 @@ impl Counts {
     pub fn add_at(&mut self, place: usize, more: u64)
         ensures { self.new ≡ with_more_at place more self.old }
     {
-        if let Some(number) = self.numbers.get_mut(place) {
-            *number = number.saturating_add(more);
+        if place < PLACES {
+            self.numbers[place] = self.numbers[place].saturating_add(more);
         }
     }
 
@@ -70,10 +72,17 @@ impl Counts {
     pub fn add_step(&mut self, step: &StepCounts)
         ensures { self.new ≡ with_step step.now self.old }
     {
-        for count in &step.each() {
-            if let Some(count) = count {
-                self.add(*count, 1);
-            }
+        for count in step.each() {
+            self.add_one(count);
+        }
+    }
+
+    /// Counts this once more, if it is there.
+    fn add_one(&mut self, count: Option<Count>)
+        ensures { self.new ≡ with_one count self.old }
+    {
+        if let Some(count) = count {
+            self.add(count, 1);
         }
     }
 }

@@ -2,23 +2,28 @@
 
 ghost use Rattle.std.specs.Prelude.{◌≡◌, ◌≤◌, length, take};
 
-use arrayvec::ArrayVec;
-use ras_module::{Address, Alias, CallKey, EndpointId};
+use ras_module::{Address, Alias, CallKey, EndpointId, H323Id};
 use std::marker::Model;
+
+/// How many aliases of an endpoint are shown.
+const SHOWN: usize = 8;
 
 /// The first aliases of an endpoint: eight of them if it has more. Contracts see the list.
 #[derive(Drop)]
 pub struct ShownAliases {
-    items: ArrayVec<Alias, 8>,
+    items: [Alias; SHOWN],
+    count: usize,
 }
 
 impl Model for ShownAliases {
-    ghost use Rattle.std.specs.Prelude.{List};
+    ghost use Rattle.std.specs.Prelude.{◌≤◌, List, take};
     ghost use Rattle.ras_module.specs.declared.alias.Alias.{Alias};
 
     ghost Value = { List Alias };
 
-    ghost view = { λ a. a.items.items };
+    ghost view = { λ a. take a.count a.items };
+
+    ghost invariant = { λ a. a.count ≤ 8 };
 }
 
 impl ShownAliases {
@@ -26,19 +31,46 @@ impl ShownAliases {
     pub fn first_of(aliases: &[Alias]) -> Self
         ensures { result ≡ take 8 aliases.now }
     {
-        let mut items = ArrayVec::new();
-        for alias in aliases.iter().take(8) {
-            items.push(*alias);
+        let shown = front_of(aliases);
+        ShownAliases {
+            items: padded(shown),
+            count: shown.len(),
         }
-        ShownAliases { items }
     }
 
     /// The aliases, in the order of the endpoint's last full RegistrationRequest.
     pub fn as_slice(&self) -> &[Alias]
         ensures { result.now ≡ self.now }
     {
-        self.items.as_slice()
+        &self.items[..self.count]
     }
+}
+
+/// The first of these aliases, as many as are shown.
+fn front_of(aliases: &[Alias]) -> &[Alias]
+    ensures front { result.now ≡ take 8 aliases.now }
+    ensures few { length result.now ≤ 8 }
+{
+    if aliases.len() > SHOWN {
+        &aliases[..SHOWN]
+    } else {
+        aliases
+    }
+}
+
+/// These aliases, with others behind.
+fn padded(shown: &[Alias]) -> [Alias; SHOWN]
+    requires { length shown.now ≤ 8 }
+    ensures { take (length shown.now) result ≡ shown.now }
+{
+    let mut items = [filler(); SHOWN];
+    items[..shown.len()].copy_from_slice(shown);
+    items
+}
+
+/// What stands where no alias is shown.
+fn filler() -> Alias {
+    Alias::H323Id(H323Id::new(&[0]).unwrap())
 }
 
 /// A registered endpoint. Moments are milliseconds of the zone's clock.

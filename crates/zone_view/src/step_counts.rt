@@ -1,6 +1,7 @@
 //! What is counted of one step.
 
-ghost use Rattle.std.specs.Prelude.{◌≡◌};
+ghost use Rattle.std.specs.Prelude.{◌≡◌, option_map};
+ghost use Rattle.zone_view.specs.declared.count.Count.TheVariants as count;
 ghost use Rattle.zone_view.specs.StepCounts.{admission_reject, answer_of, bandwidth_reject};
 ghost use Rattle.zone_view.specs.StepCounts.{counts_of, deed_of, each_of, deed_of_item, disengage_reject};
 ghost use Rattle.zone_view.specs.StepCounts.{ignored_by, is_read, kind_by, kind_in};
@@ -58,14 +59,74 @@ impl StepCounts {
         ensures { result ≡ each_of self.now }
     {
         [
-            self.request.map(Count::Request),
-            self.reply.map(Count::Reply),
-            self.reject.map(Count::Reject),
-            self.ignored.map(Count::Ignored),
-            self.turn.map(Count::Turn),
-            self.answer.map(Count::Answer),
+            counted_request(self.request),
+            counted_reply(self.reply),
+            counted_reject(self.reject),
+            counted_ignored(self.ignored),
+            counted_turn(self.turn),
+            counted_answer(self.answer),
             self.is_repeat.then_some(Count::Repeat),
         ]
+    }
+}
+
+/// The request, if one was read.
+fn counted_request(request: Option<RequestKind>) -> Option<Count>
+    ensures { result ≡ option_map count.Request request }
+{
+    match request {
+        Some(request) => Some(Count::Request(request)),
+        None => None,
+    }
+}
+
+/// The message, if one is sent.
+fn counted_reply(reply: Option<ReplyKind>) -> Option<Count>
+    ensures { result ≡ option_map count.Reply reply }
+{
+    match reply {
+        Some(reply) => Some(Count::Reply(reply)),
+        None => None,
+    }
+}
+
+/// The reason, if it rejects.
+fn counted_reject(reject: Option<Reject>) -> Option<Count>
+    ensures { result ≡ option_map count.Reject reject }
+{
+    match reject {
+        Some(reject) => Some(Count::Reject(reject)),
+        None => None,
+    }
+}
+
+/// The cause, if the datagram was ignored.
+fn counted_ignored(ignored: Option<IgnoredCause>) -> Option<Count>
+    ensures { result ≡ option_map count.Ignored ignored }
+{
+    match ignored {
+        Some(ignored) => Some(Count::Ignored(ignored)),
+        None => None,
+    }
+}
+
+/// What the turn did, if the step was one.
+fn counted_turn(turn: Option<TurnDeed>) -> Option<Count>
+    ensures { result ≡ option_map count.Turn turn }
+{
+    match turn {
+        Some(turn) => Some(Count::Turn(turn)),
+        None => None,
+    }
+}
+
+/// The answer of the pool, if one was asked.
+fn counted_answer(answer: Option<Answer>) -> Option<Count>
+    ensures { result ≡ option_map count.Answer answer }
+{
+    match answer {
+        Some(answer) => Some(Count::Answer(answer)),
+        None => None,
     }
 }
 
@@ -93,6 +154,7 @@ fn is_read(note: Note) -> bool
 }
 
 /// The kind of the request at this index before the extension marker.
+#[tactic(auto, unfolding(crate::specs::StepCounts::request_at))]
 fn request_at(index: u8) -> Option<RequestKind>
     ensures { result ≡ request_at index }
 {
@@ -129,6 +191,7 @@ fn kind_in(octets: &[u8]) -> Option<ReplyKind>
 }
 
 /// The kind of the message with this first octet.
+#[tactic(auto, unfolding(crate::specs::StepCounts::kind_by))]
 fn kind_by(octet: u8) -> Option<ReplyKind>
     ensures { result ≡ kind_by octet }
 {
@@ -139,6 +202,7 @@ fn kind_by(octet: u8) -> Option<ReplyKind>
 }
 
 /// The kind of the message at this index before the extension marker.
+#[tactic(auto, unfolding(crate::specs::StepCounts::kind_of_root))]
 fn kind_of_root(index: u8) -> Option<ReplyKind>
     ensures { result ≡ kind_of_root index }
 {
