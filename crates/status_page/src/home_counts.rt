@@ -1,7 +1,8 @@
 //! What was counted, on the page for people.
 
-use crate::counted::{Counted, CountedReject};
-use crate::counted::{answers_in, ignored_in, rejects_in, replies_in, requests_in, turns_in};
+use crate::counted::{
+    Counted, CountedReject, answers_in, ignored_in, rejects_in, replies_in, requests_in, turns_in,
+};
 use crate::text_parts::push_number;
 use std::alloc::AllocError;
 use zone_view::{Count, Counts, ServerFigures};

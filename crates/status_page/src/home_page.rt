@@ -114,11 +114,7 @@ fn push_endpoint_section(
 }
 
 /// Writes some calls, with a link to the next ones.
-fn push_call_section(
-    out: &mut String,
-    query: &Query,
-    calls: &CallList,
-) -> Result<(), AllocError> {
+fn push_call_section(out: &mut String, query: &Query, calls: &CallList) -> Result<(), AllocError> {
     out.push_str("<section><h2>Calls</h2>\n")?;
     push_calls(out, calls.rows.as_slice())?;
     if let Some(row) = calls.rows.last() {

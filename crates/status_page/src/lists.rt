@@ -7,7 +7,7 @@ ghost use Rattle.std.specs.Ordering.{nat_cmp};
 ghost use Rattle.status_page.specs.Lists.{identifiers_of, is_call_after, is_endpoint_after};
 ghost use Rattle.status_page.specs.Lists.{IsNearer, call_keys_of};
 
-use crate::keeping::keep;
+use crate::keeping::{keep, values_of};
 use ras_module::{CallKey, EndpointId};
 use std::alloc::{AllocError, Global};
 use std::collections::BTreeMap;
@@ -55,12 +55,13 @@ pub fn endpoints_after<Z: RunningZone>(
     let mut is_more = false;
     while let Some(row) = next_endpoint(zone, &mut told, &mut place) {
         let key = row.identifier;
-        if is_endpoint_after(after, &key) && keep(alloc, &mut entries, most, key, row)? {
-            is_more = true;
+        if !is_endpoint_after(after, &key) {
+            continue;
         }
+        is_more |= keep(alloc, &mut entries, most, key, row)?;
     }
     Ok(EndpointList {
-        rows: entries.into_values().collect(alloc)?,
+        rows: values_of(alloc, entries)?,
         is_more,
     })
 }
@@ -117,12 +118,13 @@ pub fn calls_after<Z: RunningZone>(
     let mut is_more = false;
     while let Some(row) = next_call(zone, &mut told, &mut place) {
         let key = row.key;
-        if is_call_after(after, &key) && keep(alloc, &mut entries, most, key.octets, row)? {
-            is_more = true;
+        if !is_call_after(after, &key) {
+            continue;
         }
+        is_more |= keep(alloc, &mut entries, most, key.octets, row)?;
     }
     Ok(CallList {
-        rows: entries.into_values().collect(alloc)?,
+        rows: values_of(alloc, entries)?,
         is_more,
     })
 }
@@ -151,7 +153,7 @@ fn is_call_after(after: Option<CallKey>, key: &CallKey) -> bool
     ensures { result ≡ is_call_after after key.now }
 {
     match after {
-        Some(last) => last.octets < key.octets,
+        Some(last) => last.octets.cmp(&key.octets).is_lt(),
         None => true,
     }
 }

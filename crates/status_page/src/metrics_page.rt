@@ -4,8 +4,9 @@ ghost use Rattle.std.specs.Prelude.{◌≡◌, IfOk};
 ghost use Rattle.status_page.specs.declared.response.Content.TheVariants.{Metrics};
 ghost use Rattle.status_page.specs.declared.response.Status.TheVariants.{Found};
 
-use crate::counted::{Counted, CountedReject};
-use crate::counted::{answers_in, ignored_in, rejects_in, replies_in, requests_in, turns_in};
+use crate::counted::{
+    Counted, CountedReject, answers_in, ignored_in, rejects_in, replies_in, requests_in, turns_in,
+};
 use crate::overview::{About, Overview};
 use crate::response::{Content, Response, found};
 use crate::text_parts::{push_address, push_number};
@@ -97,19 +98,61 @@ fn push_about(out: &mut String, about: &About) -> Result<(), AllocError> {
 /// Writes the figures of a zone.
 fn push_figures(out: &mut String, figures: &ZoneFigures) -> Result<(), AllocError> {
     let help = "Whole seconds since the zone began to be served.";
-    push_metric(out, "gambyrei_clock_seconds", Kind::Gauge, help, figures.clock / 1_000)?;
+    push_metric(
+        out,
+        "gambyrei_clock_seconds",
+        Kind::Gauge,
+        help,
+        figures.clock / 1_000,
+    )?;
     let help = "Steps of the zone.";
-    push_metric(out, "gambyrei_steps_total", Kind::Counter, help, figures.steps)?;
+    push_metric(
+        out,
+        "gambyrei_steps_total",
+        Kind::Counter,
+        help,
+        figures.steps,
+    )?;
     let help = "Registered endpoints.";
-    push_metric(out, "gambyrei_endpoints", Kind::Gauge, help, figures.endpoints as u64)?;
+    push_metric(
+        out,
+        "gambyrei_endpoints",
+        Kind::Gauge,
+        help,
+        figures.endpoints as u64,
+    )?;
     let help = "Open calls.";
-    push_metric(out, "gambyrei_calls", Kind::Gauge, help, figures.calls as u64)?;
+    push_metric(
+        out,
+        "gambyrei_calls",
+        Kind::Gauge,
+        help,
+        figures.calls as u64,
+    )?;
     let help = "Replies that are kept for repeated requests, or being made.";
-    push_metric(out, "gambyrei_kept_replies", Kind::Gauge, help, figures.kept as u64)?;
+    push_metric(
+        out,
+        "gambyrei_kept_replies",
+        Kind::Gauge,
+        help,
+        figures.kept as u64,
+    )?;
     let help = "Bandwidth of the open calls, in units of 100 bit/s.";
-    push_metric(out, "gambyrei_bandwidth_in_use", Kind::Gauge, help, figures.in_use)?;
+    push_metric(
+        out,
+        "gambyrei_bandwidth_in_use",
+        Kind::Gauge,
+        help,
+        figures.in_use,
+    )?;
     let help = "The most bandwidth that may be in use, in units of 100 bit/s.";
-    push_metric(out, "gambyrei_bandwidth_limit", Kind::Gauge, help, figures.limit)
+    push_metric(
+        out,
+        "gambyrei_bandwidth_limit",
+        Kind::Gauge,
+        help,
+        figures.limit,
+    )
 }
 
 /// The figures of a pool that are metrics.
@@ -184,16 +227,40 @@ fn push_pool_metric(
 /// Writes what was counted of the steps of a zone.
 fn push_counts(out: &mut String, counts: &Counts) -> Result<(), AllocError> {
     let help = "Requests that were read.";
-    push_labelled(out, "gambyrei_requests_total", help, "kind", &requests_in(counts))?;
+    push_labelled(
+        out,
+        "gambyrei_requests_total",
+        help,
+        "kind",
+        &requests_in(counts),
+    )?;
     let help = "Messages that were to be sent.";
-    push_labelled(out, "gambyrei_replies_total", help, "kind", &replies_in(counts))?;
+    push_labelled(
+        out,
+        "gambyrei_replies_total",
+        help,
+        "kind",
+        &replies_in(counts),
+    )?;
     push_rejects(out, &rejects_in(counts))?;
     let help = "Datagrams that were ignored.";
-    push_labelled(out, "gambyrei_ignored_total", help, "cause", &ignored_in(counts))?;
+    push_labelled(
+        out,
+        "gambyrei_ignored_total",
+        help,
+        "cause",
+        &ignored_in(counts),
+    )?;
     let help = "Turns of the timers, by what they did.";
     push_labelled(out, "gambyrei_turns_total", help, "deed", &turns_in(counts))?;
     let help = "Answers of pools to requests for bandwidth.";
-    push_labelled(out, "gambyrei_pool_answers_total", help, "answer", &answers_in(counts))?;
+    push_labelled(
+        out,
+        "gambyrei_pool_answers_total",
+        help,
+        "answer",
+        &answers_in(counts),
+    )?;
     let help = "Datagrams that came before, so that their kept replies were sent again.";
     let repeats = counts.get(Count::Repeat);
     push_metric(out, "gambyrei_repeats_total", Kind::Counter, help, repeats)
@@ -217,16 +284,46 @@ fn push_rejects(out: &mut String, rejects: &[CountedReject]) -> Result<(), Alloc
 /// Writes what the server counted.
 fn push_server(out: &mut String, server: &ServerFigures) -> Result<(), AllocError> {
     let help = "Datagrams that were received.";
-    push_metric(out, "gambyrei_received_total", Kind::Counter, help, server.received)?;
+    push_metric(
+        out,
+        "gambyrei_received_total",
+        Kind::Counter,
+        help,
+        server.received,
+    )?;
     let help = "Datagrams that were sent.";
     push_metric(out, "gambyrei_sent_total", Kind::Counter, help, server.sent)?;
     let help = "Replies that found no place on their way to the sender.";
-    push_metric(out, "gambyrei_dropped_total", Kind::Counter, help, server.dropped)?;
+    push_metric(
+        out,
+        "gambyrei_dropped_total",
+        Kind::Counter,
+        help,
+        server.dropped,
+    )?;
     let help = "Steps that were not made for want of memory.";
-    push_metric(out, "gambyrei_refused_total", Kind::Counter, help, server.refused)?;
+    push_metric(
+        out,
+        "gambyrei_refused_total",
+        Kind::Counter,
+        help,
+        server.refused,
+    )?;
     let help = "Receives that failed.";
     let faults = server.receive_faults;
-    push_metric(out, "gambyrei_receive_faults_total", Kind::Counter, help, faults)?;
+    push_metric(
+        out,
+        "gambyrei_receive_faults_total",
+        Kind::Counter,
+        help,
+        faults,
+    )?;
     let help = "Sends that failed.";
-    push_metric(out, "gambyrei_send_faults_total", Kind::Counter, help, server.send_faults)
+    push_metric(
+        out,
+        "gambyrei_send_faults_total",
+        Kind::Counter,
+        help,
+        server.send_faults,
+    )
 }

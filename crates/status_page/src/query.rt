@@ -88,11 +88,7 @@ fn with_part(
 }
 
 /// A query of endpoints behind the one that a value names. None if it names none.
-fn with_endpoint(
-    alloc: Global,
-    query: Query,
-    value: &[u8],
-) -> Result<Option<Query>, AllocError>
+fn with_endpoint(alloc: Global, query: Query, value: &[u8]) -> Result<Option<Query>, AllocError>
     ensures { IfOk result (λ changed. changed ≡ with_endpoint query value.now) }
 {
     match identifier_of(alloc, value)? {

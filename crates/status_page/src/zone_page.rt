@@ -6,8 +6,9 @@ ghost use Rattle.status_page.specs.JsonZone.{with_figures, with_server};
 ghost use Rattle.status_page.specs.declared.response.Content.TheVariants.{Json};
 ghost use Rattle.status_page.specs.declared.response.Status.TheVariants.{Found};
 
-use crate::counted::{Counted, CountedReject};
-use crate::counted::{answers_in, ignored_in, rejects_in, replies_in, requests_in, turns_in};
+use crate::counted::{
+    Counted, CountedReject, answers_in, ignored_in, rejects_in, replies_in, requests_in, turns_in,
+};
 use crate::overview::{About, Overview};
 use crate::response::{Content, Response, found};
 use crate::text_parts::{push_address, push_json, push_number};
@@ -17,11 +18,7 @@ use zone_view::{Count, Counts, ServerFigures, ZoneFigures};
 
 /// A zone in JSON: its name and address, its figures, those of its pools, what was counted of its
 /// steps, and what its server counted.
-pub fn zone_json(
-    alloc: Global,
-    about: &About,
-    overview: &Overview,
-) -> Result<Response, AllocError>
+pub fn zone_json(alloc: Global, about: &About, overview: &Overview) -> Result<Response, AllocError>
     ensures found { IfOk result (λ response. response.status ≡ Found) }
     ensures content { IfOk result (λ response. response.content ≡ Json) }
 {
