@@ -2,7 +2,7 @@
 
 use ras_module::Address;
 use std::io::ErrorKind;
-use std::net::{IpAddr, Ipv4Addr, Net, SocketAddr, TcpListener};
+use std::net::{IpAddr, Ipv4Addr, Net, SocketAddr, TcpListener, TcpStream};
 use thiserror::Error;
 
 /// A listener that is bound to the address of the status page.
@@ -50,7 +50,10 @@ impl BindFault {
 }
 
 /// Binds the address of the status page, and listens there.
-pub fn bind_status<R: Net>(rt: &R, address: Address) -> Result<BoundListener, BindFault> {
+pub fn bind_status<R: Net<Listener = TcpListener, Stream = TcpStream>>(
+    rt: &R,
+    address: Address,
+) -> Result<BoundListener, BindFault> {
     let [a, b, c, d] = address.ip;
     let address = SocketAddr::new(IpAddr::V4(Ipv4Addr::new(a, b, c, d)), address.port);
     match TcpListener::bind(rt, address) {

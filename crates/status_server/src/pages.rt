@@ -6,8 +6,10 @@ use futures::future;
 use futures::future::Ready;
 use http_body_util::Full;
 use hyper::body::Incoming;
-use hyper::header::{ALLOW, CACHE_CONTROL, CONTENT_SECURITY_POLICY, CONTENT_TYPE};
-use hyper::header::{HeaderMapError, HeaderValue, X_CONTENT_TYPE_OPTIONS};
+use hyper::header::{
+    ALLOW, CACHE_CONTROL, CONTENT_SECURITY_POLICY, CONTENT_TYPE, HeaderMapError, HeaderValue,
+    X_CONTENT_TYPE_OPTIONS,
+};
 use hyper::service::Service;
 use hyper::{HeaderMap, Request, StatusCode};
 use status_page::{Content, Method, Response, Status};

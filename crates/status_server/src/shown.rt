@@ -1,9 +1,10 @@
 //! A zone as it is shown.
 
 use crate::view::View;
-use status_page::{About, Asked, Method, Overview, Query, Response, Status};
-use status_page::{asked_by, calls_after, calls_json, endpoints_after, endpoints_json, home, line};
-use status_page::{metrics, zone_json};
+use status_page::{
+    About, Asked, Method, Overview, Query, Response, Status, asked_by, calls_after, calls_json,
+    endpoints_after, endpoints_json, home, line, metrics, zone_json,
+};
 use std::alloc::{AllocError, Global};
 use std::cell::RefCell;
 use std::rc::Rc;
@@ -147,8 +148,14 @@ impl<R: Clock, Z: RunningZone> View for Shown<'_, R, Z> {
         let asked = asked_by(alloc, method, path, query)?;
         match asked {
             Asked::Home(_) | Asked::Endpoints(_) | Asked::Calls(_) => self.rows(asked),
-            Asked::Metrics => metrics(alloc, &self.about, &self.overview()?),
-            Asked::Zone => zone_json(alloc, &self.about, &self.overview()?),
+            Asked::Metrics => {
+                let overview = self.overview()?;
+                metrics(alloc, &self.about, &overview)
+            }
+            Asked::Zone => {
+                let overview = self.overview()?;
+                zone_json(alloc, &self.about, &overview)
+            }
             Asked::Health if self.zone.has_ended() => line(alloc, Status::Unavailable, "ended"),
             Asked::Health => line(alloc, Status::Found, "ok"),
             Asked::WrongQuery => line(alloc, Status::BadRequest, "no such query"),

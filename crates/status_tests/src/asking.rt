@@ -54,7 +54,11 @@ fn endpoints_behind_one(rt: HostRuntime) -> Result<(), Fail> {
     };
     let asked = look(alloc, "/endpoints.json", "after=a%20b%C3%A9&most=7")?;
     assert!(rt; asked == Asked::Endpoints(query));
-    let asked = look(alloc, "/endpoints.json", "most=7&&most=8&after=x&after=a%20b%c3%a9&most=7")?;
+    let asked = look(
+        alloc,
+        "/endpoints.json",
+        "most=7&&most=8&after=x&after=a%20b%c3%a9&most=7",
+    )?;
     assert!(rt; asked == Asked::Endpoints(query));
     Ok(())
 }
@@ -87,9 +91,20 @@ fn calls_behind_one(rt: HostRuntime) -> Result<(), Fail> {
 fn wrong_parameters(rt: HostRuntime) -> Result<(), Fail> {
     let alloc = rt.alloc();
     for text in [
-        "most=0", "most=201", "most=", "most", "most=+1", "after=", "after=%FF", "first=1", "x",
+        "most=0",
+        "most=201",
+        "most=",
+        "most",
+        "most=+1",
+        "after=",
+        "after=%FF",
+        "first=1",
+        "x",
     ] {
-        assert!(rt; look(alloc, "/endpoints.json", text)? == Asked::WrongQuery, "{text}");
+        assert!(rt;
+            look(alloc, "/endpoints.json", text)? == Asked::WrongQuery,
+            "{text}"
+        );
     }
     for text in [
         "after=1",
@@ -97,7 +112,10 @@ fn wrong_parameters(rt: HostRuntime) -> Result<(), Fail> {
         "after=zz000000000000000000000000000001",
         "endpoints=1",
     ] {
-        assert!(rt; look(alloc, "/calls.json", text)? == Asked::WrongQuery, "{text}");
+        assert!(rt;
+            look(alloc, "/calls.json", text)? == Asked::WrongQuery,
+            "{text}"
+        );
     }
     assert!(rt; look(alloc, "/", "after=0001")? == Asked::WrongQuery);
     assert!(rt; look(alloc, "/", "most=1")? == Asked::WrongQuery);

@@ -5,8 +5,9 @@ use ras_module::{Address, Alias, CallKey, EndpointId, H323Id};
 use std::alloc::{AllocError, Global};
 use std::test::Fail;
 use value_texts::name_of;
-use zone_view::{CallRow, Counts, EndpointRow, RunningZone, ServerFigures, ShownAliases};
-use zone_view::ZoneFigures;
+use zone_view::{
+    CallRow, Counts, EndpointRow, RunningZone, ServerFigures, ShownAliases, ZoneFigures,
+};
 
 /// A zone with these endpoints and calls.
 #[derive(Drop)]
@@ -63,7 +64,9 @@ pub(crate) fn small_zone(alloc: Global) -> Result<MemoryZone, Fail> {
         calls: Vec::new(alloc),
     };
     for text in ["0005", "0001", "0003", "0001", "0004", "0002"] {
-        zone.endpoints.push(identifier(text)?).map_err(AllocError::from)?;
+        zone.endpoints
+            .push(identifier(text)?)
+            .map_err(AllocError::from)?;
     }
     for last in [3, 1, 2, 1] {
         let row = call_row(last, identifier("0001")?, None);

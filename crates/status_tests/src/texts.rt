@@ -1,8 +1,10 @@
 //! The texts of the pages.
 
 use crate::memory_zone::{address, call_row, endpoint_row, identifier, small_zone};
-use status_page::{About, CallList, Content, EndpointList, Overview, Query, Status, home, metrics};
-use status_page::{calls_after, calls_json, endpoints_after, endpoints_json, zone_json};
+use status_page::{
+    About, CallList, Content, EndpointList, Overview, Query, Status, calls_after, calls_json,
+    endpoints_after, endpoints_json, home, metrics, zone_json,
+};
 use std::alloc::{AllocError, Global};
 use std::test::Fail;
 use value_texts::name_of;
@@ -51,7 +53,10 @@ fn endpoints_in_json(rt: HostRuntime) -> Result<(), Fail> {
         is_more: false,
     };
     let response = endpoints_json(alloc, &none)?;
-    assert_eq!(rt; response.text.as_str(), "{\"endpoints\":[],\"next\":null}\n");
+    assert_eq!(rt;
+        response.text.as_str(),
+        "{\"endpoints\":[],\"next\":null}\n"
+    );
     Ok(())
 }
 
@@ -96,19 +101,39 @@ fn metrics_have_help_and_type(rt: HostRuntime) -> Result<(), Fail> {
     let response = metrics(alloc, &about()?, &overview)?;
     let text = response.text.as_str();
     for name in [
-        "zone_info gauge", "clock_seconds gauge", "steps_total counter", "endpoints gauge",
-        "calls gauge", "kept_replies gauge", "bandwidth_in_use gauge", "bandwidth_limit gauge",
-        "pool_limit gauge", "pool_lent gauge", "pool_refusals_total counter",
-        "pool_waits_total counter", "requests_total counter", "replies_total counter",
-        "rejects_total counter", "ignored_total counter", "turns_total counter",
-        "pool_answers_total counter", "repeats_total counter", "received_total counter",
-        "sent_total counter", "dropped_total counter", "refused_total counter",
-        "receive_faults_total counter", "send_faults_total counter",
+        "zone_info gauge",
+        "clock_seconds gauge",
+        "steps_total counter",
+        "endpoints gauge",
+        "calls gauge",
+        "kept_replies gauge",
+        "bandwidth_in_use gauge",
+        "bandwidth_limit gauge",
+        "pool_limit gauge",
+        "pool_lent gauge",
+        "pool_refusals_total counter",
+        "pool_waits_total counter",
+        "requests_total counter",
+        "replies_total counter",
+        "rejects_total counter",
+        "ignored_total counter",
+        "turns_total counter",
+        "pool_answers_total counter",
+        "repeats_total counter",
+        "received_total counter",
+        "sent_total counter",
+        "dropped_total counter",
+        "refused_total counter",
+        "receive_faults_total counter",
+        "send_faults_total counter",
     ] {
         let kind = format!(in alloc; "# TYPE gambyrei_{name}\n")?;
         assert!(rt; text.contains(kind.as_str()), "{name}");
     }
-    let help = text.split('\n').filter(|part| part.starts_with("# HELP gambyrei_")).count();
+    let help = text
+        .split('\n')
+        .filter(|part| part.starts_with("# HELP gambyrei_"))
+        .count();
     assert_eq!(rt; help, 25);
     for sample in [
         "gambyrei_zone_info{name=\"<gk> \\\"\\\\\",address=\"10.0.0.1:1719\"} 1\n",
