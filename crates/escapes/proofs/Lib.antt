@@ -1,0 +1,3 @@
+pub mod Escaped
+pub mod Units
+pub mod Writes

@@ -1,0 +1,55 @@
+use Rattle.std.proofs.Common.{◌≡◌, ◌∙◌, sym, ap, subst, refl, true, arith, All, List, ℕ, Box}
+use Rattle.std.specs.BTreeMap.{values}
+use Rattle.std.specs.Cmp.Lexicographic.{slice_cmp}
+use Rattle.std.specs.Global.{Global}
+use Rattle.std.specs.List.Sorted.{IsStrictlySortedBy}
+use Rattle.std.specs.Ordering.{nat_cmp}
+use Rattle.std.proofs.lemmas.List.Elements.{All-same, All-take, All-weaker}
+use Rattle.zone_view.specs.declared.rows.EndpointRow.{EndpointRow}
+use Rattle.status_page.specs.Lists.{IsEndpointEntry, identifiers_of, is_endpoint_after}
+use Rattle.status_page.proofs.Entries.{All-insert_entry, All-values, keys_of_values, same_lists}
+use Rattle.status_page.proofs.lists.endpoints_after.Goals as goal
+
+pub loop-row-preserved : goal.loop-row-preserved
+loop-row-preserved g c =
+    let P : List ℕ × Box EndpointRow Global → Type 0 = IsEndpointEntry c.args.after (g.Z.RunningZone.has_endpoint c.args.zone.now) in
+    let Q : EndpointRow → Type 0 = λ row. (c.in-Some.row.identifier ≡ row.identifier)
+    × (is_endpoint_after c.args.after row.identifier ≡ true) × g.Z.RunningZone.has_endpoint c.args.zone.now row in
+    let is_after : is_endpoint_after c.args.after c.in-Some.row.identifier ≡ true =
+    grind (arith, c.is_endpoint_after.ensures, c.if-not-is_endpoint_after.false) in
+    let put = c.in_ok-is_more.ensures.entries in
+    record {
+      entries = All-same P c.keep.new.entries.entries _ put.2 (All-take P c.args.most _
+          (All-insert_entry _ _ put.0 P c.loop-row.entries.entries same_lists c.loop-row.invariant.entries
+          (subst Q (sym put.1) (refl, is_after, c.in-Some.ensures.row))));
+      ordered = c.in_ok-is_more.ensures.ordered;
+      few = c.in_ok-is_more.ensures.few;
+      told = c.next_endpoint.ensures.told;
+    }
+
+pub returns-clause-rising : goal.returns-clause-rising
+returns-clause-rising g c =
+    let P : List ℕ × Box EndpointRow Global → Type 0 = IsEndpointEntry c.args.after (g.Z.RunningZone.has_endpoint c.args.zone.now) in
+    let sorted : IsStrictlySortedBy (slice_cmp nat_cmp) (identifiers_of (values c.loop-row.entries)) =
+    let S : List (List ℕ) → Type 0 = IsStrictlySortedBy (slice_cmp nat_cmp) in
+    subst S (sym (keys_of_values (λ row. row.value.identifier) c.loop-row.entries.entries
+    (All-weaker P (λ e. e.0 ≡ e.1.value.identifier) (λ e h. h.0) c.loop-row.entries.entries c.loop-row.invariant.entries)))
+    c.loop-row.invariant.ordered in
+    let S : List (Box EndpointRow Global) → Type 0 = λ rows. IsStrictlySortedBy (slice_cmp nat_cmp) (identifiers_of rows) in
+    subst S (sym c.in_ok-values_of.ensures) sorted
+
+pub returns-clause-after : goal.returns-clause-after
+returns-clause-after g c =
+    let P : List ℕ × Box EndpointRow Global → Type 0 = IsEndpointEntry c.args.after (g.Z.RunningZone.has_endpoint c.args.zone.now) in
+    let Q : Box EndpointRow Global → Type 0 = λ row. is_endpoint_after c.args.after row.value.identifier ≡ true in
+    All-same Q _ (values c.loop-row.entries) c.in_ok-values_of.ensures
+    (All-values Q c.loop-row.entries.entries
+    (All-weaker P (λ e. Q e.1) (λ e h. h.1) c.loop-row.entries.entries c.loop-row.invariant.entries))
+
+pub returns-clause-told : goal.returns-clause-told
+returns-clause-told g c =
+    let P : List ℕ × Box EndpointRow Global → Type 0 = IsEndpointEntry c.args.after (g.Z.RunningZone.has_endpoint c.args.zone.now) in
+    let Q : Box EndpointRow Global → Type 0 = λ row. g.Z.RunningZone.has_endpoint c.args.zone.now row.value in
+    All-same Q _ (values c.loop-row.entries) c.in_ok-values_of.ensures
+    (All-values Q c.loop-row.entries.entries
+    (All-weaker P (λ e. Q e.1) (λ e h. h.2) c.loop-row.entries.entries c.loop-row.invariant.entries))

@@ -1,0 +1,45 @@
+//! The lowest entries of many.
+
+ghost use Rattle.std.specs.Prelude.{◌≡◌, ◌≤◌, ◌<◌, ◌+◌, ◌↔◌, take, IsTrue, IfOk, OnOk, Box};
+ghost use Rattle.std.specs.Global.{Global};
+ghost use Rattle.std.specs.BTreeMap.{IsOrdered, btree_map_len, insert_entry, values};
+
+use std::alloc::{AllocError, Global};
+use std::collections::BTreeMap;
+
+/// Puts an entry in, in the place of one with an equal key if there is one, and lets the last entry
+/// go if there are more than `most` then. Returns whether one went.
+pub(crate) fn keep<K, V>(
+    alloc: Global,
+    entries: &mut BTreeMap<K, Box<V>>,
+    most: usize,
+    key: K,
+    value: V,
+) -> Result<bool, AllocError>
+where
+    K: Ord + Drop,
+    V: Drop,
+    requires few { btree_map_len entries.old ≤ most }
+    ensures entries { OnOk result ((kept : Box V Global) × (kept.value ≡ value)
+        × (entries.new.entries ≡ take most (insert_entry K.cmp entries.old.entries key kept))) }
+    ensures ordered { OnOk result (IsOrdered K.cmp entries.new) }
+    ensures few { OnOk result (btree_map_len entries.new ≤ most) }
+{
+    let kept = Box::new(alloc, value)?;
+    entries.insert(key, kept)?;
+    if entries.len() <= most {
+        return Ok(false);
+    }
+    let _last = entries.pop_last();
+    Ok(true)
+}
+
+/// The values, by rising keys.
+pub(crate) fn values_of<K, V>(alloc: Global, entries: BTreeMap<K, V>) -> Result<Vec<V>, AllocError>
+where
+    K: Ord + Drop,
+    V: Drop,
+    ensures { IfOk result (λ rows. rows.items ≡ values entries) }
+{
+    entries.into_values().collect(alloc)
+}

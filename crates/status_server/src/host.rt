@@ -1,0 +1,100 @@
+//! Who serves a connection.
+
+ghost use Rattle.std.specs.Prelude.{IfOk};
+ghost use Rattle.hyper.specs.ServerDispatch.{GivesBodies, Runs};
+ghost use Rattle.tokio.specs.Timers.{timeout_future};
+
+use crate::pages::Pages;
+use crate::view::View;
+use bytes::Bytes;
+use futures::Future;
+use http_body_util::Full;
+use hyper::body::{Body, Incoming};
+use hyper::server::conn::http1::{Builder, Connection};
+use hyper::service::Service;
+use hyper::{Request, Response};
+use std::alloc::Global;
+use std::io;
+use std::rc::Rc;
+use std::time::{Clock, Duration};
+use tokio::io::{AsyncRead, AsyncWrite};
+use tokio::net::TcpStream;
+use tokio::time::{Handle, Timeout};
+
+/// How many seconds a connection may take, with its one request.
+const MOST_SECONDS: u64 = 10;
+
+/// Serves one request on a connection, in as much time as there is.
+fn serve_one<R, I, S, B>(
+    rt: &R,
+    timers: &Handle,
+    http: &Builder,
+    io: I,
+    service: S,
+) -> io::Result<Timeout<Connection<I, S, B>>>
+where
+    R: Clock,
+    I: AsyncRead + AsyncWrite,
+    S: Service<Request<Incoming<I>>, Response = Response<B>>,
+    S::Error: Into<anyhow::Error>,
+    B: Body,
+    B::Data: Into<Bytes>,
+    B::Error: Into<anyhow::Error>,
+    requires can_call { S.can_call service }
+    requires bodies { (req : _) (future : _) → S.calls service req future
+        → GivesBodies S.Future.gives B.can_poll future }
+    ensures { IfOk result (λ t. Runs I.AsyncRead I.AsyncWrite S.Service S.Future.Future B.Body
+        B.Data.Into (timeout_future t).conn) }
+{
+    let limit = Duration::from_secs(MOST_SECONDS);
+    timers.timeout(rt, limit, http.serve_connection(io, service))
+}
+
+/// Who serves connections.
+pub(crate) trait Host: Drop {
+    type Outcome: Drop;
+
+    type Work: Future<Output = Self::Outcome>;
+
+    /// The work of serving a connection.
+    fn work(&self, socket: TcpStream) -> io::Result<Self::Work>
+        ensures { IfOk result Self.Work.can_poll };
+
+    /// How many connections are being served.
+    fn open(&self) -> usize;
+
+    /// Whether no more connections are to be served.
+    fn has_ended(&self) -> bool;
+}
+
+/// Serves the pages of a view.
+#[derive(Drop)]
+pub(crate) struct PageHost<'a, R, V> {
+    pub(crate) rt: &'a R,
+    pub(crate) alloc: Global,
+    pub(crate) timers: Handle,
+    pub(crate) http: Builder,
+    pub(crate) view: Rc<V>,
+}
+
+impl<R: Clock, V: View> Host for PageHost<'_, R, V> {
+    type Outcome = Result<Result<(), hyper::Error>, tokio::time::error::Elapsed>;
+
+    type Work = Timeout<Connection<TcpStream, Pages<V>, Full<Bytes>>>;
+
+    fn work(&self, socket: TcpStream) -> io::Result<Self::Work> {
+        let pages = Pages {
+            alloc: self.alloc,
+            view: self.view.clone()?,
+        };
+        serve_one(self.rt, &self.timers, &self.http, socket, pages)
+    }
+
+    fn open(&self) -> usize {
+        Rc::strong_count(&self.view).saturating_sub(1)
+    }
+
+    fn has_ended(&self) -> bool {
+        self.view.has_ended()
+    }
+}
