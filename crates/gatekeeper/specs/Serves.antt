@@ -9,7 +9,8 @@ use Rattle.udp_server.specs.declared.report.ServeFault.TheVariants as server
 use Rattle.script.specs.Streams.{OutputState}
 use Rattle.commands.specs.Inputs.{GivesSettings, IsInputRead, input_status}
 use Rattle.gatekeeper.specs.declared.serving_fault.RunningFault.{RunningFault}
-use Rattle.gatekeeper.specs.declared.serving_fault.RunningFault.TheVariants.{Bind, Memory}
+use Rattle.gatekeeper.specs.declared.serving_fault.RunningFault.TheVariants.{Bind, BindPage}
+use Rattle.gatekeeper.specs.declared.serving_fault.RunningFault.TheVariants.{Memory}
 use Rattle.gatekeeper.specs.declared.serving_fault.RunningFault.TheVariants.{WrongPools}
 use Rattle.gatekeeper.specs.declared.serving_fault.RunningFault.TheVariants.{NotFinished}
 use Rattle.gatekeeper.specs.declared.serving_fault.RunningFault.TheVariants.{Stream}
@@ -17,10 +18,11 @@ use Rattle.gatekeeper.specs.declared.serving_fault.ServingFault.{ServingFault}
 use Rattle.gatekeeper.specs.declared.serving_fault.ServingFault.TheVariants.{Running as OfRunning}
 use Rattle.gatekeeper.specs.declared.serving_fault.ServingFault.TheVariants.{Settings as OfSettings}
 
--- 1: the zone couldn't be made, or didn't come back; 3: no memory; 4: the socket couldn't be made,
--- or a stream failed
+-- 1: the zone couldn't be made, or didn't come back; 3: no memory; 4: an address wasn't bound, or
+-- a stream failed
 abbrev pub running_status : RunningFault → ℕ
 running_status (Bind fault) = 4
+running_status (BindPage fault) = 4
 running_status Memory = 3
 running_status WrongPools = 1
 running_status NotFinished = 1

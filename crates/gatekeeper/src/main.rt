@@ -8,6 +8,7 @@ ghost use Rattle.commands.specs.Replays.{status_of};
 mod elapsed;
 mod notices;
 mod over_socket;
+mod page_server;
 mod report;
 mod serve;
 mod service;
@@ -20,10 +21,11 @@ use log::Log;
 use notices::tell_place;
 use script::Output;
 use serve::serve;
-use std::alloc::{AllocError, Global};
+use std::alloc::{AllocError, AllocGlobal, Global};
 use std::io::BufWriter;
-use std::net::Net;
+use std::net::{Net, TcpListener, TcpStream};
 use std::process::ExitCode;
+use std::random::RandomSource;
 use std::rt::{Clock, Env};
 use std::sync::Wait;
 use std::thread::Threads;
@@ -53,12 +55,20 @@ fn words<R: Env + AllocGlobal>(rt: &R, alloc: Global) -> Result<Vec<String>, All
     words.collect(alloc)
 }
 
-fn run<R: Input + Print + Eprint + Threads + Wait + Clock + Net + Log + Sync, S: Stop + Sync>(
-    rt: &R,
-    alloc: Global,
-    stop: &S,
-    words: &[String],
-) -> u8 {
+fn run<
+    R: Input
+        + Print
+        + Eprint
+        + Threads
+        + Wait
+        + Clock
+        + Net<Listener = TcpListener, Stream = TcpStream>
+        + RandomSource
+        + AllocGlobal
+        + Log
+        + Sync,
+    S: Stop + Sync,
+>(rt: &R, alloc: Global, stop: &S, words: &[String]) -> u8 {
     match chosen(rt, alloc, words) {
         Ok(Choice::Replay) => replay_input(rt, alloc),
         Ok(Choice::CheckSettings) => check_input(rt, alloc),
@@ -125,7 +135,17 @@ fn refuse_settings<R: Eprint + Log>(rt: &R, fault: &InputFault) -> u8
 
 /// Serves with the settings on standard input.
 fn serve_input<
-    R: Input + Print + Eprint + Threads + Wait + Clock + Net + Log + Sync,
+    R: Input
+        + Print
+        + Eprint
+        + Threads
+        + Wait
+        + Clock
+        + Net<Listener = TcpListener, Stream = TcpStream>
+        + RandomSource
+        + AllocGlobal
+        + Log
+        + Sync,
     S: Stop + Sync,
 >(rt: &R, alloc: Global, receives: Option<u64>, stop: &S) -> u8 {
     let Ok(buffer) = BufWriter::new(alloc, io::writer(rt)) else {

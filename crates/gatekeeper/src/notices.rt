@@ -8,7 +8,6 @@ use ras_module::{Address, Name};
 use settings::SettingsFault;
 use std::fmt;
 use udp_server::Report;
-use udp_socket::BindFault;
 
 /// A name as people read it.
 #[derive(Drop)]
@@ -43,11 +42,11 @@ pub fn tell_place<R: Log>(rt: &R, fault: &InputFault) {
     }
 }
 
-/// Tells why the address of the zone isn't bound.
-pub fn tell_cause<R: Log>(rt: &R, address: Address, fault: BindFault) {
+/// Tells why an address isn't bound.
+pub fn tell_cause<R: Log>(rt: &R, address: Address, cause: &str) {
     let [a, b, c, d] = address.ip;
     let port = address.port;
-    error!(rt; target: "serve", "{a}.{b}.{c}.{d}:{port} can't be bound: {}", fault.cause());
+    error!(rt; target: "serve", "{a}.{b}.{c}.{d}:{port} can't be bound: {cause}");
 }
 
 /// Tells which zone is served, where, and by how many receivers.
@@ -56,6 +55,13 @@ pub fn tell_zone<R: Log>(rt: &R, name: &Name, address: Address, receivers: usize
     let port = address.port;
     info!(rt; target: "serve", "serving zone {} on {a}.{b}.{c}.{d}:{port}, {receivers} receivers",
         Shown(name));
+}
+
+/// Tells where the status page is served.
+pub fn tell_page<R: Log>(rt: &R, address: Address) {
+    let [a, b, c, d] = address.ip;
+    let port = address.port;
+    info!(rt; target: "serve", "the status page is at http://{a}.{b}.{c}.{d}:{port}/");
 }
 
 /// Warns if anything that should have been done wasn't.

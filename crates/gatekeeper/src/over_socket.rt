@@ -17,7 +17,7 @@ use std::rt::Clock;
 use std::sync::Wait;
 use std::thread::Threads;
 use std::time::Instant;
-use udp_server::{Open, Report, serve_zone};
+use udp_server::{Open, Report, Watcher, serve_zone_watched};
 use udp_socket::{BoundSocket, SocketEnd, Stop};
 
 /// Asks for the buffer that is set, and warns if less is granted.
@@ -69,14 +69,21 @@ fn ends_of<'a, S: Stop>(
     Ok(ends)
 }
 
-/// Serves a zone over a socket until its ends have stopped, or are told to.
-pub fn serve_socket<P: Pool + Send, R: Threads + Wait + Clock + Sync, S: Stop + Sync>(
+/// Serves a zone over a socket until its ends have stopped, or are told to. One who looks at it
+/// meanwhile is waited for at the end.
+pub fn serve_socket<
+    P: Pool + Send,
+    R: Threads + Wait + Clock + Sync,
+    S: Stop + Sync,
+    W: Watcher + Send,
+>(
     rt: &R,
     alloc: Global,
     zone: Zone<P>,
     socket: &BoundSocket,
     service: Service,
     stop: &S,
+    watcher: Option<W>,
 ) -> Result<Report<P>, RunningFault>
     requires receivers { service.receivers ≤ 15 }
     requires plan { IsPlan service.plan }
@@ -89,7 +96,7 @@ pub fn serve_socket<P: Pool + Send, R: Threads + Wait + Clock + Sync, S: Stop + 
     let sender = socket.end(None, stop);
     // the program replaces no pool
     let orders = Vec::new(alloc);
-    let report = serve_zone(
+    let report = serve_zone_watched(
         rt,
         alloc,
         zone,
@@ -99,6 +106,7 @@ pub fn serve_socket<P: Pool + Send, R: Threads + Wait + Clock + Sync, S: Stop + 
         clocks,
         orders,
         service.plan,
+        watcher,
     )?;
     Ok(report)
 }

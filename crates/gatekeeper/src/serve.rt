@@ -8,6 +8,7 @@ ghost use Rattle.udp_server.specs.Served.{IsServed};
 
 use crate::notices::{tell_cause, tell_place, tell_zone, warn_of, warn_of_faults};
 use crate::over_socket::{ask_for_buffer, serve_socket};
+use crate::page_server::PageServer;
 use crate::report::print_report;
 use crate::service::{Ending, Service};
 use crate::serving_fault::{RunningFault, ServingFault};
@@ -17,9 +18,11 @@ use pools::{Pool, PoolSet};
 use ras_core::{Config, NewFault, Zone};
 use script::Output;
 use settings::Settings;
-use std::alloc::Global;
+use status_page::About;
+use std::alloc::{AllocGlobal, Global};
 use std::io::{Read, Write};
-use std::net::Net;
+use std::net::{Net, TcpListener, TcpStream};
+use std::random::RandomSource;
 use std::rt::Clock;
 use std::sync::Wait;
 use std::thread::Threads;
@@ -43,7 +46,18 @@ fn zone_of<P: Pool>(alloc: Global, config: Config, pools: Vec<P>) -> Result<Zone
 
 /// Serves the zone that is set with the pools that were made for it, once it is seen that they are
 /// its pools.
-fn serve_pools<P: Pool + Send, R: Threads + Wait + Clock + Net + Log + Sync, S: Stop + Sync>(
+fn serve_pools<
+    P: Pool + Send,
+    R: Threads
+        + Wait
+        + Clock
+        + Net<Listener = TcpListener, Stream = TcpStream>
+        + RandomSource
+        + AllocGlobal
+        + Log
+        + Sync,
+    S: Stop + Sync,
+>(
     rt: &R,
     alloc: Global,
     settings: Settings,
@@ -59,20 +73,21 @@ fn serve_pools<P: Pool + Send, R: Threads + Wait + Clock + Net + Log + Sync, S: 
     if !are_new(&pools, settings.pools.as_slice()) {
         return Err(RunningFault::WrongPools);
     }
-    let Settings { config, .. } = settings;
+    let Settings { config, status, .. } = settings;
     let parts = config.parts();
     let (name, address) = (parts.identifier, parts.address);
     let zone = zone_of(alloc, config, pools)?;
     let socket = match bind_zone(rt, address) {
         Ok(socket) => socket,
         Err(fault) => {
-            tell_cause(rt, address, fault);
+            tell_cause(rt, address, fault.cause());
             return Err(RunningFault::Bind(fault));
         }
     };
+    let page = PageServer::bind(rt, status, About { name, address })?;
     ask_for_buffer(rt, &socket, service.buffer);
     tell_zone(rt, &name, address, service.receivers);
-    let report = serve_socket(rt, alloc, zone, &socket, service, ending.stop)?;
+    let report = serve_socket(rt, alloc, zone, &socket, service, ending.stop, page)?;
     warn_of_faults(rt, &report);
     Ok(report)
 }
@@ -80,7 +95,14 @@ fn serve_pools<P: Pool + Send, R: Threads + Wait + Clock + Net + Log + Sync, S: 
 /// The same, and prints the report.
 fn serve_and_print<
     P: Pool + Send,
-    R: Threads + Wait + Clock + Net + Log + Sync,
+    R: Threads
+        + Wait
+        + Clock
+        + Net<Listener = TcpListener, Stream = TcpStream>
+        + RandomSource
+        + AllocGlobal
+        + Log
+        + Sync,
     S: Stop + Sync,
     W: Write + Drop,
 >(
@@ -105,7 +127,18 @@ fn serve_and_print<
 }
 
 /// Makes the pools of the settings, each in a box, serves their zone, and prints the report.
-fn serve_settings<R: Threads + Wait + Clock + Net + Log + Sync, S: Stop + Sync, W: Write + Drop>(
+fn serve_settings<
+    R: Threads
+        + Wait
+        + Clock
+        + Net<Listener = TcpListener, Stream = TcpStream>
+        + RandomSource
+        + AllocGlobal
+        + Log
+        + Sync,
+    S: Stop + Sync,
+    W: Write + Drop,
+>(
     rt: &R,
     alloc: Global,
     settings: Settings,
@@ -137,7 +170,14 @@ fn serve_settings<R: Threads + Wait + Clock + Net + Log + Sync, S: Stop + Sync, 
 /// is written, and the log tells what a person has to know besides the fault.
 pub fn serve<
     I: Read + Drop,
-    R: Threads + Wait + Clock + Net + Log + Sync,
+    R: Threads
+        + Wait
+        + Clock
+        + Net<Listener = TcpListener, Stream = TcpStream>
+        + RandomSource
+        + AllocGlobal
+        + Log
+        + Sync,
     S: Stop + Sync,
     W: Write + Drop,
 >(

@@ -15,6 +15,9 @@ pub enum RunningFault {
     /// The address of the zone isn't bound.
     #[error(transparent)]
     Bind(BindFault),
+    /// The address of the status page isn't bound.
+    #[error(transparent)]
+    BindPage(status_server::BindFault),
     /// Memory is refused.
     #[error("out of memory")]
     Memory,
@@ -30,13 +33,13 @@ pub enum RunningFault {
 }
 
 impl RunningFault {
-    /// The exit status: 3 if there is no memory, 4 if the socket can't be made or a stream failed,
+    /// The exit status: 3 if there is no memory, 4 if an address isn't bound or a stream failed,
     /// and 1 if the zone can't be made or didn't come back.
     pub fn status(&self) -> u8
         ensures { result ≡ running_status self.now }
     {
         match self {
-            RunningFault::Bind(_) | RunningFault::Stream => 4,
+            RunningFault::Bind(_) | RunningFault::BindPage(_) | RunningFault::Stream => 4,
             RunningFault::Memory => 3,
             RunningFault::WrongPools | RunningFault::NotFinished => 1,
         }

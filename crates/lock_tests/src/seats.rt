@@ -13,6 +13,7 @@ use std::sync::ledger::Ledger;
 use vectors::replies::{ACF_1280, GCF, GRJ, RCF_0001, RCF_0002};
 use vectors::requests::{ARQ, GRQ, GRQ_OF_XX, RRQ_101, RRQ_102};
 use zone_lock::{Hall, Listing, Seat, ZoneLock};
+use zone_view::{CallRow, EndpointRow};
 
 // A lock, seats and a finished history that are dropped at each of many exits make a test costly to
 // prove, so what is asked of them stands in functions that borrow them.
@@ -64,9 +65,50 @@ pub fn are_listed<D: Hall, T: Ledger, U: Ledger, V: Ledger, R: Wait>(
     let mut seats = seats;
     let is_open = is_call_open(rt, alloc, &lock, &mut seats);
     let listing = lock.list(rt).ok();
+    let is_seen = is_seen(rt, alloc, &lock);
     drop(seats);
     drop(lock);
-    Some(is_open? && has_call(&listing?))
+    Some(is_open? && has_call(&listing?) && is_seen?)
+}
+
+/// Whether figures and rows tell of two endpoints and of one call of 1,280 units between them; each
+/// row comes once, whatever there is room for.
+fn is_seen<D: Hall, T: Ledger, U: Ledger, V: Ledger>(
+    rt: &impl Wait,
+    alloc: Global,
+    lock: &ZoneLock<FixedPool, D, T, U, V>,
+) -> Option<bool> {
+    let mut pools = Vec::with_capacity(alloc, 16).ok()?;
+    let figures = lock.figures(rt, &mut pools);
+    let mut endpoints = Vec::with_capacity(alloc, 1).ok()?;
+    let place = lock.endpoints_below(rt, usize::MAX, &mut endpoints);
+    let last = endpoints.pop()?;
+    let end = lock.endpoints_below(rt, place, &mut endpoints);
+    let mut calls = Vec::with_capacity(alloc, 64).ok()?;
+    let no_more = lock.calls_below(rt, usize::MAX, &mut calls);
+    let are_told = figures.endpoints == 2
+        && figures.calls == 1
+        && figures.kept == 3
+        && figures.in_use == 1_280
+        && figures.limit == 3_000
+        && pools.as_slice().first()?.lent == 1_280;
+    Some(are_told && place == 1 && end == 0 && no_more == 0 && are_rows(&last, &endpoints, &calls))
+}
+
+/// Whether these are the rows of 101, who called, of 102, and of their call.
+fn are_rows(last: &EndpointRow, endpoints: &[EndpointRow], calls: &[CallRow]) -> bool {
+    let ([first], [call]) = (endpoints, calls) else {
+        return false;
+    };
+    first.identifier.as_slice() == [48, 48, 48, 49]
+        && first.alias_count == 1
+        && first.aliases.as_slice().len() == 1
+        && first.legs == 1
+        && last.identifier.as_slice() == [48, 48, 48, 50]
+        && last.legs == 0
+        && call.units == 1_280
+        && call.first == first.identifier
+        && call.second.is_none()
 }
 
 /// Whether two endpoints and one call of 1,280 units are listed.

@@ -12,6 +12,7 @@ use std::sync::ledger::Ledger;
 use vectors::replies::IRQ;
 use vectors::requests::{ARQ, RRQ_101, RRQ_102};
 use zone_lock::{Hall, Seat, TurnsEnd, ZoneLock};
+use zone_view::{Count, Counts, ReplyKind, TurnDeed};
 
 /// In which millisecond the turns are made. Five things are due then: the three kept replies are
 /// over, the endpoint that is in the call was silent for too long, and the pools have their turn.
@@ -33,20 +34,21 @@ fn begin_call<D: Hall, T: Ledger, U: Ledger, V: Ledger>(
         .ok()
 }
 
-/// Makes turns, at most so many. Why there were no more, and what they sent.
+/// Makes turns, at most so many, and counts them. Why there were no more, and what they sent.
 fn turns<D: Hall, T: Ledger, U: Ledger, V: Ledger>(
     rt: &impl Wait,
     alloc: Global,
     lock: &ZoneLock<FixedPool, D, T, U, V>,
     seat: &mut Seat<D, T, U, V>,
     most: usize,
+    counts: &mut Counts,
 ) -> Option<(TurnsEnd, Vec<Datagram>)> {
     let late = Moment::new(LATE)?;
     let mut outcome = Outcome::noted(Note::Idle, None);
     let Ok(mut replies) = Vec::with_capacity(alloc, most) else {
         return None;
     };
-    let end = lock.turns(rt, seat, late, most, &mut outcome, &mut replies);
+    let end = lock.turns(rt, seat, late, most, &mut outcome, &mut replies, counts);
     Some((end, replies))
 }
 
@@ -59,9 +61,10 @@ fn are_made<D: Hall, T: Ledger, U: Ledger, V: Ledger>(
     lock: &ZoneLock<FixedPool, D, T, U, V>,
     seat: &mut Seat<D, T, U, V>,
 ) -> Option<bool> {
-    let (first, mut sent) = turns(rt, alloc, lock, seat, 2)?;
-    let (second, mut later) = turns(rt, alloc, lock, seat, 50)?;
-    let (third, nothing) = turns(rt, alloc, lock, seat, 1)?;
+    let mut counts = Counts::none();
+    let (first, mut sent) = turns(rt, alloc, lock, seat, 2, &mut counts)?;
+    let (second, mut later) = turns(rt, alloc, lock, seat, 50, &mut counts)?;
+    let (third, nothing) = turns(rt, alloc, lock, seat, 1, &mut counts)?;
     sent.append(&mut later).ok()?;
     Some(
         first == TurnsEnd::More
@@ -69,8 +72,18 @@ fn are_made<D: Hall, T: Ledger, U: Ledger, V: Ledger>(
             && third == TurnsEnd::Idle
             && nothing.is_empty()
             && sent.len() == 1
-            && is_sent_as(sent.first(), &IRQ),
+            && is_sent_as(sent.first(), &IRQ)
+            && are_told_by(&counts),
     )
+}
+
+/// Whether these counts tell what the turns did.
+fn are_told_by(counts: &Counts) -> bool {
+    counts.get(Count::Turn(TurnDeed::KeptOver)) == 3
+        && counts.get(Count::Turn(TurnDeed::Interrogation)) == 1
+        && counts.get(Count::Turn(TurnDeed::PoolTurn)) == 1
+        && counts.get(Count::Turn(TurnDeed::Idle)) == 2
+        && counts.get(Count::Reply(ReplyKind::Irq)) == 1
 }
 
 /// Whether turns are made under one hold, and each is counted; if nothing is recorded, no entry is

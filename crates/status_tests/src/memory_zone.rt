@@ -130,7 +130,14 @@ impl RunningZone for MemoryZone {
         if end == 0 || rows.capacity() == 0 {
             return 0;
         }
-        rows.push_reserved(self.calls[end - 1]);
+        let row = &self.calls[end - 1];
+        rows.push_reserved(CallRow {
+            key: row.key,
+            pool: row.pool,
+            units: row.units,
+            first: row.first,
+            second: row.second,
+        });
         end - 1
     }
 

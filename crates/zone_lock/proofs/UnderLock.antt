@@ -153,9 +153,7 @@ module _ {P : Type 0} (account : P → Account) (opened : State) where
 -- what holds of each holds of it in other words
 pub each_in_other_words : {T : Type 0} (P Q : T → Type 0) → ((x : T) → P x → Q x) → (xs : List T)
     → All P xs → All Q xs
-each_in_other_words P Q words [] each = each
-each_in_other_words P Q words (x ∷ xs) each =
-    (words x each.0, each_in_other_words P Q words xs each.1)
+each_in_other_words P Q words xs each = λ k d there. words _ (each k d there)
 
 -- rows of what stood behind the lock are rows of some of it
 pub endpoints_under_lock : (opened : State) (held : Held) (rows : List EndpointRow)

@@ -143,10 +143,18 @@ fn put_calls(tables: &ZoneTables, place: usize, rows: &mut Vec<CallRow>) -> usiz
     let mut left = place.min(tables.calls().len());
     while left > 0 && rows.len() < rows.capacity() {
         left -= 1;
-        let (key, call) = tables.calls().nth(left).unwrap();
-        rows.push_reserved(call_row(key, call));
+        rows.push_reserved(call_row_at(tables, left));
     }
     left
+}
+
+/// The row of the call with this number.
+fn call_row_at(tables: &ZoneTables, number: usize) -> CallRow
+    requires { number < map.len tables.now.calls }
+    ensures { IsCallRow tables.now result }
+{
+    let (key, call) = tables.calls().nth(number).unwrap();
+    call_row(key, call)
 }
 
 /// The row of a call.

@@ -94,7 +94,7 @@ pub struct EndpointRow {
 }
 
 /// An open call. Bandwidth is in units of 100 bit/s (H.225.0, BandWidth).
-#[derive(Clone, Copy, PartialEq, Eq)]
+#[derive(Drop)]
 pub struct CallRow {
     pub key: CallKey,
     /// The place of the pool that lent its bandwidth.

@@ -1,7 +1,8 @@
-use Rattle.std.proofs.Common.{arith, ◌≢◌, ◌++◌, ◌∷◌, [], length-append, refl, sym, ◌∙◌}
+use Rattle.std.proofs.Common.{ap, arith, ◌≢◌, ◌++◌, ◌∷◌, [], length-append, refl, sym, ◌∙◌}
 use Rattle.std.proofs.lemmas.List.Elements.{All-push}
 use Rattle.zone_events.specs.declared.outcome.Note.TheVariants as note
 use Rattle.zone_events.specs.declared.outcome.Outcome.{Outcome}
+use Rattle.zone_view.specs.Counts.{with_step}
 use Rattle.zone_lock.proofs.TurnByTurn.{counts_one_more, one_more, seat_one_more}
 use Rattle.zone_lock.proofs.TurnByTurn.{sent_one_more}
 use Rattle.zone_lock.proofs.turns.turns_locked.Goals as goal
@@ -30,8 +31,8 @@ returns-then-is_idle-clause-made g c =
       );
       seat_is = seat_one_more g.D.Hall.opened c.args.seat.now c.args.moment c.args.locked.now mid
           new os o c.loop-turn.seat c.turn_locked.new.seat inv.5 was.seat;
-      counted = counts_one_more c.args.counts.now c.loop-turn.counts c.add_step.new.counts os o
-          inv.9 _;
+      counted = counts_one_more c.args.counts.now c.loop-turn.counts c.add_step.new.self os o
+          inv.9 (c.add_step.ensures ∙ ap (λ s. with_step s c.loop-turn.counts) c.of.ensures);
     }
 
 pub loop-turn-preserved : goal.loop-turn-preserved
@@ -58,5 +59,6 @@ loop-turn-preserved g c =
       omega (arith, inv.6, c.put_reply.ensures.len),
       omega (arith, inv.7, c.put_reply.ensures.room),
       c.turn_locked.ensures.kept,
-      counts_one_more c.args.counts.now c.loop-turn.counts c.add_step.new.counts os o inv.9 _,
+      counts_one_more c.args.counts.now c.loop-turn.counts c.add_step.new.self os o inv.9
+          (c.add_step.ensures ∙ ap (λ s. with_step s c.loop-turn.counts) c.of.ensures),
     )

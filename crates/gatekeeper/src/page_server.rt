@@ -1,0 +1,68 @@
+//! The status page beside the server of a zone.
+
+ghost use Rattle.std.specs.Prelude.{◌≡◌, None, OnErr};
+
+use crate::notices::{tell_cause, tell_page};
+use crate::serving_fault::RunningFault;
+use log::{Log, warn};
+use ras_module::Address;
+use status_page::About;
+use status_server::{BoundListener, bind_status};
+use std::alloc::AllocGlobal;
+use std::net::{Net, TcpListener, TcpStream};
+use std::random::RandomSource;
+use std::rt::Clock;
+use std::sync::Wait;
+use udp_server::Watcher;
+use zone_view::RunningZone;
+
+/// Serves the status page of a zone for as long as the zone is served.
+#[derive(Drop)]
+pub struct PageServer<'a, R> {
+    rt: &'a R,
+    listener: BoundListener,
+    about: About,
+}
+
+impl<'a, R: Net<Listener = TcpListener, Stream = TcpStream> + Log> PageServer<'a, R> {
+    /// Binds the address of the page, if there is to be one, and tells where it is served, or why it
+    /// can't be bound.
+    pub fn bind(
+        rt: &'a R,
+        address: Option<Address>,
+        about: About,
+    ) -> Result<Option<PageServer<'a, R>>, RunningFault>
+        ensures none { OnErr result (address ≢ None) }
+    {
+        let Some(address) = address else {
+            return Ok(None);
+        };
+        match bind_status(rt, address) {
+            Ok(listener) => {
+                tell_page(rt, address);
+                Ok(Some(PageServer {
+                    rt,
+                    listener,
+                    about,
+                }))
+            }
+            Err(fault) => {
+                tell_cause(rt, address, fault.cause());
+                Err(RunningFault::BindPage(fault))
+            }
+        }
+    }
+}
+
+impl<R: Wait + Clock + Net + RandomSource + AllocGlobal + Log> Watcher for PageServer<'_, R> {
+    fn watch<Z: RunningZone>(self, zone: &Z) {
+        let PageServer {
+            rt,
+            listener,
+            about,
+        } = self;
+        if status_server::serve(rt, listener, about, zone).is_err() {
+            warn!(rt; target: "serve", "the status page is served no longer");
+        }
+    }
+}
