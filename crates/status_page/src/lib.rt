@@ -1,5 +1,5 @@
-//! The pages that show a running zone: what a request asks for, and the texts that answer it. A page
-//! for people, JSON for programs, and metrics in Prometheus' text format.
+//! The pages that show a running zone: what a request asks for, and the texts that answer it. There
+//! is a page for people, JSON for programs, and metrics in Prometheus' text format.
 #![tactic(auto)]
 
 mod asked;

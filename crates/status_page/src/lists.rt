@@ -32,9 +32,9 @@ pub struct CallList {
     pub is_more: bool,
 }
 
-/// The endpoints behind this one, or from the first one on, by rising identifiers: at most so many. One
-/// that stays while the zone tells them all isn't left out; one that comes or goes meanwhile may be
-/// missing.
+/// The endpoints behind this one, or from the first one on, by rising identifiers: at most so many.
+/// One that stays while the zone tells them all isn't left out. One that comes or goes meanwhile
+/// may be missing.
 pub fn endpoints_after<Z: RunningZone>(
     alloc: Global,
     zone: &Z,
@@ -66,7 +66,7 @@ pub fn endpoints_after<Z: RunningZone>(
     })
 }
 
-/// The next row of an endpoint that a zone tells, of those below a place. None if there are no more.
+/// The next row of an endpoint that a zone tells, below a place. None if there are no more.
 fn next_endpoint<Z: RunningZone>(
     zone: &Z,
     told: &mut Vec<EndpointRow>,
@@ -129,7 +129,7 @@ pub fn calls_after<Z: RunningZone>(
     })
 }
 
-/// The next row of a call that a zone tells, of those below a place. None if there are no more.
+/// The next row of a call that a zone tells, below a place. None if there are no more.
 fn next_call<Z: RunningZone>(
     zone: &Z,
     told: &mut Vec<CallRow>,

@@ -43,23 +43,27 @@ fn only_looks_are_allowed(rt: HostRuntime) -> Result<(), Fail> {
     Ok(())
 }
 
+/// A query of seven endpoints behind this one.
+fn seven_behind(endpoint: EndpointId) -> Query {
+    Query {
+        endpoint: Some(endpoint),
+        call: None,
+        most: 7,
+    }
+}
+
 #[test]
 fn endpoints_behind_one(rt: HostRuntime) -> Result<(), Fail> {
     let alloc = rt.alloc();
     let name = name_of("a b\u{E9}".as_bytes()).ok_or("no name")?;
-    let query = Query {
-        endpoint: Some(EndpointId::new(name)),
-        call: None,
-        most: 7,
-    };
     let asked = look(alloc, "/endpoints.json", "after=a%20b%C3%A9&most=7")?;
-    assert!(rt; asked == Asked::Endpoints(query));
+    assert!(rt; asked == Asked::Endpoints(seven_behind(EndpointId::new(name))));
     let asked = look(
         alloc,
         "/endpoints.json",
         "most=7&&most=8&after=x&after=a%20b%c3%a9&most=7",
     )?;
-    assert!(rt; asked == Asked::Endpoints(query));
+    assert!(rt; asked == Asked::Endpoints(seven_behind(EndpointId::new(name))));
     Ok(())
 }
 
