@@ -6,7 +6,7 @@ ghost use Rattle.std.specs.Prelude.{IfSome, Some, vec_capacity, vec_len};
 ghost use Rattle.std.specs.FinMap as map;
 ghost use Rattle.admission.specs.Calls.{legs_of};
 ghost use Rattle.zone_lock.specs.Held.{IsKept};
-ghost use Rattle.zone_lock.specs.Views.{AreFigures, IsCallRow, IsEndpointRow, call_row};
+ghost use Rattle.zone_lock.specs.Views.{AreFigures, IsCallRow, IsEndpointRow};
 ghost use Rattle.zone_lock.specs.Views.{endpoint_row, first_of, second_of};
 
 use crate::locked::Locked;
@@ -14,7 +14,7 @@ use crate::seat::Hall;
 use admission::Call;
 use pools::{Figures, Pool};
 use ras_core::Zone;
-use ras_module::{CallKey, EndpointId};
+use ras_module::EndpointId;
 use registrations::Registration;
 use std::sync::ledger::Ledger;
 use zone_tables::ZoneTables;
@@ -143,31 +143,17 @@ fn put_calls(tables: &ZoneTables, place: usize, rows: &mut Vec<CallRow>) -> usiz
     let mut left = place.min(tables.calls().len());
     while left > 0 && rows.len() < rows.capacity() {
         left -= 1;
-        rows.push_reserved(call_row_at(tables, left));
+        let (key, call) = tables.calls().nth(left).unwrap();
+        let (first, second): (EndpointId, Option<EndpointId>) = (first_of(call), second_of(call));
+        rows.push_reserved(CallRow {
+            key: *key,
+            pool: call.pool,
+            units: call.units,
+            first,
+            second,
+        });
     }
     left
-}
-
-/// The row of the call with this number.
-fn call_row_at(tables: &ZoneTables, number: usize) -> CallRow
-    requires { number < map.len tables.now.calls }
-    ensures { IsCallRow tables.now result }
-{
-    let (key, call) = tables.calls().nth(number).unwrap();
-    call_row(key, call)
-}
-
-/// The row of a call.
-fn call_row(key: &CallKey, call: &Call) -> CallRow
-    ensures { result ≡ call_row key.now call.now }
-{
-    CallRow {
-        key: *key,
-        pool: call.pool,
-        units: call.units,
-        first: first_of(call),
-        second: second_of(call),
-    }
 }
 
 /// The endpoint that was admitted first.

@@ -11,4 +11,4 @@ returns-clause-rows g c = record {
 
 pub returns-clause-each : goal.returns-clause-each
 returns-clause-each g c =
-    calls_under_lock g.D.Hall.opened _ c.args.rows.new.items c.calls_locked.ensures.kept c.calls_locked.ensures.rows
+    calls_under_lock g.D.Hall.opened _ c.calls_locked.new.rows.items c.calls_locked.ensures.kept c.calls_locked.ensures.rows

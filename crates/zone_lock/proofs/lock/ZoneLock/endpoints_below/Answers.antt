@@ -11,4 +11,4 @@ returns-clause-rows g c = record {
 
 pub returns-clause-each : goal.returns-clause-each
 returns-clause-each g c =
-    endpoints_under_lock g.D.Hall.opened _ c.args.rows.new.items c.endpoints_locked.ensures.kept c.endpoints_locked.ensures.rows
+    endpoints_under_lock g.D.Hall.opened _ c.endpoints_locked.new.rows.items c.endpoints_locked.ensures.kept c.endpoints_locked.ensures.rows
