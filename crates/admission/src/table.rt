@@ -192,6 +192,9 @@ impl Calls {
     }
 
     /// The units of all calls: the bandwidth in use.
+    ///
+    /// promise bandwidth-is-the-sum-over-calls: Bandwidth in use is the sum over the live calls
+    /// (`in_use`).
     pub fn total(&self) -> u64
         ensures sum { result ≡ in_use self.now.calls }
         ensures bound { result < 2 ^ 47 }
@@ -231,6 +234,9 @@ impl Calls {
 
     /// Opens a call with its first leg. Nothing is changed if the limit of open calls is reached,
     /// or for want of memory. It never fails for want of memory if there is room.
+    ///
+    /// promise calls-are-refused-exactly: A refusal comes if and only if the map shows it, want of
+    /// memory aside, and changes nothing.
     pub fn open(&mut self, key: CallKey, pool: usize, units: u32, leg: Leg) -> Result<(), CallFault>
         requires { map.get self.old.calls key ≡ None }
         ensures ok { OnOk result (Adds self.old self.new
@@ -304,6 +310,9 @@ impl Calls {
 
     /// Takes an endpoint's leg out of a call. The call ends with its last leg. This takes no
     /// memory.
+    ///
+    /// promise call-ends-with-its-last-leg: A call ends with its last leg and not before; its pool
+    /// and units are named then, without memory.
     pub fn leave(&mut self, key: &CallKey, endpoint: &EndpointId) -> Result<Left, CallFault>
         ensures ok { OnOk result (Becomes self.old self.new
             (after_leave self.old.calls key.now endpoint.now)) }

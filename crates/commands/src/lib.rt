@@ -1,5 +1,9 @@
 //! What the program does without a server: the words of its command line; settings and scripts from
 //! an input; a check of settings, and a replay; the boxes of the pools.
+//!
+//! proved: nothing is written of refused input (`replay`, `check_settings`); each fault has its
+//! status
+//! tested: texts of faults
 #![tactic(auto)]
 
 mod boxed_pools;

@@ -23,6 +23,8 @@ pub enum ReplayFault {
 impl ReplayFault {
     /// The exit status: 1 if the input is refused, 3 if there is no memory, and 4 if a
     /// stream failed.
+    ///
+    /// promise replay-faults-have-a-status: Each fault has its exit status; likewise `InputFault`.
     pub fn status(&self) -> u8
         ensures { result ≡ status_of self.now }
     {
@@ -45,6 +47,9 @@ impl ReplayFault {
 }
 
 /// Reads a script whole, and then runs it and writes its lines. Of a script that isn't read nothing
+/// is written.
+///
+/// promise refused-script-prints-nothing: A script is run with its pools; of a refused one nothing
 /// is written.
 pub fn replay<R: Read + Drop, W: Write + Drop>(
     alloc: Global,

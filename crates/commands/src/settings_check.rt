@@ -12,6 +12,9 @@ use std::io::{self, Read, Write};
 /// Reads settings, and writes that they are well-formed, with the value of each key and whether
 /// that is its default. Returns the keys that are passed over. Of settings that are refused nothing
 /// is written.
+///
+/// promise refused-settings-print-nothing: Of refused settings nothing is written; what is written
+/// is flushed.
 pub fn check_settings<I: Read + Drop, W: Write + Drop>(
     alloc: Global,
     input: I,

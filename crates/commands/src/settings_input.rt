@@ -152,6 +152,9 @@ fn read_text(alloc: Global, text: &str) -> Result<ReadInput, InputFault>
 }
 
 /// Reads settings from an input, which is read whole.
+///
+/// promise settings-input-is-bounded: Octets are settings if and only if they are UTF-8, at most
+/// 1,048,576, and `read_settings` takes them.
 pub fn read_input<R: Read + Drop>(alloc: Global, input: R) -> Result<ReadInput, InputFault>
     ensures answer { IfSome (R.remaining input) (λ octets. IsInputRead octets result) }
     ensures ranges { IfOk result (λ read. AreSettings read.settings) }

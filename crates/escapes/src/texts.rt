@@ -14,6 +14,9 @@ use std::alloc::AllocError;
 
 /// Writes a text in UTF-16 as text in HTML, also between quotes: `&`, `<`, `>`, `"` and `'` become
 /// references, and half of a surrogate pair becomes U+FFFD.
+///
+/// promise strangers-texts-stay-texts: A text is written as defined, and none of its characters
+/// that mean something in HTML is left; likewise in JSON and in labels of metrics (`is_html_text`).
 pub fn html(out: &mut String, units: &[u16]) -> Result<(), AllocError>
     ensures text { OnOk result (string_bytes out.new ≡ string_bytes out.old
         ++ encode_utf8_all (flat_map html_piece (utf16_lossy_chars units.now))) }

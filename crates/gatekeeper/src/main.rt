@@ -1,4 +1,8 @@
 //! The gatekeeper's program.
+//!
+//! proved: nothing is written of refused settings (`serve`); a report is its counts
+//! (`print_report`)
+//! tested: the built program, signals
 #![tactic(auto)]
 
 ghost use Rattle.std.specs.Prelude.{◌≡◌};

@@ -34,6 +34,9 @@ pub fn ask_for_buffer<R: Log>(rt: &R, socket: &BoundSocket, octets: u64) {
 }
 
 /// `count` clocks that began at this moment.
+///
+/// promise server-has-its-clocks: As many clocks as asked for, each with the given beginning;
+/// likewise ends, by `ends_of`.
 fn clocks_of<'a, R: Clock>(
     rt: &'a R,
     alloc: Global,

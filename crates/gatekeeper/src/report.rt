@@ -10,6 +10,9 @@ use std::io::{self, Write};
 use udp_server::Report;
 
 /// Writes each count of a report on a line of its own.
+///
+/// promise report-is-its-counts: The report is seven lines, each a count behind its name, if
+/// nothing failed (`report_text`).
 pub fn print_report<P: Pool, W: Write + Drop>(
     report: &Report<P>,
     out: &mut Output<W>,
@@ -36,6 +39,9 @@ fn write_count<W: Write + Drop>(name: &str, count: u64, out: &mut Output<W>) -> 
 }
 
 /// Whether anything that should have been done wasn't.
+///
+/// promise report-tells-of-faults: It tells whether replies were dropped, steps refused, or
+/// receives or sends failed (`HasFaults`).
 pub fn has_faults<P: Pool>(report: &Report<P>) -> bool
     ensures { IsTrue result ↔ HasFaults report.now }
 {

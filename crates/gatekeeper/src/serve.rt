@@ -46,6 +46,9 @@ fn zone_of<P: Pool>(alloc: Global, config: Config, pools: Vec<P>) -> Result<Zone
 
 /// Serves the zone that is set with the pools that were made for it, once it is seen that they are
 /// its pools.
+///
+/// promise served-zone-is-the-set-one: What the server leaves is a history of the zone of the
+/// settings (`IsServed`, `zone_set`).
 fn serve_pools<
     P: Pool + Send,
     R: Threads
@@ -168,6 +171,9 @@ fn serve_settings<
 /// Reads settings, and serves their zone. Each receiving thread stops after this many receives, if
 /// a number is given, and once it is told to. Then the report is printed. If there is none, nothing
 /// is written, and the log tells what a person has to know besides the fault.
+///
+/// promise refused-settings-serve-nothing: Only settings that pass are served, and without a report
+/// nothing is written (`AreServed`, `IsServiceWritten`).
 pub fn serve<
     I: Read + Drop,
     R: Threads

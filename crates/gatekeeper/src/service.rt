@@ -33,6 +33,8 @@ pub struct Service {
 impl Service {
     /// What these settings say of it. Its history is let go, so that no chapter and no receipt is
     /// kept.
+    ///
+    /// promise server-has-its-numbers: The numbers for the server are those that are set.
     pub fn of(settings: &Settings, receives: Option<u64>) -> Service
         requires { AreServeNumbers settings.now.receivers settings.now.ring settings.now.faults
             settings.now.tick settings.now.buffer }

@@ -84,6 +84,8 @@ pub enum ServingFault {
 
 impl ServingFault {
     /// The exit status, which is that of the fault within.
+    ///
+    /// promise serving-faults-have-a-status: Each fault has its exit status.
     pub fn status(&self) -> u8
         ensures { result ≡ serve_status self.now }
     {

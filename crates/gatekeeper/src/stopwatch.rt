@@ -34,6 +34,8 @@ impl<'a, R: Clock> Stopwatch<'a, R> {
 impl<R: Clock> Moments for Stopwatch<'_, R> {
     ghost tells = { λ old moment new. (new.last ≡ moment) × (new.start ≡ old.start) };
 
+    /// promise clock-counts-whole-milliseconds: A reading is the whole milliseconds since the
+    /// beginning, or the last moment again (`moment_told`).
     fn now(&mut self) -> Moment
         ensures tells { (self.new.last ≡ result) × (self.new.start ≡ self.old.start) }
         ensures beginning { beginning self.new ≡ beginning self.old }

@@ -208,6 +208,9 @@ impl Machine {
     /// out if the course calls for one. All that may want memory comes before the first change, and
     /// before a pool is asked. Of the pools the machine keeps the figures: whoever has the pools
     /// gives back to them what came back.
+    ///
+    /// promise deed-is-what-was-called-for: A step does what its event calls for, as chosen, or
+    /// changes nothing (`Performs`, `IsAskedOnce`).
     pub fn perform<L: Lender>(
         &mut self,
         now: Moment,

@@ -110,6 +110,9 @@ impl ServeKey {
     }
 
     /// Whether the number lies in its range.
+    ///
+    /// promise server-keys-stand-in-one-table: Name, range and default of each key stand in one
+    /// table.
     pub fn takes(self, number: u64) -> bool
         ensures { result ≡ takes self number }
     {

@@ -137,6 +137,9 @@ fn settings_in(alloc: Global, document: &Table) -> Result<Settings, Refusal>
 /// meaning, its range and its default). Keys that aren't known are passed over. A fault names the
 /// first key that fails, in the order of that file: those of `[zone]`, then of `[serve]`, then of
 /// each `[[pool]]`; the settings are refused as a whole.
+///
+/// promise settings-files-are-read-exactly: A file is accepted if and only if it is TOML whose keys
+/// pass; else the first fault is told. Want of memory is left aside (`settings_of`).
 pub fn read_settings(alloc: Global, text: &str) -> Result<Settings, SettingsFault>
     ensures answer { IsAnswer (settings_of text.now) result }
     ensures ranges { IfOk result AreSettings }

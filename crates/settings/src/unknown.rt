@@ -198,6 +198,9 @@ fn unknown_in(alloc: Global, document: &Table) -> Result<Vec<UnknownKey>, AllocE
 /// within a table by the octets of their names, since a TOML table has no order. It returns Syntax
 /// if the text is no TOML document, Memory if memory is refused, and no other fault. Which known
 /// key is the nearest one is tested, and stated by no clause.
+///
+/// promise unknown-keys-are-listed: The keys that are passed over are listed, exactly these
+/// (`unknown_paths`).
 pub fn unknown_keys(alloc: Global, text: &str) -> Result<Vec<UnknownKey>, SettingsFault>
     ensures ok { IfOk result (λ unknown.
         Some (paths_of unknown.items) ≡ option_map unknown_paths (parse_document text.now)) }

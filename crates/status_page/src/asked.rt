@@ -34,6 +34,8 @@ pub enum Asked {
 
 /// What a request asks for, by its method, its path, and the query behind the path; an empty one if
 /// there is none. Pages without parameters take no notice of the query.
+///
+/// promise requests-ask-for-one-page: Method, path and parameters give the page as defined.
 pub fn asked_by(alloc: Global, method: Method, path: &str, query: &str) -> Result<Asked, AllocError>
     ensures { IfOk result (λ asked. asked ≡ asked_of method path.now query.now) }
 {

@@ -1,5 +1,9 @@
 //! The pages that show a running zone: what a request asks for, and the texts that answer it. There
 //! is a page for people, JSON for programs, and metrics in Prometheus' text format.
+//!
+//! proved: what a request asks for (`asked_by`); lists are rising, behind what was told, and of rows
+//! that the zone told (`endpoints_after`)
+//! tested: the texts of the pages
 #![tactic(auto)]
 
 mod asked;

@@ -35,6 +35,9 @@ pub struct CallList {
 /// The endpoints behind this one, or from the first one on, by rising identifiers: at most so many.
 /// One that stays while the zone tells them all isn't left out. One that comes or goes meanwhile
 /// may be missing.
+///
+/// promise lists-are-of-told-rows: Rows rise behind the given identifier, at most as many as asked
+/// for, and each is one that the zone told; likewise of calls.
 pub fn endpoints_after<Z: RunningZone>(
     alloc: Global,
     zone: &Z,

@@ -49,6 +49,9 @@ pub trait Datagrams: Drop {
     ghost sends: { Self → Datagram → SendResult → Self → Type 0 } = { λ _ _ _ _. Unit {0} };
 
     /// Waits for a datagram for some time. Its octets stand at the front of the buffer then.
+    ///
+    /// promise ends-count-their-faults: An end counts each failed call once, and its datagrams lie
+    /// in the buffer (`fault_count`, `IsWithin`).
     fn receive(&mut self, buffer: &mut [u8; MOST_RECEIVED]) -> Result<Received, DeviceFault>
         ensures within { IfOk result IsWithin }
         ensures given { receives self.old result (octets_given result buffer.new) self.new }

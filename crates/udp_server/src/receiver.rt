@@ -76,6 +76,10 @@ pub(crate) fn work<
 }
 
 /// Waits for a datagram, and makes a step of it, if one comes. Whether the worker goes on.
+///
+/// promise worker-serves-what-came: Each turn of a worker makes at most one step, of just the
+/// datagram that came; its reply goes into the ring, or is dropped and counted (`IsTurnOfLoop`,
+/// `CameOf`, `IsHandedOn`).
 fn serve_next<
     P: Pool,
     D: Hall,

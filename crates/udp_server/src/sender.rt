@@ -76,6 +76,9 @@ impl<N: Datagrams> Sender<N> {
     }
 
     /// Sends the next reply of a ring, if there is one. Whether there was one.
+    ///
+    /// promise sender-sends-each-once: A reply taken from a ring is the next there, is handed to
+    /// the end once, and is counted as sent or failed (`IsNextSent`, `IsSendCounted`).
     fn has_sent_next(&mut self, inlet: &mut Inlet) -> bool
         ensures none { IsFalse result → datagrams_taken inlet.new ≡ datagrams_taken inlet.old }
         ensures same { IsFalse result → self.new.sent ≡ self.old.sent }

@@ -35,6 +35,11 @@ use zone_lock::{Blanks, Hall, OpenFault, Seat, ZoneLock};
 /// for each seat. The worker of the timers carries out the orders, each once its clock has reached
 /// the order's moment, in their order: a fresh pool takes the place of one of the zone's, or comes
 /// back. What is refused is let go.
+///
+/// promise server-leaves-a-run: All steps are a run from the locked state to the zone that is left,
+/// and the report has its counts (`IsServed`).
+/// promise server-counts-its-ends: It is refused as WrongCounts if and only if seats, ends and
+/// clocks don't fit; likewise `serve_zone` (`AreCounts`, `AreCountsOfEnds`).
 pub fn serve<
     P: Pool + Send,
     D: Hall + Send + Sync,

@@ -87,6 +87,9 @@ impl<D: Hall, T: Ledger, U: Ledger, V: Ledger, C: Moments> Worker<D, T, U, V, C>
     /// Makes turns one after the other while it holds the lock, and hands their replies to the
     /// sender, in order. Nothing is recorded of them. Why it makes no further one; a want of memory
     /// is counted. What `replies` has is let go; only its memory is used.
+    ///
+    /// promise timers-make-turns-in-order: At most 50 turns are made under one hold, at one moment;
+    /// each reply is handed on once, in order (`CameOfTurns`, `AreTurnsServed`, `AreHandedOn`).
     pub(crate) fn turns<P: Pool, R: Wait, G: Gate>(
         &mut self,
         shared: &Shared<'_, P, D, T, U, V, R, G>,

@@ -48,6 +48,9 @@ impl CutFault {
 /// copied once, is the end of the chapter and the base of what comes. It is refused as NoBase if
 /// and only if the state in which the chapter would begin was let go. If it is refused, nothing has
 /// changed.
+///
+/// promise chapter-has-the-book: A chapter has what was in the book, and what goes on begins behind
+/// it; NoBase if and only if no copy of the beginning is kept (`totals_with`, `returned_by`).
 pub fn cut_locked<P: Pool, D: Hall, T: Ledger, U: Ledger, V: Ledger>(
     locked: &mut Locked<P, D, T, U, V>,
 ) -> Result<Chapter, CutFault>
@@ -112,6 +115,9 @@ fn ends_of<P: Pool>(
 /// Takes the entries so far out, with the copy of the state in which they began, if there is one.
 /// The state to which they lead isn't copied: what comes next begins there, and no copy says so.
 /// The entries that come next stand in `room`, which has none yet. This takes no memory.
+///
+/// promise discarded-entries-are-carried: What goes on begins behind the discarded book, with the
+/// totals carried, and without memory (`AreCarriedOn`, `IsLedInUse`).
 pub fn discard_locked<P: Pool, D: Hall, T: Ledger, U: Ledger, V: Ledger>(
     locked: &mut Locked<P, D, T, U, V>,
     room: Vec<Entry>,

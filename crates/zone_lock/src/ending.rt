@@ -17,6 +17,9 @@ use std::sync::ledger::Ledger;
 /// Takes the zone out of what stood behind a lock, with its history since the last chapter. If
 /// entries were discarded, so are those since then, and the history is left without entries. This
 /// takes no memory.
+///
+/// promise rest-is-the-whole-book: What is left is the whole book, if a copy of its beginning is
+/// kept; else the zone and the place of the next entry (`IsLeft`).
 pub fn finish_locked<P: Pool, D: Hall, T: Ledger, U: Ledger, V: Ledger>(
     locked: Locked<P, D, T, U, V>,
 ) -> Finished<P>

@@ -2,6 +2,10 @@
 //! book under the lock is a run of the machine at any time, and the shares that the seats have of
 //! the ledgers add up to what the history has. What was done can be taken out in chapters, or let
 //! go.
+//!
+//! proved: all steps under it are a run to the zone (`Locked`, `ZoneLock::finish`); figures and rows
+//! are of one moment (`figures`)
+//! tested: threads, fresh lists
 #![tactic(auto)]
 
 mod cutting;

@@ -107,6 +107,9 @@ impl OpenFault {
 impl<P: Pool, D: Hall, T: Ledger, U: Ledger, V: Ledger> ZoneLock<P, D, T, U, V> {
     /// Locks a zone, and makes its seats, which made no step yet. If there are not 1 to 16 of them,
     /// or if there is no memory, the zone comes back.
+    ///
+    /// promise lock-has-its-seats: A lock has 1 to 16 seats, which made no step; else the zone
+    /// comes back (`IsSeatCount`).
     pub fn open(
         alloc: Global,
         zone: Zone<P>,
@@ -164,6 +167,10 @@ impl<P: Pool, D: Hall, T: Ledger, U: Ledger, V: Ledger> ZoneLock<P, D, T, U, V> 
 
     /// Waits for the lock and makes one step. What it needs of memory but for its place in the book
     /// is there before.
+    ///
+    /// promise waiting-step-is-one-step: It is one step of this lock's zone, of the caller's event;
+    /// else Closed if it made 2^62 steps, or want of memory, and the seat stays (`IsStepUnderLock`,
+    /// `IsClosed`, `IsOpen`).
     pub fn apply<R: Wait>(
         &self,
         rt: &R,
@@ -190,6 +197,9 @@ impl<P: Pool, D: Hall, T: Ledger, U: Ledger, V: Ledger> ZoneLock<P, D, T, U, V> 
     /// Nothing else tells of the step, unless a chapter can be cut of the history: then it is
     /// recorded, as `step_locked` does. After a refusal what stands in place of the outcome means
     /// nothing.
+    ///
+    /// promise waiting-unrecorded-step-is-one-step: The same by whoever waits for the lock
+    /// (`IsMadeUnderLock`).
     pub fn step<R: Wait>(
         &self,
         rt: &R,
@@ -212,6 +222,9 @@ impl<P: Pool, D: Hall, T: Ledger, U: Ledger, V: Ledger> ZoneLock<P, D, T, U, V> 
     /// as `turns_locked` does. What they send is put into `replies` in order, which has none yet,
     /// and room for all. What is counted of them is added to the counts. Each is one step, as `step`
     /// makes it. What stands in place of the outcome afterwards means nothing.
+    ///
+    /// promise waiting-turns-follow-one-another: The same by whoever waits for the lock
+    /// (`AreTurnsUnderLock`).
     pub fn turns<R: Wait>(
         &self,
         rt: &R,
@@ -242,6 +255,9 @@ impl<P: Pool, D: Hall, T: Ledger, U: Ledger, V: Ledger> ZoneLock<P, D, T, U, V> 
     /// Waits for the lock and puts a fresh pool in the place of the zone's pool with this number,
     /// as `replace_locked` does. The old pool comes back with nothing lent; or nothing changes, and
     /// the fresh pool comes back.
+    ///
+    /// promise waiting-replacement-is-one-step: The same by whoever waits for the lock
+    /// (`IsReplacedUnderLock`, `IsRefusedUnderLock`).
     pub fn replace<R: Wait>(
         &self,
         rt: &R,
@@ -271,6 +287,9 @@ impl<P: Pool, D: Hall, T: Ledger, U: Ledger, V: Ledger> ZoneLock<P, D, T, U, V> 
     }
 
     /// Waits for the lock and lists what the zone has.
+    ///
+    /// promise listing-is-of-one-moment: It lists what the zone of this lock had at one moment,
+    /// within its limit (`IsListing`, `IsListingUnderLock`).
     pub fn list<R: Wait>(&self, rt: &R) -> Result<Listing, AllocError>
         ensures { IfOk result (IsListingUnderLock D.opened) }
     {
@@ -278,6 +297,9 @@ impl<P: Pool, D: Hall, T: Ledger, U: Ledger, V: Ledger> ZoneLock<P, D, T, U, V> 
     }
 
     /// Waits for the lock and tells the zone's figures, as `figures_locked` does.
+    ///
+    /// promise figures-are-of-one-moment: Figures are those of a sound zone that stood behind this
+    /// lock, with bandwidth in use within the limit (`AreFigures`, `AreFiguresUnderLock`).
     pub fn figures<R: Wait>(&self, rt: &R, pools: &mut Vec<Figures>) -> ZoneFigures
         requires empty { pools.old.items ≡ [] }
         requires room { 16 ≤ vec_capacity pools.old }
@@ -290,6 +312,10 @@ impl<P: Pool, D: Hall, T: Ledger, U: Ledger, V: Ledger> ZoneLock<P, D, T, U, V> 
     /// Waits for the lock and puts rows of endpoints at places below this one into `rows`, as
     /// `endpoints_locked` does. Returns the place below which the next ones stand; 0 if there are
     /// none.
+    ///
+    /// promise rows-are-of-one-moment: Rows are those of a zone that stood behind this lock, one
+    /// for each place below the given one, as many as there is room for; likewise of calls
+    /// (`IsEndpointRow`, `AreEndpointsUnderLock`).
     pub fn endpoints_below<R: Wait>(
         &self,
         rt: &R,
@@ -319,6 +345,9 @@ impl<P: Pool, D: Hall, T: Ledger, U: Ledger, V: Ledger> ZoneLock<P, D, T, U, V> 
 
     /// Waits for the lock and ends a chapter. It is refused as NoBase only if the state in which
     /// the chapter would begin was let go.
+    ///
+    /// promise waiting-cut-is-a-chapter: It gives a chapter of what stood behind this lock
+    /// (`IsChapterUnderLock`).
     pub fn cut<R: Wait>(&self, rt: &R) -> Result<Chapter, CutFault>
         ensures chapter { IfOk result (IsChapterUnderLock D.opened) }
         ensures no_base { result ≡ Err CutFault.NoBase → IsWithoutBase D.opened }
@@ -329,6 +358,9 @@ impl<P: Pool, D: Hall, T: Ledger, U: Ledger, V: Ledger> ZoneLock<P, D, T, U, V> 
     /// Waits for the lock and takes the entries so far out of it. Letting them go is for the
     /// caller, once the lock is free. Those that come next stand in `room`, which has none yet. No
     /// chapter can be cut afterwards.
+    ///
+    /// promise waiting-discard-is-a-book: It gives a book that stood behind this lock
+    /// (`IsBookUnderLock`).
     pub fn discard<R: Wait>(&self, rt: &R, room: Vec<Entry>) -> Discarded
         requires { room.items ≡ [] }
         ensures { IsBookUnderLock D.opened result.base result.entries.items }
@@ -339,6 +371,10 @@ impl<P: Pool, D: Hall, T: Ledger, U: Ledger, V: Ledger> ZoneLock<P, D, T, U, V> 
     /// Takes the zone out, with its history since the last chapter. If entries were discarded, so
     /// are those since then, and the history is left without entries. It is refused if and only if
     /// the seats are not all of this lock's; lock and seats then come back.
+    ///
+    /// promise history-under-the-lock-is-a-run: All steps are a run to the zone, and the seats'
+    /// shares add up to its totals; refused if and only if seats are missing, which come back with
+    /// the lock (`IsWholeHistory`, `IsLedInUse`, `HavePartForEach`).
     pub fn finish(
         self,
         seats: Vec<Seat<D, T, U, V>>,

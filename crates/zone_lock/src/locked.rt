@@ -24,6 +24,10 @@ use std::sync::ledger::Ledger;
 /// whole history, the totals of the entries before it, the totals so far (units that come back are
 /// counted when a chapter ends), the units that were in use when the zone was locked, the state in
 /// which it begins, if a copy of it is kept, its entries, the zone, and the ledgers.
+///
+/// promise lock-keeps-a-run: Whenever the lock is free, all steps since the zone was put there are
+/// a run to it; the book is its end, earlier totals are carried, and the ledgers have the history's
+/// totals (`IsKept`, `IsInside`).
 #[derive(Drop)]
 pub struct Locked<P: Pool, D: Hall, T: Ledger, U: Ledger, V: Ledger> {
     pub(crate) first: usize,
@@ -68,6 +72,9 @@ impl<P: Pool, D: Hall, T: Ledger, U: Ledger, V: Ledger> Model for Locked<P, D, T
 
 /// Makes one step of the locked zone, which is the last entry afterwards, or changes nothing. It is
 /// refused as Closed if and only if 2^62 steps were made. All memory is there before the step.
+///
+/// promise locked-step-is-one-entry: One step adds one entry, returns its receipt and raises the
+/// seat's shares; at an error nothing changes (`entry_by`, `receipt_at`, `seated_after`).
 pub fn apply_locked<P: Pool, D: Hall, T: Ledger, U: Ledger, V: Ledger>(
     locked: &mut Locked<P, D, T, U, V>,
     seat: &mut Seat<D, T, U, V>,

@@ -21,6 +21,9 @@ use std::sync::ledger::Ledger;
 /// does: one step, which is the last entry afterwards. The old pool comes back with nothing lent.
 /// Or it changes nothing, and the fresh pool comes back. The memory for the entry is asked for once
 /// the fresh pool is found to be idle, and before it is asked to take over the loans.
+///
+/// promise lock-replaces-a-pool: One step replaces the pool, as one entry; or it is refused in
+/// order, and nothing changes (`RunningReplacement`, `IsRefusalOrMemory`, `IsOldPool`).
 pub fn replace_locked<P: Pool, D: Hall, T: Ledger, U: Ledger, V: Ledger>(
     locked: &mut Locked<P, D, T, U, V>,
     seat: &mut Seat<D, T, U, V>,

@@ -19,6 +19,9 @@ use std::sync::ledger::Ledger;
 /// state in which the book begins, so that a chapter can be cut, the step is recorded as
 /// `apply_locked` does it. It is refused as Closed if and only if 2^62 steps were made. After a
 /// refusal what stands in place of the outcome means nothing.
+///
+/// promise unrecorded-step-is-in-the-history: The history grows by the step's entry, which stands
+/// in no memory unless a chapter could be cut; at an error nothing changes (`IsEntered`).
 pub fn step_locked<P: Pool, D: Hall, T: Ledger, U: Ledger, V: Ledger>(
     locked: &mut Locked<P, D, T, U, V>,
     seat: &mut Seat<D, T, U, V>,

@@ -31,6 +31,9 @@ pub enum TurnsEnd {
 /// is due, until so many were made, or until one is refused, which changes nothing. What they send
 /// is put into `replies` in order, which has none yet, and room for all. What is counted of them is
 /// added to the counts. What stands in place of the outcome afterwards means nothing.
+///
+/// promise turns-follow-one-another: Each turn is one step at one moment; they end when nothing was
+/// due, enough were made, or one is refused (`AreTurnsMade`, `IsEndOf`).
 pub fn turns_locked<P: Pool, D: Hall, T: Ledger, U: Ledger, V: Ledger>(
     locked: &mut Locked<P, D, T, U, V>,
     seat: &mut Seat<D, T, U, V>,

@@ -62,6 +62,9 @@ impl Counts {
     }
 
     /// Counts this so often more.
+    ///
+    /// promise counts-have-places-of-their-own: A count rises by what is added, and no other does;
+    /// at its highest it stays (`with_more`).
     pub fn add(&mut self, count: Count, more: u64)
         ensures { self.new ≡ with_more count more self.old }
     {

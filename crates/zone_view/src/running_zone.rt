@@ -30,6 +30,9 @@ pub trait RunningZone: Drop {
 
     /// Its figures now, and those of its pools, in order, at the same moment: they are put into
     /// `pools`, which has none yet, and room for 16, of which a zone has no more.
+    ///
+    /// promise shown-figures-are-of-one-moment: The figures of a zone and of its pools are those of
+    /// one moment, with bandwidth in use within the limit.
     fn figures(&self, pools: &mut Vec<Figures>) -> ZoneFigures
         requires empty { pools.old.items ≡ [] }
         requires room { 16 ≤ vec_capacity pools.old }
@@ -44,6 +47,9 @@ pub trait RunningZone: Drop {
 
     /// Puts rows of endpoints at places below this one into `rows`, which has none yet: as many as
     /// there is room for. Returns the place below which the next ones stand; 0 if there are none.
+    ///
+    /// promise shown-rows-are-of-the-zone: Each row is of an endpoint that the zone has at some
+    /// moment; likewise of calls, by `calls_below`.
     fn endpoints_below(&self, place: usize, rows: &mut Vec<EndpointRow>) -> usize
         requires empty { rows.old.items ≡ [] }
         ensures rows { All (has_endpoint self.now) rows.new.items }

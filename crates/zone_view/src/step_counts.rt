@@ -38,6 +38,9 @@ impl StepCounts {
     /// What is counted of a step with this outcome, which was made of a datagram with this first
     /// octet, if it was one of a datagram. The kinds of request and reply, and the reason of a
     /// reject, are read off the octets (H.225.0, RasMessage; X.691).
+    ///
+    /// promise step-is-counted-by-its-outcome: What is counted of a step is read off its outcome as
+    /// defined (`counts_of`).
     pub fn of(first: Option<u8>, outcome: &Outcome) -> Self
         ensures { result ≡ counts_of first outcome.now }
     {
