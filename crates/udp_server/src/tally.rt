@@ -32,7 +32,7 @@ pub(crate) struct Tally {
 impl Tally {
     fn new(alloc: Global) -> Result<Tally, AllocError> {
         let mut numbers = Vec::with_capacity(alloc, ALL)?;
-        for _ in 0..ALL {
+        for _number in 0..ALL {
             numbers.push_reserved(AtomicU64::new(0));
         }
         Ok(Tally { numbers })
@@ -104,7 +104,7 @@ impl Tallies {
     /// Nothing was counted yet by this many workers.
     pub(crate) fn new(alloc: Global, workers: usize) -> Result<Tallies, AllocError> {
         let mut tallies = Vec::with_capacity(alloc, workers)?;
-        for _ in 0..workers {
+        for _worker in 0..workers {
             tallies.push_reserved(Tally::new(alloc)?);
         }
         Ok(Tallies {
