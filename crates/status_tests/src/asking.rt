@@ -38,6 +38,7 @@ fn each_path_has_its_page(rt: HostRuntime) -> Result<(), Fail> {
 #[test]
 fn only_looks_are_allowed(rt: HostRuntime) -> Result<(), Fail> {
     let alloc = rt.alloc();
+    assert!(rt; asked_by(alloc, Method::Look, "/", "")? == Asked::Home(plain()));
     assert!(rt; asked_by(alloc, Method::Other, "/", "")? == Asked::NotAllowed);
     assert!(rt; asked_by(alloc, Method::Other, "/nowhere", "")? == Asked::NotAllowed);
     Ok(())
@@ -121,6 +122,7 @@ fn wrong_parameters(rt: HostRuntime) -> Result<(), Fail> {
             "{text}"
         );
     }
+    assert!(rt; look(alloc, "/", "")? == Asked::Home(plain()));
     assert!(rt; look(alloc, "/", "after=0001")? == Asked::WrongQuery);
     assert!(rt; look(alloc, "/", "most=1")? == Asked::WrongQuery);
     Ok(())

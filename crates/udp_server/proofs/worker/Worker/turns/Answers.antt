@@ -14,6 +14,7 @@ returns-clause-came g c =
       moment = c.now-moment.result;
       sent = sent;
       seat_then = c.turns-end.new.seat;
+      counts = _;
       told = (c.now-moment.new.self, c.now-moment.ensures);
       turns = c.turns-end.ensures.made;
       handed_on = subst (λ (b : Standing). AreHandedOn sent b then)
