@@ -12,8 +12,10 @@ scoped-record-requires g c = record {
       search sendable depth 20,
       search sendable depth 20,
       search sendable depth 20,
+      search sendable depth 20,
     ),
     (
+      search sendable depth 20,
       search sendable depth 20,
       search sendable depth 20,
       search sendable depth 20,
