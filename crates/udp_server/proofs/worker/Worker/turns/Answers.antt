@@ -1,4 +1,5 @@
-use Rattle.std.proofs.Common.{inl, subst}
+use Rattle.std.proofs.Common.{List, ℕ, inl, subst}
+use Rattle.zone_lock.specs.Turns.{AreTurnsUnderLock}
 use Rattle.udp_server.specs.Working.{AreHandedOn, Standing, standing}
 use Rattle.udp_server.proofs.Steps.{refusals_counted}
 use Rattle.udp_server.proofs.worker.Worker.turns.Goals as goal
@@ -14,9 +15,11 @@ returns-clause-came g c =
       moment = c.now-moment.result;
       sent = sent;
       seat_then = c.turns-end.new.seat;
-      counts = _;
+      counts = c.turns-end.new.counts;
       told = (c.now-moment.new.self, c.now-moment.ensures);
-      turns = c.turns-end.ensures.made;
+      turns = subst (λ (ns : List ℕ). AreTurnsUnderLock g.D.Hall.opened old.seat c.now-moment.result
+          50 sent c.turns-end.result c.turns-end.new.seat ns c.turns-end.new.counts)
+          c.none-counts.ensures c.turns-end.ensures.made;
       handed_on = subst (λ (b : Standing). AreHandedOn sent b then)
           (refusals_counted old.seat c.turns-end.new.seat old.outlet old.counts
           c.count_end.new.self _ counted.refused counted.dropped counted.faults)
