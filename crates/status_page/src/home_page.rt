@@ -44,7 +44,7 @@ pub fn home(
 /// Writes the foot of the page.
 fn push_foot(out: &mut String) -> Result<(), AllocError> {
     out.push_str(
-        "</main><footer><p>This page is renewed every 5 seconds. The same for programs:</p>\
+        "</main><footer><p>This page is renewed every 10 seconds. The same for programs:</p>\
         <p><a href=/metrics>metrics for Prometheus</a><a href=/zone.json>zone</a>\
         <a href=/endpoints.json>endpoints</a><a href=/calls.json>calls</a></p></footer>\n\
         </body></html>\n",
@@ -56,7 +56,7 @@ fn push_head(out: &mut String, about: &About, clock: u64) -> Result<(), AllocErr
     out.push_str(
         "<!doctype html>\n<html lang=en><head><meta charset=utf-8>\
         <meta name=viewport content=\"width=device-width,initial-scale=1\">\
-        <meta http-equiv=refresh content=5><link rel=icon href=data:,><title>",
+        <meta http-equiv=refresh content=10><link rel=icon href=data:,><title>",
     )?;
     push_html(out, "", about.name.as_slice())?;
     out.push_str(" - gatekeeper</title><style>")?;

@@ -32,7 +32,7 @@ gap:18px 32px}.bar:first-child{grid-column:1/-1}\
 .bar div{height:10px;margin:4px 0;border-radius:5px;background:var(--line);overflow:hidden}\
 .bar i{display:block;height:100%;border-radius:5px;background:var(--good)}\
 .bar i.warn{background:var(--warn)}.bar i.bad{background:var(--bad)}\
-.counts{columns:4 230px;column-gap:32px}.counts>div{break-inside:avoid;padding-bottom:16px}\
+.counts{columns:4 140px;column-gap:24px}.counts>div{break-inside:avoid;padding-bottom:16px}\
 .counts h3{margin:0 0 4px;padding-bottom:4px;border-bottom:1px solid var(--line);\
 font-size:13px;color:var(--soft);font-weight:600}\
 .counts dl{display:grid;grid-template-columns:1fr auto;gap:2px 12px;margin:0}\
@@ -42,7 +42,9 @@ font-size:13px;color:var(--soft);font-weight:600}\
 table{border-collapse:collapse;width:100%;white-space:nowrap}\
 th,td{text-align:left;vertical-align:baseline;padding:7px 20px 7px 0;\
 border-bottom:1px solid var(--line)}th:last-child,td:last-child{padding-right:0}\
-tbody tr:last-child td{border-bottom:0}tbody tr:hover{background:var(--back)}\
+tbody tr:last-child td{border-bottom:0}tr{background:var(--card)}\
+tbody tr:hover{background:var(--back)}\
+th:first-child,td:first-child{position:sticky;left:0;background:inherit}\
 th{color:var(--soft);font-size:12px;font-weight:600}\
 td.n,th.n{text-align:right}td.a{white-space:normal;min-width:190px;overflow-wrap:anywhere}\
 code{font:13px ui-monospace,SFMono-Regular,Menlo,Consolas,monospace}\
