@@ -14,7 +14,7 @@ pub(crate) fn push_counts(
     counts: &Counts,
     server: &ServerFigures,
 ) -> Result<(), AllocError> {
-    out.push_str("<section><h2>Traffic</h2><div class=counts>\n")?;
+    out.push_str("<section id=traffic><h2>Traffic</h2><div class=counts>\n")?;
     push_list(out, "Requests", &requests_in(counts))?;
     push_list(out, "Replies", &replies_in(counts))?;
     push_rejects(out, &rejects_in(counts))?;

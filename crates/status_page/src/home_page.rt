@@ -69,7 +69,10 @@ fn push_head(out: &mut String, about: &About, clock: u64) -> Result<(), AllocErr
     push_address(out, "</h1><p><code>", about.address)?;
     out.push_str("</code> &middot; serving for ")?;
     push_span(out, clock)?;
-    out.push_str("</p></header>\n<main>\n")
+    out.push_str(
+        "</p><nav><a href=#bandwidth>Bandwidth</a><a href=#endpoints>Endpoints</a>\
+        <a href=#calls>Calls</a><a href=#traffic>Traffic</a></nav></header>\n<main>\n",
+    )
 }
 
 /// Writes the figures of a zone that have no limit.
@@ -88,7 +91,7 @@ fn push_pools(
     figures: &ZoneFigures,
     pools: &[Figures],
 ) -> Result<(), AllocError> {
-    out.push_str("<section><h2>Bandwidth</h2><div class=bars>\n")?;
+    out.push_str("<section id=bandwidth><h2>Bandwidth</h2><div class=bars>\n")?;
     push_bar(out, "Whole zone", figures.in_use, figures.limit)?;
     for (place, pool) in pools.iter().enumerate() {
         let mut title = String::from_str(*out.allocator(), "Pool ")?;
@@ -110,7 +113,7 @@ fn push_endpoint_section(
 ) -> Result<(), AllocError> {
     push_number(
         out,
-        "<section><h2>Endpoints <small>",
+        "<section id=endpoints><h2>Endpoints <small>",
         figures.endpoints as u64,
     )?;
     out.push_str(" registered</small></h2>\n")?;
@@ -134,7 +137,11 @@ fn push_call_section(
     calls: &CallList,
     figures: &ZoneFigures,
 ) -> Result<(), AllocError> {
-    push_number(out, "<section><h2>Calls <small>", figures.calls as u64)?;
+    push_number(
+        out,
+        "<section id=calls><h2>Calls <small>",
+        figures.calls as u64,
+    )?;
     out.push_str(" open</small></h2>\n")?;
     push_calls(out, calls.rows.as_slice())?;
     out.push_str("<p class=more>")?;

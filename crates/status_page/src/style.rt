@@ -17,6 +17,7 @@ h1 small{display:block;color:var(--accent);font-size:12px;font-weight:600;\
 letter-spacing:.08em;text-transform:uppercase}\
 h2{margin:0 0 12px;font-size:16px}\
 header p,footer{color:var(--soft)}header p{margin:6px 0 0}\
+nav{margin:10px 0 0}nav a,.more a,footer a{margin-right:16px}\
 h2 small,.bar small{color:var(--soft);font-size:13px;font-weight:400;margin-left:6px}\
 section{background:var(--card);border:1px solid var(--line);border-radius:12px;\
 padding:16px 18px;margin:16px 0}\
@@ -49,7 +50,5 @@ th{color:var(--soft);font-size:12px;font-weight:600}\
 td.n,th.n{text-align:right}td.a{white-space:normal;min-width:190px;overflow-wrap:anywhere}\
 code{font:13px ui-monospace,SFMono-Regular,Menlo,Consolas,monospace}\
 .none{color:var(--soft);margin:0}.more{margin:12px 0 0}.more:empty{display:none}\
-.more a{margin-right:18px}\
 a{color:var(--accent);text-decoration:none}a:hover{text-decoration:underline}\
-footer{padding-top:4px;padding-bottom:32px;font-size:13px}footer p{margin:0 0 4px}\
-footer a{margin-right:14px}";
+footer{padding-top:4px;padding-bottom:32px;font-size:13px}footer p{margin:0 0 4px}";
