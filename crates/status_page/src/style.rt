@@ -39,7 +39,7 @@ font-size:13px;color:var(--soft);font-weight:600}\
 .counts dl{display:grid;grid-template-columns:1fr auto;gap:2px 12px;margin:0}\
 .counts dt{overflow-wrap:anywhere}.counts dd{margin:0;text-align:right}\
 .zero{color:var(--soft)}\
-.wide{overflow-x:auto;margin:0 -18px;padding:0 18px}\
+.wide{overflow-x:auto}\
 table{border-collapse:collapse;width:100%;white-space:nowrap}\
 th,td{text-align:left;vertical-align:baseline;padding:7px 20px 7px 0;\
 border-bottom:1px solid var(--line)}th:last-child,td:last-child{padding-right:0}\
