@@ -1,6 +1,6 @@
 //! The status page beside the server of a zone.
 
-ghost use Rattle.std.specs.Prelude.{◌≡◌, None, OnErr};
+ghost use Rattle.std.specs.Prelude.{◌≢◌, None, OnErr};
 
 use crate::notices::{tell_cause, tell_page};
 use crate::serving_fault::RunningFault;
@@ -19,38 +19,47 @@ use zone_view::RunningZone;
 /// Serves the status page of a zone for as long as the zone is served.
 #[derive(Drop)]
 pub struct PageServer<'a, R> {
-    rt: &'a R,
-    listener: BoundListener,
-    about: About,
+    pub rt: &'a R,
+    pub listener: &'a BoundListener,
+    pub about: &'a About,
 }
 
-impl<'a, R: Net<Listener = TcpListener, Stream = TcpStream> + Log> PageServer<'a, R> {
-    /// Binds the address of the page, if there is to be one, and tells where it is served, or why it
-    /// can't be bound.
-    pub fn bind(
-        rt: &'a R,
-        address: Option<Address>,
-        about: About,
-    ) -> Result<Option<PageServer<'a, R>>, RunningFault>
-        ensures none { OnErr result (address ≢ None) }
-    {
-        let Some(address) = address else {
-            return Ok(None);
-        };
-        match bind_status(rt, address) {
-            Ok(listener) => {
-                tell_page(rt, address);
-                Ok(Some(PageServer {
-                    rt,
-                    listener,
-                    about,
-                }))
-            }
-            Err(fault) => {
-                tell_cause(rt, address, fault.cause());
-                Err(RunningFault::BindPage(fault))
-            }
+/// Binds the address of the page, if there is to be one, and tells where it is served, or why it
+/// can't be bound.
+pub fn bind_page<R: Net<Listener = TcpListener, Stream = TcpStream> + Log>(
+    rt: &R,
+    address: Option<Address>,
+) -> Result<Option<BoundListener>, RunningFault>
+    ensures { OnErr result (address ≢ None) }
+{
+    let Some(address) = address else {
+        return Ok(None);
+    };
+    match bind_status(rt, address) {
+        Ok(listener) => {
+            tell_page(rt, address);
+            Ok(Some(listener))
         }
+        Err(fault) => {
+            tell_cause(rt, address, fault.cause());
+            Err(RunningFault::BindPage(fault))
+        }
+    }
+}
+
+/// Who serves the page, if there is a listener for it.
+pub fn watcher_of<'a, R>(
+    rt: &'a R,
+    listener: Option<&'a BoundListener>,
+    about: &'a About,
+) -> Option<PageServer<'a, R>> {
+    match listener {
+        Some(listener) => Some(PageServer {
+            rt,
+            listener,
+            about,
+        }),
+        None => None,
     }
 }
 
@@ -61,7 +70,7 @@ impl<R: Wait + Clock + Net + RandomSource + AllocGlobal + Log> Watcher for PageS
             listener,
             about,
         } = self;
-        if status_server::serve(rt, listener, about, zone).is_err() {
+        if status_server::serve(rt, listener, *about, zone).is_err() {
             warn!(rt; target: "serve", "the status page is served no longer");
         }
     }

@@ -8,7 +8,7 @@ ghost use Rattle.udp_server.specs.Served.{IsServed};
 
 use crate::notices::{tell_cause, tell_place, tell_zone, warn_of, warn_of_faults};
 use crate::over_socket::{ask_for_buffer, serve_socket};
-use crate::page_server::PageServer;
+use crate::page_server::{bind_page, watcher_of};
 use crate::report::print_report;
 use crate::service::{Ending, Service};
 use crate::serving_fault::{RunningFault, ServingFault};
@@ -87,10 +87,12 @@ fn serve_pools<
             return Err(RunningFault::Bind(fault));
         }
     };
-    let page = PageServer::bind(rt, status, About { name, address })?;
+    let page = bind_page(rt, status)?;
+    let about = About { name, address };
     ask_for_buffer(rt, &socket, service.buffer);
     tell_zone(rt, &name, address, service.receivers);
-    let report = serve_socket(rt, alloc, zone, &socket, service, ending.stop, page)?;
+    let watcher = watcher_of(rt, page.as_ref(), &about);
+    let report = serve_socket(rt, alloc, zone, &socket, service, ending.stop, watcher)?;
     warn_of_faults(rt, &report);
     Ok(report)
 }

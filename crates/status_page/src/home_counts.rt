@@ -3,6 +3,7 @@
 use crate::counted::{
     Counted, CountedReject, answers_in, ignored_in, rejects_in, replies_in, requests_in, turns_in,
 };
+use crate::html_parts::push_label;
 use crate::text_parts::push_number;
 use std::alloc::AllocError;
 use zone_view::{Count, Counts, ServerFigures};
@@ -13,7 +14,7 @@ pub(crate) fn push_counts(
     counts: &Counts,
     server: &ServerFigures,
 ) -> Result<(), AllocError> {
-    out.push_str("<section><h2>Traffic</h2><div class=counts>\n")?;
+    out.push_str("<section id=traffic><h2>Traffic</h2><div class=counts>\n")?;
     push_list(out, "Requests", &requests_in(counts))?;
     push_list(out, "Replies", &replies_in(counts))?;
     push_rejects(out, &rejects_in(counts))?;
@@ -44,12 +45,20 @@ fn push_list(out: &mut String, title: &str, counts: &[Counted]) -> Result<(), Al
     out.push_str(title)?;
     out.push_str("</h3><dl>")?;
     for count in counts {
-        out.push_str("<dt>")?;
-        out.push_str(count.label)?;
-        push_number(out, "</dt><dd>", count.number)?;
-        out.push_str("</dd>")?;
+        push_label(out, "<dt>", count.label)?;
+        push_count(out, count.number)?;
     }
     out.push_str("</dl></div>\n")
+}
+
+/// Writes a count behind its label. One of zero is paler than others.
+fn push_count(out: &mut String, number: u64) -> Result<(), AllocError> {
+    let before = match number {
+        0 => "</dt><dd class=zero>",
+        _ => "</dt><dd>",
+    };
+    push_number(out, before, number)?;
+    out.push_str("</dd>")
 }
 
 /// Writes the rejects that came at least once.
@@ -63,12 +72,11 @@ fn push_rejects(out: &mut String, rejects: &[CountedReject]) -> Result<(), Alloc
             out.push_str(reject.message)?;
             out.push(' ')?;
             out.push_str(reject.reason)?;
-            push_number(out, "</dt><dd>", reject.number)?;
-            out.push_str("</dd>")?;
+            push_count(out, reject.number)?;
         }
     }
     out.push_str(if is_empty {
-        "</dl><p class=none>None.</p></div>\n"
+        "</dl><p class=none>No request was rejected.</p></div>\n"
     } else {
         "</dl></div>\n"
     })

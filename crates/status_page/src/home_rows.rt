@@ -1,6 +1,6 @@
 //! Endpoints and calls, on the page for people.
 
-use crate::html_parts::{push_bandwidth, push_html, push_span};
+use crate::html_parts::{push_html, push_span, push_tenths};
 use crate::text_parts::{push_address, push_key, push_number};
 use ras_module::Alias;
 use std::alloc::AllocError;
@@ -13,11 +13,11 @@ pub(crate) fn push_endpoints(
     clock: u64,
 ) -> Result<(), AllocError> {
     if rows.is_empty() {
-        return out.push_str("<p class=none>None.</p>\n");
+        return out.push_str("<p class=none>There are no endpoints to show.</p>\n");
     }
     out.push_str(
         "<div class=wide><table><thead><tr><th>Identifier<th>Aliases<th>Call signalling\
-        <th>RAS<th class=n>Calls<th class=n>Ends in<th class=n>Heard</tr></thead><tbody>\n",
+        <th>RAS<th class=n>Calls<th class=n>Ends in<th class=n>Last heard</tr></thead><tbody>\n",
     )?;
     for row in rows {
         push_endpoint(out, row, clock)?;
@@ -42,14 +42,15 @@ fn push_endpoint(out: &mut String, row: &EndpointRow, clock: u64) -> Result<(), 
 
 /// Writes the first aliases of an endpoint, and how many more it has.
 fn push_aliases(out: &mut String, aliases: &[Alias], count: usize) -> Result<(), AllocError> {
-    let mut before = "";
+    let mut before = "<bdi>";
     for alias in aliases {
         let units = match alias {
             Alias::Digits(digits) => digits.as_slice(),
             Alias::H323Id(id) => id.as_slice(),
         };
         push_html(out, before, units)?;
-        before = ", ";
+        out.push_str("</bdi>")?;
+        before = ", <bdi>";
     }
     if count > aliases.len() {
         push_number(out, " and ", (count - aliases.len()) as u64)?;
@@ -61,11 +62,11 @@ fn push_aliases(out: &mut String, aliases: &[Alias], count: usize) -> Result<(),
 /// Writes the table of calls.
 pub(crate) fn push_calls(out: &mut String, rows: &[Box<CallRow>]) -> Result<(), AllocError> {
     if rows.is_empty() {
-        return out.push_str("<p class=none>None.</p>\n");
+        return out.push_str("<p class=none>There are no calls to show.</p>\n");
     }
     out.push_str(
-        "<div class=wide><table><thead><tr><th>Key<th>First endpoint<th>Second endpoint\
-        <th>Bandwidth<th class=n>Pool</tr></thead><tbody>\n",
+        "<div class=wide><table><thead><tr><th>First endpoint<th>Second endpoint<th class=n>Units\
+        <th class=n>kbit/s<th class=n>Pool<th>Key</tr></thead><tbody>\n",
     )?;
     for row in rows {
         push_call(out, row)?;
@@ -75,15 +76,18 @@ pub(crate) fn push_calls(out: &mut String, rows: &[Box<CallRow>]) -> Result<(), 
 
 /// Writes a row of the table of calls.
 fn push_call(out: &mut String, row: &CallRow) -> Result<(), AllocError> {
-    push_key(out, "<tr><td><code>", row.key)?;
-    push_html(out, "</code><td><code>", row.first.as_slice())?;
+    push_html(out, "<tr><td><code>", row.first.as_slice())?;
     out.push_str("</code><td>")?;
-    if let Some(second) = &row.second {
-        push_html(out, "<code>", second.as_slice())?;
-        out.push_str("</code>")?;
+    match &row.second {
+        Some(second) => {
+            push_html(out, "<code>", second.as_slice())?;
+            out.push_str("</code>")?;
+        }
+        None => out.push_str("<span class=none>none</span>")?,
     }
-    out.push_str("<td>")?;
-    push_bandwidth(out, u64::from(row.units))?;
+    push_number(out, "<td class=n>", u64::from(row.units))?;
+    push_tenths(out, "<td class=n>", u64::from(row.units))?;
     push_number(out, "<td class=n>", row.pool as u64)?;
-    out.push_str("</tr>\n")
+    push_key(out, "<td><code>", row.key)?;
+    out.push_str("</code></tr>\n")
 }

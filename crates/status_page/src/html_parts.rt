@@ -47,12 +47,19 @@ pub(crate) fn push_span(out: &mut String, milliseconds: u64) -> Result<(), Alloc
     out.push_str(" min")
 }
 
-/// Writes bandwidth as units of 100 bit/s, and in kbit/s.
-pub(crate) fn push_bandwidth(out: &mut String, units: u64) -> Result<(), AllocError> {
-    push_number(out, "", units)?;
-    push_number(out, " <span>(", units / 10)?;
-    push_number(out, ".", units % 10)?;
-    out.push_str(" kbit/s)</span>")
+/// Writes a text, and a number of tenths behind it, as in `6.4`.
+pub(crate) fn push_tenths(out: &mut String, before: &str, tenths: u64) -> Result<(), AllocError> {
+    push_number(out, before, tenths / 10)?;
+    push_number(out, ".", tenths % 10)
+}
+
+/// Writes a text, and a label behind it, with spaces in place of its underscores.
+pub(crate) fn push_label(out: &mut String, before: &str, label: &str) -> Result<(), AllocError> {
+    out.push_str(before)?;
+    for character in label.chars() {
+        out.push(if character == '_' { ' ' } else { character })?;
+    }
+    Ok(())
 }
 
 /// How many thousandths a part is of a whole: at most 1,000; 0 of nothing.
@@ -65,7 +72,8 @@ pub(crate) fn thousandths(part: u64, whole: u64) -> u64
     (part.saturating_mul(1_000) / whole).min(1_000)
 }
 
-/// Writes a bar that shows bandwidth in use against a limit.
+/// Writes a bar that shows bandwidth in use against a limit, in units of 100 bit/s and in kbit/s.
+/// The title is HTML.
 pub(crate) fn push_bar(
     out: &mut String,
     title: &str,
@@ -75,17 +83,15 @@ pub(crate) fn push_bar(
     let share = thousandths(in_use, limit);
     out.push_str("<div class=bar><p><b>")?;
     out.push_str(title)?;
-    push_number(out, "</b> <span>", share / 10)?;
-    push_number(out, ".", share % 10)?;
-    out.push_str(" %: ")?;
-    push_bandwidth(out, in_use)?;
-    out.push_str(" of ")?;
-    push_bandwidth(out, limit)?;
-    out.push_str("</span></p><div><i")?;
+    push_tenths(out, "</b><b>", share)?;
+    out.push_str(" %</b></p><div><i")?;
     out.push_str(shade(share))?;
-    push_number(out, " style=\"width:", share / 10)?;
-    push_number(out, ".", share % 10)?;
-    out.push_str("%\"></i></div></div>\n")
+    push_tenths(out, " style=\"width:", share)?;
+    push_number(out, "%\"></i></div><p><span>", in_use)?;
+    push_number(out, " of ", limit)?;
+    push_tenths(out, " units</span><span>", in_use)?;
+    push_tenths(out, " of ", limit)?;
+    out.push_str(" kbit/s</span></p></div>\n")
 }
 
 /// The attribute that gives a bar its shade: a warning from three quarters on, and an alarm from

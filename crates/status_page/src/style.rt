@@ -17,28 +17,38 @@ h1 small{display:block;color:var(--accent);font-size:12px;font-weight:600;\
 letter-spacing:.08em;text-transform:uppercase}\
 h2{margin:0 0 12px;font-size:16px}\
 header p,footer{color:var(--soft)}header p{margin:6px 0 0}\
+nav{margin:10px 0 0}nav a,.more a,footer a{margin-right:16px}\
+h2 small,.bar small{color:var(--soft);font-size:13px;font-weight:400;margin-left:6px}\
 section{background:var(--card);border:1px solid var(--line);border-radius:12px;\
 padding:16px 18px;margin:16px 0}\
 .tiles{display:grid;grid-template-columns:repeat(auto-fit,minmax(130px,1fr));gap:12px;\
 background:none;border:0;padding:0}\
 .tiles div{background:var(--card);border:1px solid var(--line);border-radius:12px;\
 padding:12px 16px}\
-.tiles b{display:block;font-size:26px;line-height:1.3}.tiles span{color:var(--soft)}\
-.bar{margin:0 0 14px}.bar p{display:flex;flex-wrap:wrap;justify-content:space-between;\
-gap:0 12px;margin:0 0 4px}.bar p span{color:var(--soft)}\
-.bar div{height:10px;border-radius:5px;background:var(--line);overflow:hidden}\
+.tiles b{display:block;font-size:28px;line-height:1.25}.tiles span{color:var(--soft)}\
+.bars{display:grid;grid-template-columns:repeat(auto-fit,minmax(min(100%,300px),1fr));\
+gap:18px 32px}.bar:first-child{grid-column:1/-1}\
+.bar p{display:flex;flex-wrap:wrap;justify-content:space-between;gap:0 12px;margin:0}\
+.bar p span{color:var(--soft);font-size:13px}\
+.bar div{height:10px;margin:4px 0;border-radius:5px;background:var(--line);overflow:hidden}\
 .bar i{display:block;height:100%;border-radius:5px;background:var(--good)}\
 .bar i.warn{background:var(--warn)}.bar i.bad{background:var(--bad)}\
-.counts{display:grid;grid-template-columns:repeat(auto-fit,minmax(210px,1fr));gap:8px 28px}\
-.counts h3{margin:6px 0 4px;font-size:13px;color:var(--soft);font-weight:600}\
-.counts dl{display:grid;grid-template-columns:1fr auto;gap:1px 12px;margin:0 0 10px}\
+.counts{columns:4 140px;column-gap:24px}.counts>div{break-inside:avoid;padding-bottom:16px}\
+.counts h3{margin:0 0 4px;padding-bottom:4px;border-bottom:1px solid var(--line);\
+font-size:13px;color:var(--soft);font-weight:600}\
+.counts dl{display:grid;grid-template-columns:1fr auto;gap:2px 12px;margin:0}\
 .counts dt{overflow-wrap:anywhere}.counts dd{margin:0;text-align:right}\
-.wide{overflow-x:auto;margin:0 -18px;padding:0 18px}\
+.zero{color:var(--soft)}\
+.wide{overflow-x:auto}\
 table{border-collapse:collapse;width:100%;white-space:nowrap}\
-th,td{text-align:left;padding:7px 18px 7px 0;border-bottom:1px solid var(--line)}\
+th,td{text-align:left;vertical-align:baseline;padding:7px 20px 7px 0;\
+border-bottom:1px solid var(--line)}th:last-child,td:last-child{padding-right:0}\
+tbody tr:last-child td{border-bottom:0}tr{background:var(--card)}\
+tbody tr:hover{background:var(--back)}\
+th:first-child,td:first-child{position:sticky;left:0;background:inherit}\
 th{color:var(--soft);font-size:12px;font-weight:600}\
-td.n,th.n{text-align:right}td.a{white-space:normal;min-width:150px;overflow-wrap:anywhere}\
+td.n,th.n{text-align:right}td.a{white-space:normal;min-width:190px;overflow-wrap:anywhere}\
 code{font:13px ui-monospace,SFMono-Regular,Menlo,Consolas,monospace}\
-.none{color:var(--soft);margin:0}.more{margin:12px 0 0}\
+.none{color:var(--soft);margin:0}.more{margin:12px 0 0}.more:empty{display:none}\
 a{color:var(--accent);text-decoration:none}a:hover{text-decoration:underline}\
-footer{padding-top:4px;padding-bottom:32px}footer a{margin-right:14px}";
+footer{padding-top:4px;padding-bottom:32px;font-size:13px}footer p{margin:0 0 4px}";

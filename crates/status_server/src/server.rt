@@ -31,7 +31,7 @@ const TURN: u64 = 100;
 
 /// Serves the pages of a zone until it has ended, in this thread. Connections that are open then
 /// are let go. Errors are those of the system; none of them is a connection's.
-pub fn serve<R, Z>(rt: &R, listener: BoundListener, about: About, zone: &Z) -> io::Result<()>
+pub fn serve<R, Z>(rt: &R, listener: &BoundListener, about: About, zone: &Z) -> io::Result<()>
 where
     R: Wait + Clock + Net + RandomSource + AllocGlobal,
     Z: RunningZone,
@@ -40,14 +40,15 @@ where
 }
 
 /// Serves the pages of a view until it has ended.
-fn serve_view<R, V>(rt: &R, listener: BoundListener, view: V) -> io::Result<()>
+fn serve_view<R, V>(rt: &R, listener: &BoundListener, view: V) -> io::Result<()>
 where
     R: Wait + Clock + Net + RandomSource + AllocGlobal,
     V: View,
 {
     let alloc = rt.alloc();
     let mut runtime = LocalRuntime::new(rt)?;
-    let listener = TcpListener::from_std(listener.listener, runtime.handle().reactor())?;
+    let own = listener.listener.try_clone()?;
+    let listener = TcpListener::from_std(own, runtime.handle().reactor())?;
     let timers = runtime.handle().time().clone()?;
     let mut http = Builder::new(alloc, RandomState::new(rt)?);
     http.keep_alive(false).max_buf_size(MOST_HEAD);

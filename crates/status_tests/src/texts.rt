@@ -170,7 +170,8 @@ fn the_page_for_people(rt: HostRuntime) -> Result<(), Fail> {
     assert!(rt; !text.contains("<gk>"));
     assert!(rt; text.contains("serving for 1 d 2 h 3 min"));
     assert!(rt; text.contains("style=\"width:64.0%\""));
-    assert!(rt; text.contains("640 <span>(64.0 kbit/s)</span>"));
+    assert!(rt; text.contains("640 of 1000 units</span><span>64.0 of 100.0 kbit/s"));
+    assert!(rt; text.contains("<td class=n>640<td class=n>64.0"));
     assert!(rt; text.contains("href=\"/?endpoints=0002\""));
     assert!(rt; text.contains("&amp;calls=00000000000000000000000000000002\""));
     assert!(rt; text.ends_with("</body></html>\n"));
