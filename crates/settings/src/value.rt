@@ -3,8 +3,8 @@
 ghost use Rattle.std.specs.Prelude.{◌≡◌, ◌≤◌, IfOk, option_map};
 ghost use Rattle.toml.specs.Data.{get_member};
 ghost use Rattle.toml.specs.View.{table_view, view};
-ghost use Rattle.settings.specs.Values.{number_in, number_or, required_number, text_in};
-ghost use Rattle.settings.specs.Values.{whole_number};
+ghost use Rattle.settings.specs.Values.{in_range, number_in, number_or, required_number};
+ghost use Rattle.settings.specs.Values.{text_in, whole_number};
 ghost use Rattle.value_texts.specs.Texts as texts;
 
 use crate::fault::Refusal;
@@ -95,7 +95,17 @@ pub(crate) fn address_in(key: SettingKey, value: &Value) -> Result<Address, Refu
     ensures { result ≡ text_in key texts.address_of (view value.now) }
 {
     match value.as_str() {
-        Some(text) => address_of(text.as_bytes()).ok_or(Refusal::OutOfRange(key)),
+        Some(text) => in_range(key, address_of(text.as_bytes())),
         None => Err(Refusal::WrongKind(key)),
+    }
+}
+
+/// The address that a text is, if it is one.
+fn in_range(key: SettingKey, address: Option<Address>) -> Result<Address, Refusal>
+    ensures { result ≡ in_range key address }
+{
+    match address {
+        Some(address) => Ok(address),
+        None => Err(Refusal::OutOfRange(key)),
     }
 }
