@@ -63,8 +63,10 @@ fn is_written(alloc: Global) -> Result<bool, AllocError> {
         Ok(settings) => write_settings(&settings, &mut out).is_ok(),
         Err(_) => false,
     };
-    let line = b"\nserve.status = \"127.0.0.1:8719\"\n";
-    Ok(passed && out.as_slice().windows(line.len()).any(|part| part == line))
+    let Ok(written) = str::from_utf8(out.as_slice()) else {
+        return Ok(false);
+    };
+    Ok(passed && written.contains("\nserve.status = \"127.0.0.1:8719\"\n"))
 }
 
 #[test]
