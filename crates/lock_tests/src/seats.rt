@@ -100,11 +100,11 @@ fn are_rows(last: &EndpointRow, endpoints: &[EndpointRow], calls: &[CallRow]) ->
     let ([first], [call]) = (endpoints, calls) else {
         return false;
     };
-    first.identifier.as_slice() == [48, 48, 48, 49]
+    first.identifier.as_slice() == [48, 48, 48, 49].as_slice()
         && first.alias_count == 1
         && first.aliases.as_slice().len() == 1
         && first.legs == 1
-        && last.identifier.as_slice() == [48, 48, 48, 50]
+        && last.identifier.as_slice() == [48, 48, 48, 50].as_slice()
         && last.legs == 0
         && call.units == 1_280
         && call.first == first.identifier
