@@ -4,7 +4,7 @@ use pools::Lend;
 use ras_module::{Address, Octets};
 use std::alloc::{AllocError, Global};
 use std::test::Fail;
-use vectors::{
+use vectors::replies::{
     ACF_900, ACF_1220, ACF_1280, ARJ, BCF, BRJ, DCF, DRJ, GCF, GRJ, IRQ, RCF_0001, RCF_0002, RIP,
     RRJ_DUPLICATE, RRJ_FULL, UCF, URJ,
 };
