@@ -105,14 +105,11 @@ fn a_request_that_was_read_is_counted_by_its_kind(rt: HostRuntime) {
     assert_eq!(rt; noting(0x30, Note::Served).request, Some(RequestKind::Brq));
     assert_eq!(rt; noting(0x3E, Note::Served).request, Some(RequestKind::Drq));
     assert_eq!(rt; noting(0x58, Note::Served).request, Some(RequestKind::Irr));
-    let busy = Note::Ignored(IgnoredCause::Busy);
-    assert_eq!(rt; noting(0x27, busy).request, Some(RequestKind::Arq));
-    let unreadable = Note::Ignored(IgnoredCause::Unreadable);
-    assert_eq!(rt; noting(0x27, unreadable).request, None);
-    assert_eq!(rt;
-        noting(0x27, unreadable).ignored,
-        Some(IgnoredCause::Unreadable)
-    );
+    let busy = noting(0x27, Note::Ignored(IgnoredCause::Busy));
+    assert_eq!(rt; busy.request, Some(RequestKind::Arq));
+    let unreadable = noting(0x27, Note::Ignored(IgnoredCause::Unreadable));
+    assert_eq!(rt; unreadable.request, None);
+    assert_eq!(rt; unreadable.ignored, Some(IgnoredCause::Unreadable));
 }
 
 #[test]
