@@ -1,9 +1,10 @@
 //! Serving a zone over UDP.
 
-ghost use Rattle.std.specs.Prelude.{◌≡◌, IfOk, IfSome, map};
+ghost use Rattle.std.specs.Prelude.{◌≡◌, ◌≤◌, IfOk, IfSome, map};
 ghost use Rattle.script.specs.Runs.{start_of};
 ghost use Rattle.gatekeeper.specs.Serves.{AreServed, IsReportWritten, IsServiceWritten, zone_set};
 ghost use Rattle.settings.specs.Settings.{AreSettings};
+ghost use Rattle.udp_server.specs.Plans.{IsPlan};
 ghost use Rattle.udp_server.specs.Served.{IsServed};
 
 use crate::notices::{tell_cause, tell_place, tell_zone, warn_of, warn_of_faults};
@@ -16,6 +17,7 @@ use commands::{ReadInput, are_new, pools_of, read_input};
 use log::Log;
 use pools::{Pool, PoolSet};
 use ras_core::{Config, NewFault, Zone};
+use ras_module::Address;
 use script::Output;
 use settings::Settings;
 use status_page::About;
@@ -27,7 +29,7 @@ use std::rt::Clock;
 use std::sync::Wait;
 use std::thread::Threads;
 use udp_server::Report;
-use udp_socket::{Stop, bind_zone};
+use udp_socket::{BoundSocket, Stop, bind_zone};
 
 /// The zone that is set, with these pools, before its first event.
 fn zone_of<P: Pool>(alloc: Global, config: Config, pools: Vec<P>) -> Result<Zone<P>, RunningFault>
@@ -42,6 +44,40 @@ fn zone_of<P: Pool>(alloc: Global, config: Config, pools: Vec<P>) -> Result<Zone
         Err((_, NewFault::WrongPools)) => Err(RunningFault::WrongPools),
         Err((_, NewFault::Memory)) => Err(RunningFault::Memory),
     }
+}
+
+/// Serves a zone over a socket, and its status page if that has an address.
+fn serve_with_page<
+    P: Pool + Send,
+    R: Threads
+        + Wait
+        + Clock
+        + Net<Listener = TcpListener, Stream = TcpStream>
+        + RandomSource
+        + AllocGlobal
+        + Log
+        + Sync,
+    S: Stop + Sync,
+>(
+    rt: &R,
+    alloc: Global,
+    zone: Zone<P>,
+    socket: &BoundSocket,
+    service: Service,
+    stop: &S,
+    page: Option<Address>,
+    about: &About,
+) -> Result<Report<P>, RunningFault>
+    requires receivers { service.receivers ≤ 15 }
+    requires plan { IsPlan service.plan }
+    ensures served { IfOk result (λ r. IsServed zone.state r.finished r.datagrams r.turns
+        r.changes) }
+{
+    let listener = bind_page(rt, page)?;
+    ask_for_buffer(rt, socket, service.buffer);
+    tell_zone(rt, &about.name, about.address, service.receivers);
+    let watcher = watcher_of(rt, listener.as_ref(), about);
+    serve_socket(rt, alloc, zone, socket, service, stop, watcher)
 }
 
 /// Serves the zone that is set with the pools that were made for it, once it is seen that they are
@@ -87,12 +123,17 @@ fn serve_pools<
             return Err(RunningFault::Bind(fault));
         }
     };
-    let page = bind_page(rt, status)?;
     let about = About { name, address };
-    ask_for_buffer(rt, &socket, service.buffer);
-    tell_zone(rt, &name, address, service.receivers);
-    let watcher = watcher_of(rt, page.as_ref(), &about);
-    let report = serve_socket(rt, alloc, zone, &socket, service, ending.stop, watcher)?;
+    let report = serve_with_page(
+        rt,
+        alloc,
+        zone,
+        &socket,
+        service,
+        ending.stop,
+        status,
+        &about,
+    )?;
     warn_of_faults(rt, &report);
     Ok(report)
 }
