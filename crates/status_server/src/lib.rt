@@ -1,7 +1,7 @@
 //! A server of the status pages of a running zone over HTTP, for a thread of its own. It answers
 //! reads and nothing else.
 //!
-//! proved: that it is safe, and waits for nothing but its connections
+//! proved: that it is safe
 //! tested: the built program
 #![tactic(auto)]
 
