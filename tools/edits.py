@@ -4,6 +4,7 @@ A file has lines 'file: PATH' and, behind each, pairs 'old: TEXT' and 'new: TEXT
 reads them. PATH is named from the folder of the crate. Each old text stands once in its file.
 """
 
+import functools
 import glob
 import os
 import re
@@ -73,8 +74,23 @@ def around(folder, file, old):
         words = head.strip().split(" for ")
         kind = words[-1].split()[0].split("::")[-1]
         trait = words[0].split("::")[-1] if len(words) > 1 else ""
+    return module_of(file), kind, trait, name[-1]
+
+
+def module_of(file):
+    """Returns the module of a file below src, as in `a::b`; none for the root."""
     module = file[len("src/") : -len(".rt")].removesuffix("/mod").replace("/", "::")
-    return "" if module in ("lib", "main") else module, kind, trait, name[-1]
+    return "" if module in ("lib", "main") else module
+
+
+@functools.cache
+def home_of(kind, folder):
+    """Returns the module in which the crate at this folder declares a type, or None."""
+    declared = re.compile(rf"(?m)^(?:pub(?:\([a-z ]+\))? )?(?:struct|enum) {kind}\b")
+    for path in sorted(glob.glob(f"{folder}/src/**/*.rt", recursive=True)):
+        if declared.search(read(path)):
+            return module_of(os.path.relpath(path, folder))
+    return None
 
 
 def edits_of(names, folder):

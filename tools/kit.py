@@ -4,8 +4,9 @@ Rattle's command rt is made of a module that no page describes. It knows the cra
 what each stands on, and how the prover is called for one. A new toolchain may change it: then this
 file is the one to mend.
 
-  kit.py lib NAME [--jobs N]   builds the library of this crate, over those below it, which have to
-                               stand; whoever calls this keeps others out (build-program does)
+  kit.py build NAME [--jobs N]   proves and builds the library or the program of this crate, over
+                                 the libraries below it, which have to stand; whoever calls this
+                                 keeps others out (build-program does)
 """
 
 import functools
@@ -66,12 +67,22 @@ def build_below(above):
     return next((it.name for it in below if it.build_rlib(["--jobs", "2"], anew=False)), None)
 
 
-def build_library(name, jobs):
-    """Builds the library of a crate whose libraries below stand. Returns rt's status."""
+def build(name, jobs):
+    """Builds the library or the program of a crate whose libraries below stand. Returns rt's status.
+
+    If rt check kept nothing of what it proved, neither does this: over a folder that keeps it, the
+    prover parts a large crate into many checks, each of which loads all that stands below.
+    """
+    tool = toolchain()
     for crate in crates():
         if crate.name == name:
             os.chdir(crate.folder)
-            return crate.build_rlib(["--jobs", str(jobs)], anew=False)
+            if not crate.has_kept():
+                tool.KEPT, tool.libraries_keep = [], lambda: False
+            flags, crate.held = ["--jobs", str(jobs)], []
+            if crate.is_program:
+                return crate.build_and_run(flags, ["--version"], False)
+            return crate.build_rlib(flags, anew=False)
     sys.exit(f"kit.py: there is no crate {name}")
 
 
@@ -96,10 +107,10 @@ def check(crate, folder, kept, only=()):
 
 
 def main(words):
-    if len(words) in (2, 4) and words[0] == "lib" and words[2:3] in ([], ["--jobs"]):
+    if len(words) in (2, 4) and words[0] == "build" and words[2:3] in ([], ["--jobs"]):
         jobs = words[3] if len(words) == 4 else "1"
         if jobs.isdigit() and int(jobs):
-            return build_library(words[1], int(jobs))
+            return build(words[1], int(jobs))
     if words in (["--help"], ["-h"]):
         print(__doc__)
         return 0

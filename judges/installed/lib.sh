@@ -31,6 +31,17 @@ answer() {
   exec 3>&-
 }
 
+# answer_soon: what answers the first discovery that is answered, within ten seconds
+answer_soon() {
+  local got
+  for _ in $(seq 20); do
+    got=$(answer)
+    [ -z "$got" ] || break
+    sleep 0.5
+  done
+  echo "$got"
+}
+
 # counts: what passed and what failed; whether nothing failed
 counts() {
   echo "$passed passed, $failed failed"

@@ -1,12 +1,11 @@
 -- The stored aliases, and the finite map that they make.
-use Rattle.std.proofs.Common.{◌≡◌, ◌≢◌, ℕ, Bool, List, true, false, sym, ◌∙◌, ap, subst}
+use Rattle.std.proofs.Common.{◌≡◌, ◌≢◌, ℕ, List, sym, ◌∙◌, ap, subst}
 use Rattle.std.proofs.Common.{Some, None}
 use Rattle.std.specs.Prelude.{filter, not, nat_eq}
 use Rattle.std.specs.Cmp.Lexicographic.{pointwise}
 use Rattle.std.specs.Option.{IsSomeAnd}
 use Rattle.std.specs.HashMap as hash
 use Rattle.std.specs.FinMap as fin
-use Rattle.std.proofs.lemmas.Bool.{not-false}
 use Rattle.indexmap.specs.IndexMap.{IndexMap}
 use Rattle.keyed.specs.Places.{row_in, AreApart}
 use Rattle.keyed.proofs.Entries.{value_of, entries_again, get_entries}
@@ -14,7 +13,7 @@ use Rattle.keyed.proofs.Entries.{AreApart-entries, entries_insert, entries_remov
 use Rattle.keyed.proofs.Rows.{map_retained}
 use Rattle.ras_module.specs.declared.alias.Alias.{Alias}
 use Rattle.ras_module.specs.Aliases.{same_alias}
-use Rattle.ras_module.specs.Same.{alias_decides, texts_decide}
+use Rattle.ras_module.specs.Same.{alias_decides}
 use Rattle.ras_module.proofs.AliasOrder.{alias_cmp_total, alias_cmp-IsAntisymmetric}
 use Rattle.aliases.specs.Held.{Held, HeldAliases, Holding, IsHeldByAnother}
 use Rattle.aliases.specs.Held.{without_holder}
@@ -68,13 +67,3 @@ pub not_by_another : (held : Held) (alias : Alias) (id : List ℕ) (h : Holding)
 not_by_another held alias id h is same other =
     (let differ : h.holder ≢ id = subst (λ w. IsSomeAnd w (λ h. h.holder ≢ id)) is other in
     differ same)
-
-opened : (b : Bool) → not b ≡ true → b ≡ true → ⊥
-opened true h e = cc h
-opened false h e = cc e
-
-pub other_holder : (a b : List ℕ) → not (pointwise nat_eq a b) ≡ true → a ≢ b
-other_holder a b h e = opened (pointwise nat_eq a b) h ((texts_decide a b).1 e)
-
-pub same_holder : (a b : List ℕ) → not (pointwise nat_eq a b) ≡ false → a ≡ b
-same_holder a b h = (texts_decide a b).0 (not-false (pointwise nat_eq a b) h)

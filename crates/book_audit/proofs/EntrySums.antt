@@ -103,12 +103,6 @@ pub record IsSoFar (all : List ChapterValue) (totals : Totals) (rest : List Chap
       ≡ length (entries_of all)
   pub units : totals.lent ≤ 2 ^ 64 * (totals.datagrams + totals.turns + totals.changes)
 
-pub none_so_far : (all : List ChapterValue) (totals : Totals) → totals ≡ no_totals
-    → IsSoFar all totals all
-none_so_far all totals is =
-    subst (λ (t : Totals). IsSoFar all t all) (sym is)
-    (record { sums = refl; steps = omega arith; units = omega arith })
-
 module _ (all : List ChapterValue) (totals : Totals) (i : ℕ) where
   module _ (chapter : ChapterValue) (below : i < length all) (is : chapter ≡ get_or all i chapter)
       (so_far : IsSoFar all totals (drop i all)) where
@@ -139,7 +133,3 @@ module _ (all : List ChapterValue) (totals : Totals) (i : ℕ) where
 
   pub at_end : length all ≤ i → IsSoFar all totals (drop i all) → IsSoFar all totals []
   at_end past so_far = subst (IsSoFar all totals) (drop_of_length-le all past) so_far
-
-pub sums_at_end : (all : List ChapterValue) (totals : Totals) → IsSoFar all totals []
-    → totals ≡ totals_with no_totals (entries_of all) 0
-sums_at_end all totals so_far = sym (with_nothing totals) ∙ so_far.sums

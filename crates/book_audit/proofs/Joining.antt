@@ -40,19 +40,6 @@ lead_on chapters finished start base first true is_start is_base is_first runs l
 lead_on chapters finished start base first false is_start is_base is_first runs leads is =
     absurd (cc is)
 
--- if they don't lead there, the history isn't joined
-pub not_joined : (chapters : List ChapterValue) (finished : FinishedValue) (start base : State)
-    (first : ℕ) (b : Bool) → start ≡ beginning chapters finished → base ≡ finished.base
-    → first ≡ finished.first → (IsTrue b ↔ ChaptersLead 0 start chapters first base) → b ≡ false
-    → IsJoined chapters finished → ⊥
-not_joined chapters finished start base first b is_start is_base is_first leads is joined =
-    let here : ChaptersLead 0 start chapters first base =
-    subst (λ (n : ℕ). ChaptersLead 0 start chapters n base) (sym is_first)
-    (subst (λ (s : State). ChaptersLead 0 s chapters finished.first base) (sym is_start)
-    (subst (λ (s : State). ChaptersLead 0 (beginning chapters finished) chapters finished.first s)
-    (sym is_base) joined.lead)) in
-    absurd (cc (sym (leads.1 here) ∙ is))
-
 module _ {chapters : List ChapterValue} {finished : FinishedValue} {start base : State}
     (l : LeadOn chapters finished start base) where
   lead : ChaptersLead 0 (beginning chapters finished) chapters finished.first finished.base

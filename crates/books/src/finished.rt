@@ -126,18 +126,4 @@ impl<P: Pool> Finished<P> {
     {
         self.carried
     }
-
-    /// The zone, without its history.
-    pub fn into_zone(self) -> Zone<P>
-        ensures { result ≡ self.zone }
-    {
-        let Finished {
-            zone,
-            base: _,
-            entries: _,
-            first: _,
-            carried: _,
-        } = self;
-        zone
-    }
 }

@@ -130,25 +130,25 @@ fn requests(alloc: Global) -> Result<[Request; 7], Fail> {
     Ok([grq, rrq, urq, arq, brq, drq, irr])
 }
 
-/// Whether the copy of each request equals the request, and no other.
-fn are_requests_told_apart(all: &[Request]) -> Result<bool, AllocError> {
+/// Compares the copy of each request with the request, which it equals, and with all others.
+fn tell_requests_apart(all: &[Request]) -> Result<(), Fail> {
     for (i, one) in all.iter().enumerate() {
         for (k, other) in all.iter().enumerate() {
-            if (one.copy()? == *other) != (i == k) {
-                return Ok(false);
+            let is_same = one.copy()? == *other;
+            if is_same != (i == k) {
+                return Err(Fail::new(format_args!("copy {i} against request {k}")));
             }
         }
     }
-    Ok(true)
+    Ok(())
 }
 
 #[test]
 fn a_request_equals_its_copy_and_no_other(rt: HostRuntime) -> Result<(), Fail> {
     let all = requests(rt.alloc())?;
-    let are_told_apart = are_requests_told_apart(&all);
+    let ended = tell_requests_apart(&all);
     drop(all);
-    assert!(rt; are_told_apart?);
-    Ok(())
+    ended
 }
 
 fn gatekeeper_confirm() -> GatekeeperConfirm {
@@ -198,26 +198,27 @@ fn replies(alloc: Global) -> Result<[Reply; 5], Fail> {
     ])
 }
 
-/// Whether the copy of each reply equals the reply, and no other.
-fn are_replies_told_apart(all: &[Reply]) -> Result<bool, AllocError> {
+/// Compares the copy of each reply with the reply, which it equals, and with all others.
+fn tell_replies_apart(all: &[Reply]) -> Result<(), Fail> {
     for (i, one) in all.iter().enumerate() {
         for (k, other) in all.iter().enumerate() {
-            if (one.copy()? == *other) != (i == k) {
-                return Ok(false);
+            let is_same = one.copy()? == *other;
+            if is_same != (i == k) {
+                return Err(Fail::new(format_args!("copy {i} against reply {k}")));
             }
         }
     }
-    Ok(true)
+    Ok(())
 }
 
 #[test]
 fn a_reply_equals_its_copy_and_no_other(rt: HostRuntime) -> Result<(), Fail> {
     let all = replies(rt.alloc())?;
-    let are_told_apart = are_replies_told_apart(&all);
+    let told_apart = tell_replies_apart(&all);
     let are_short = all.iter().all(|reply| reply.room() <= 20_000);
     drop(all);
-    assert!(rt; are_told_apart?);
-    assert!(rt; are_short);
+    told_apart?;
+    assert!(rt; are_short, "each reply has room in 20,000 octets");
     Ok(())
 }
 

@@ -1,22 +1,34 @@
 //! The command line.
 
+use crate::asking::{explain_command, probe_command, probe_of, tell_no_address};
+use crate::auditing::audit_command;
 use clap::error::ErrorKind;
 use clap::{Arg, ArgMatches, Command, Error, value_parser};
+use probing::Probe;
 use std::alloc::{AllocError, Global};
 
-/// What the words of the command line ask for.
+/// What the words of the command line ask for. Settings are those of the file with this name, or on
+/// standard input.
 #[derive(Clone, Copy)]
-pub enum Choice {
+pub enum Choice<'a> {
     /// A replay of the script on standard input.
     Replay,
-    /// A check of the settings on standard input.
-    CheckSettings,
-    /// Serving with the settings on standard input. If a number is given, each thread receives that
-    /// often.
-    Serve(Option<u64>),
+    /// A check of settings.
+    CheckSettings(Option<&'a str>),
+    /// Serving with settings. If a number is given, each thread receives that often.
+    Serve(Option<&'a str>, Option<u64>),
+    /// Asking a gatekeeper whether it is there.
+    Probe(Probe),
+    /// Telling what the datagrams on standard input are.
+    Explain,
+    /// An audit of the record in the file with this name, or on standard input.
+    Audit(Option<&'a str>),
     /// Nothing more: help or a fault in the words was printed, and this is the exit status.
     Done(u8),
 }
+
+/// The file of settings, or of a record.
+pub(crate) const FILE: &str = "FILE";
 
 /// The option of `serve` that limits how often a thread receives, and how often at most.
 const RECEIVES: &str = "receives";
@@ -116,12 +128,12 @@ place, or has a number out of its range.";
 const CHECK_ABOUT: &str = "Checks settings, and prints them or what is wrong with them";
 
 const CHECK_LONG_ABOUT: &str = "\
-Reads settings on standard input, as `serve` reads them: a TOML document of the tables [zone],
+Reads settings, as `serve` reads them: a TOML document of the tables [zone],
 [serve] and [[pool]]. If they can be used as they stand, each key is printed with its value,
 and whether that is its default. A key that isn't known is passed over, with a warning on
 standard error that tells its line and the known key that it most resembles.
 examples/gatekeeper.toml has every key, with its meaning, its range and its default:
-  gatekeeper check-settings < examples/gatekeeper.toml";
+  gatekeeper check-settings examples/gatekeeper.toml";
 
 const CHECK_HELP: &str = "\
 Settings are UTF-8, of at most 1,048,576 octets. They are refused as a whole, with a last line on
@@ -133,15 +145,16 @@ the line, the column and the reason), or by the first key that fails:
   settings: 5 NoDefaultPool    there is no pool, or the last one has a network
 
 Exit status: 0 well-formed, with warnings or without, 1 the settings were refused, 2 wrong words on
-the command line, 3 out of memory, 4 a standard stream failed.";
+the command line, 3 out of memory, 4 the file can't be read (behind a line of the log with the
+cause), or a standard stream failed.";
 
 const SERVE_ABOUT: &str = "Serves a zone over UDP";
 
 const SERVE_LONG_ABOUT: &str = "\
-Reads settings on standard input, binds the zone's address and answers the datagrams that
+Reads settings, binds the zone's address and answers the datagrams that
 arrive there, until it is asked to end. A line on standard error tells that it serves.
 docs/OPERATING.md leads from the settings to a first call:
-  gatekeeper serve < examples/gatekeeper.toml";
+  gatekeeper serve examples/gatekeeper.toml";
 
 const SERVE_HELP: &str = "\
 Settings are UTF-8, of at most 1,048,576 octets. They are refused as a whole, with a last line on
@@ -163,8 +176,8 @@ were dropped, since too many of them waited; how many steps were refused for wan
 and how many receives and sends failed.
 
 Exit status: 0 done, 1 the settings were refused, 2 wrong words on the command line, 3 out of
-memory, 4 an address can't be bound (`bind failed`, behind a line of the log with the cause), or a
-standard stream failed.";
+memory, 4 an address can't be bound (`bind failed`), the file can't be read (each behind a line of
+the log with the cause), or a standard stream failed.";
 
 fn replay_command<'a>(alloc: Global) -> Command<'a> {
     Command::new(alloc, "replay")
@@ -173,11 +186,16 @@ fn replay_command<'a>(alloc: Global) -> Command<'a> {
         .after_help(REPLAY_HELP)
 }
 
-fn check_command<'a>(alloc: Global) -> Command<'a> {
+fn file<'a>(alloc: Global) -> Arg<'a> {
+    Arg::new(alloc, FILE).help("the settings; none or `-`: those on standard input")
+}
+
+fn check_command<'a>(alloc: Global) -> Result<Command<'a>, AllocError> {
     Command::new(alloc, "check-settings")
         .about(CHECK_ABOUT)
         .long_about(CHECK_LONG_ABOUT)
         .after_help(CHECK_HELP)
+        .arg(file(alloc))
 }
 
 fn serve_command<'a>(alloc: Global) -> Result<Command<'a>, AllocError> {
@@ -190,7 +208,8 @@ fn serve_command<'a>(alloc: Global) -> Result<Command<'a>, AllocError> {
         .about(SERVE_ABOUT)
         .long_about(SERVE_LONG_ABOUT)
         .after_help(SERVE_HELP)
-        .arg(receives)
+        .arg(receives)?
+        .arg(file(alloc))
 }
 
 fn matched<'a>(alloc: Global, words: &'a [String]) -> Result<ArgMatches<'a>, Error> {
@@ -200,29 +219,49 @@ fn matched<'a>(alloc: Global, words: &'a [String]) -> Result<ArgMatches<'a>, Err
         .after_help("`gatekeeper replay --help` shows what a script looks like.")
         .subcommand_required(true)
         .subcommand(replay_command(alloc))?
-        .subcommand(check_command(alloc))?
-        .subcommand(serve_command(alloc)?)?;
+        .subcommand(check_command(alloc)?)?
+        .subcommand(serve_command(alloc)?)?
+        .subcommand(probe_command(alloc)?)?
+        .subcommand(explain_command(alloc))?
+        .subcommand(audit_command(alloc)?)?;
     command.try_get_matches_from(words)
 }
 
-/// What was chosen.
-fn choice_of(matches: &ArgMatches<'_>) -> Choice {
+/// The file that is named; None, also for `-`, is standard input.
+fn file_of<'a>(found: &ArgMatches<'a>) -> Option<&'a str> {
+    match found.get_str(FILE) {
+        Some("-") | None => None,
+        Some(name) => Some(name),
+    }
+}
+
+/// What was chosen. A word that is no address is told.
+fn choice_of<'a, R: Eprint>(rt: &R, matches: &ArgMatches<'a>) -> Choice<'a> {
     match matches.subcommand() {
-        Some(("check-settings", _)) => Choice::CheckSettings,
-        Some(("serve", found)) => Choice::Serve(found.get_one::<u64>(RECEIVES)),
+        Some(("check-settings", found)) => Choice::CheckSettings(file_of(found)),
+        Some(("serve", found)) => { Choice::Serve(file_of(found), found.get_one::<u64>(RECEIVES)) }
+        Some(("probe", found)) => match probe_of(found) {
+            Ok(probe) => Choice::Probe(probe),
+            Err(word) => {
+                tell_no_address(rt, word);
+                Choice::Done(2)
+            }
+        },
+        Some(("explain", _)) => Choice::Explain,
+        Some(("audit", found)) => Choice::Audit(file_of(found)),
         _ => Choice::Replay,
     }
 }
 
 /// Reads the words of the command line. If they ask for help or can't be followed, `clap`'s text is
 /// printed.
-pub fn chosen<R: Print + Eprint>(
+pub fn chosen<'a, R: Print + Eprint>(
     rt: &R,
     alloc: Global,
-    words: &[String],
-) -> Result<Choice, AllocError> {
+    words: &'a [String],
+) -> Result<Choice<'a>, AllocError> {
     match matched(alloc, words) {
-        Ok(matches) => Ok(choice_of(&matches)),
+        Ok(matches) => Ok(choice_of(rt, &matches)),
         Err(error) => {
             if matches!(error.kind(), ErrorKind::OutOfMemory) {
                 return Err(AllocError);

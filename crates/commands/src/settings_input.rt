@@ -77,7 +77,7 @@ pub struct ReadInput {
 }
 
 /// The octets of an input, to its end. At most one octet past the greatest size is read.
-fn read_octets<R: Read + Drop>(alloc: Global, input: R) -> Result<Vec<u8>, InputFault>
+pub(crate) fn read_octets<R: Read + Drop>(alloc: Global, input: R) -> Result<Vec<u8>, InputFault>
     ensures ok { IfSome (R.remaining input) (λ octets. IfOk result (λ read.
         (read.items ≡ octets) × (length octets ≤ 1048576))) }
     ensures err { IfSome (R.remaining input) (λ octets. IfErr result (IsReadFault octets)) }

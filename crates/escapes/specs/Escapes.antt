@@ -22,6 +22,10 @@ label_piece c =
 abbrev pub hex_digit : ℕ → ℕ
 hex_digit d = cond (nat_lt d 10) (48 + d) (87 + d)
 
+-- whether a character is a control character (Unicode, category Cc)
+abbrev pub is_control : ℕ → Bool
+is_control c = nat_lt c 32 || (nat_lt 126 c && nat_lt c 160)
+
 -- what a character becomes between the quotes of a string in JSON
 abbrev pub json_piece : ℕ → List ℕ
 json_piece c =
@@ -30,7 +34,7 @@ json_piece c =
     (cond (nat_eq c 60) (codes "\\u003c")
     (cond (nat_eq c 0x2028) (codes "\\u2028")
     (cond (nat_eq c 0x2029) (codes "\\u2029")
-    (cond (nat_lt c 32) (92 ∷ 117 ∷ 48 ∷ 48 ∷ hex_digit (c / 16) ∷ hex_digit (c % 16) ∷ [])
+    (cond (is_control c) (92 ∷ 117 ∷ 48 ∷ 48 ∷ hex_digit (c / 16) ∷ hex_digit (c % 16) ∷ [])
     (c ∷ []))))))
 
 -- whether a character can't stand in a text of HTML, nor between quotes there
@@ -63,7 +67,7 @@ abbrev pub ends_json : ℕ → Bool
 ends_json c = nat_eq c 92 || nat_eq c 34 || nat_eq c 117
 
 abbrev pub is_json_mark : ℕ → Bool
-is_json_mark c = nat_eq c 34 || nat_eq c 60 || nat_eq c 0x2028 || nat_eq c 0x2029 || nat_lt c 32
+is_json_mark c = nat_eq c 34 || nat_eq c 60 || nat_eq c 0x2028 || nat_eq c 0x2029 || is_control c
 
 abbrev pub is_json_text : List ℕ → Bool
 is_json_text cs = are_escaped ends_json is_json_mark false cs

@@ -46,7 +46,7 @@ pub(crate) fn push_json(out: &mut String, c: char) -> Result<(), AllocError>
         '<' => out.push_str("\\u003c"),
         '\u{2028}' => out.push_str("\\u2028"),
         '\u{2029}' => out.push_str("\\u2029"),
-        '\0'..='\x1f' => {
+        '\0'..='\x1f' | '\x7f'..='\u{9f}' => {
             let code = c as u8;
             out.push_str("\\u00")?;
             out.push(hex_digit(code / 16))?;

@@ -32,8 +32,9 @@ pub fn html(out: &mut String, units: &[u16]) -> Result<(), AllocError>
     Ok(())
 }
 
-/// Writes a text in UTF-16 as text between the quotes of a string in JSON: `"`, `\`, `<`, what
-/// lies below U+0020, U+2028 and U+2029 are escaped, and half of a surrogate pair becomes U+FFFD.
+/// Writes a text in UTF-16 as text between the quotes of a string in JSON: `"`, `\`, `<`, control
+/// characters, U+2028 and U+2029 are escaped, and half of a surrogate pair becomes U+FFFD. So it
+/// does no harm on a terminal either.
 pub fn json_string(out: &mut String, units: &[u16]) -> Result<(), AllocError>
     ensures text { OnOk result (string_bytes out.new ≡ string_bytes out.old
         ++ encode_utf8_all (flat_map json_piece (utf16_lossy_chars units.now))) }

@@ -9,6 +9,8 @@ ghost use Rattle.std.specs.Prelude.{◌≡◌};
 ghost use Rattle.commands.specs.Inputs.{input_status};
 ghost use Rattle.commands.specs.Replays.{status_of};
 
+mod asking;
+mod auditing;
 mod elapsed;
 mod notices;
 mod over_socket;
@@ -17,20 +19,24 @@ mod report;
 mod serve;
 mod service;
 mod serving_fault;
+mod source;
 mod stop_signal;
 mod stopwatch;
 
+use asking::{explain_input, probe_gatekeeper};
+use auditing::audit_source;
 use commands::{Choice, InputFault, ReplayFault, check_settings, chosen, replay};
 use log::Log;
 use notices::tell_place;
 use script::Output;
 use serve::serve;
+use source::{SETTINGS, Source, open_file};
 use std::alloc::{AllocError, AllocGlobal, Global};
-use std::io::BufWriter;
+use std::io::{BufWriter, Read};
 use std::net::{Net, TcpListener, TcpStream};
 use std::process::ExitCode;
 use std::random::RandomSource;
-use std::rt::{Clock, Env};
+use std::rt::{Clock, Env, Files};
 use std::sync::Wait;
 use std::thread::Threads;
 use std::{env, io};
@@ -39,6 +45,9 @@ use udp_socket::Stop;
 
 /// The exit status if there is no memory.
 const NO_MEMORY: u8 = 3;
+
+/// The exit status if a file or a stream can't be read.
+const STREAM_FAILED: u8 = 4;
 
 fn main(rt: HostRuntime) -> ExitCode {
     let alloc = rt.alloc();
@@ -61,6 +70,7 @@ fn words<R: Env + AllocGlobal>(rt: &R, alloc: Global) -> Result<Vec<String>, All
 
 fn run<
     R: Input
+        + Files
         + Print
         + Eprint
         + Threads
@@ -75,8 +85,11 @@ fn run<
 >(rt: &R, alloc: Global, stop: &S, words: &[String]) -> u8 {
     match chosen(rt, alloc, words) {
         Ok(Choice::Replay) => replay_input(rt, alloc),
-        Ok(Choice::CheckSettings) => check_input(rt, alloc),
-        Ok(Choice::Serve(receives)) => serve_input(rt, alloc, receives, stop),
+        Ok(Choice::CheckSettings(file)) => check_source(rt, alloc, file),
+        Ok(Choice::Serve(file, receives)) => serve_source(rt, alloc, file, receives, stop),
+        Ok(Choice::Probe(probe)) => probe_gatekeeper(rt, alloc, probe),
+        Ok(Choice::Explain) => explain_input(rt, alloc),
+        Ok(Choice::Audit(file)) => audit_source(rt, alloc, file),
         Ok(Choice::Done(status)) => status,
         Err(AllocError) => out_of_memory(rt),
     }
@@ -110,36 +123,65 @@ fn refuse(rt: &impl Eprint, fault: &ReplayFault) -> u8
     fault.status()
 }
 
-/// Checks the settings on standard input, and prints them, with a warning for each key that is
-/// passed over.
-fn check_input<R: Input + Print + Eprint + Log>(rt: &R, alloc: Global) -> u8 {
+/// Tells that a file or a stream can't be read.
+fn stream_failed(rt: &impl Eprint) -> u8
+    ensures { result ≡ 4 }
+{
+    let _ = rt.eprintln("stream failed");
+    STREAM_FAILED
+}
+
+/// Checks the settings of a file, or those on standard input.
+fn check_source<R: Input + Files + Print + Eprint + Log>(
+    rt: &R,
+    alloc: Global,
+    file: Option<&str>,
+) -> u8 {
+    let source = Source { file };
+    let Some(name) = file else {
+        return check_input(rt, alloc, rt.reader(), source);
+    };
+    match open_file(rt, SETTINGS, name) {
+        Some(input) => check_input(rt, alloc, input, source),
+        None => stream_failed(rt),
+    }
+}
+
+/// Checks settings, and prints them, with a warning for each key that is passed over.
+fn check_input<R: Print + Eprint + Log, I: Read + Drop>(
+    rt: &R,
+    alloc: Global,
+    input: I,
+    source: Source<'_>,
+) -> u8 {
     let Ok(buffer) = BufWriter::new(alloc, io::writer(rt)) else {
         return out_of_memory(rt);
     };
     let mut out = Output::new(buffer);
-    match check_settings(alloc, rt.reader(), &mut out) {
+    match check_settings(alloc, input, &mut out) {
         Ok(passed_over) => {
             for key in &passed_over {
-                let _ = eprintln!(rt; "warning: {key}");
+                let _ = eprintln!(rt; "warning: {source}{key}");
             }
             0
         }
-        Err(fault) => refuse_settings(rt, &fault),
+        Err(fault) => refuse_settings(rt, source, &fault),
     }
 }
 
 /// Tells in one line on standard error why settings aren't read, behind what the log tells of it.
-fn refuse_settings<R: Eprint + Log>(rt: &R, fault: &InputFault) -> u8
+fn refuse_settings<R: Eprint + Log>(rt: &R, source: Source<'_>, fault: &InputFault) -> u8
     ensures { result ≡ input_status fault.now }
 {
-    tell_place(rt, fault);
+    tell_place(rt, source, fault);
     let _ = eprintln!(rt; "{fault}");
     fault.status()
 }
 
-/// Serves with the settings on standard input.
-fn serve_input<
+/// Serves with the settings of a file, or with those on standard input.
+fn serve_source<
     R: Input
+        + Files
         + Print
         + Eprint
         + Threads
@@ -151,12 +193,37 @@ fn serve_input<
         + Log
         + Sync,
     S: Stop + Sync,
->(rt: &R, alloc: Global, receives: Option<u64>, stop: &S) -> u8 {
+>(rt: &R, alloc: Global, file: Option<&str>, receives: Option<u64>, stop: &S) -> u8 {
+    let source = Source { file };
+    let Some(name) = file else {
+        return serve_input(rt, alloc, rt.reader(), source, receives, stop);
+    };
+    match open_file(rt, SETTINGS, name) {
+        Some(input) => serve_input(rt, alloc, input, source, receives, stop),
+        None => stream_failed(rt),
+    }
+}
+
+/// Serves with the settings of an input.
+fn serve_input<
+    R: Print
+        + Eprint
+        + Threads
+        + Wait
+        + Clock
+        + Net<Listener = TcpListener, Stream = TcpStream>
+        + RandomSource
+        + AllocGlobal
+        + Log
+        + Sync,
+    S: Stop + Sync,
+    I: Read + Drop,
+>(rt: &R, alloc: Global, input: I, source: Source<'_>, receives: Option<u64>, stop: &S) -> u8 {
     let Ok(buffer) = BufWriter::new(alloc, io::writer(rt)) else {
         return out_of_memory(rt);
     };
     let mut out = Output::new(buffer);
-    match serve(rt, alloc, rt.reader(), receives, stop, &mut out) {
+    match serve(rt, alloc, input, source, receives, stop, &mut out) {
         Ok(()) => 0,
         Err(fault) => {
             let _ = eprintln!(rt; "{fault}");

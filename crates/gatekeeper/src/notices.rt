@@ -1,6 +1,7 @@
 //! What the server tells by its log.
 
 use crate::report::has_faults;
+use crate::source::{SETTINGS, Source};
 use commands::{InputFault, PassedOver};
 use log::{Log, error, info, warn};
 use pools::Pool;
@@ -24,19 +25,31 @@ impl fmt::Display for Shown<'_> {
 }
 
 /// Warns of the keys that are passed over.
-pub fn warn_of<R: Log>(rt: &R, passed_over: &[PassedOver]) {
+pub fn warn_of<R: Log>(rt: &R, source: Source<'_>, passed_over: &[PassedOver]) {
     for key in passed_over {
-        warn!(rt; target: "settings", "{key}");
+        warn!(rt; target: SETTINGS, "{source}{key}");
     }
 }
 
-/// Tells where settings aren't read, and why, if they are no text or no TOML document. Any other
-/// fault is told in full by the line that ends the program.
-pub fn tell_place<R: Log>(rt: &R, fault: &InputFault) {
+/// Tells why a file can't be read, under the name of what is read.
+pub fn tell_unreadable<R: Log>(rt: &R, target: &str, name: &str, cause: &str) {
+    error!(rt; target: target, "{name} can't be read: {cause}");
+}
+
+/// Tells where settings aren't read, and why, if they are no text or no TOML document, or if a read
+/// of a file failed. Any other fault is told in full by the line that ends the program.
+pub fn tell_place<R: Log>(rt: &R, source: Source<'_>, fault: &InputFault) {
     match fault {
-        InputFault::NotText(line) => error!(rt; target: "settings", "line {line}: no UTF-8"),
+        InputFault::NotText(line) => {
+            error!(rt; target: SETTINGS, "{source}line {line}: no UTF-8");
+        }
         InputFault::Refused(SettingsFault::Syntax(place)) => {
-            error!(rt; target: "settings", "{place}");
+            error!(rt; target: SETTINGS, "{source}{place}");
+        }
+        InputFault::Stream => {
+            if let Some(name) = source.file {
+                tell_unreadable(rt, SETTINGS, name, "a read of it failed");
+            }
         }
         _ => {}
     }

@@ -13,6 +13,7 @@ use crate::page_server::{bind_page, watcher_of};
 use crate::report::print_report;
 use crate::service::{Ending, Service};
 use crate::serving_fault::{RunningFault, ServingFault};
+use crate::source::Source;
 use commands::{ReadInput, are_new, pools_of, read_input};
 use log::Log;
 use pools::{Pool, PoolSet};
@@ -211,7 +212,7 @@ fn serve_settings<
     serve_and_print(rt, alloc, settings, boxes, ending, out)
 }
 
-/// Reads settings, and serves their zone. Each receiving thread stops after this many receives, if
+/// Reads settings from this source, and serves their zone. Each receiving thread stops after this many receives, if
 /// a number is given, and once it is told to. Then the report is printed. If there is none, nothing
 /// is written, and the log tells what a person has to know besides the fault.
 ///
@@ -233,6 +234,7 @@ pub fn serve<
     rt: &R,
     alloc: Global,
     input: I,
+    source: Source<'_>,
     receives: Option<u64>,
     stop: &S,
     out: &mut Output<W>,
@@ -246,11 +248,11 @@ pub fn serve<
     } = match read_input(alloc, input) {
         Ok(read) => read,
         Err(fault) => {
-            tell_place(rt, &fault);
+            tell_place(rt, source, &fault);
             return Err(ServingFault::Settings(fault));
         }
     };
-    warn_of(rt, &passed_over);
+    warn_of(rt, source, &passed_over);
     let ending = Ending { receives, stop };
     match serve_settings(rt, alloc, settings, ending, out) {
         Ok(()) => Ok(()),

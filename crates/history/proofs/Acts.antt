@@ -252,15 +252,6 @@ told_post x y w m told is posts = subst (λ (a : Acted). Happens x (Post w) a y)
       by_mark Dropped p = p
       by_mark Silent p = p
 
-pub worker_within : (ws : List WorkerState) (w : ℕ) (f : Option WorkerState → Option WorldFault)
-    → f None ≡ Some NoWorker → f (slice_get ws w) ≡ None → w < length ws
-worker_within ws w f refuses free =
-    elim ((slice_get_cases ws w).1) [
-      | inl found ↦ found.1
-      | inr past ↦ absurd (let both : None ≡ Some NoWorker = sym free
-          ∙ (ap f past.1 ∙ refuses) in cc both)
-    ]
-
 abbrev idle_worker : WorkerState
 idle_worker = record { hand = Idle; ring = []; settled = []; taken = 0 }
 

@@ -1,6 +1,7 @@
 //! A world over the zone of the worked examples, and what its workers do.
 
 use book_audit::replays;
+use facts::expect;
 use history::{Acted, World, WorldFault, WorldStep};
 use pools::FixedPool;
 use ras_core::Moment;
@@ -10,103 +11,116 @@ use worked_zone::ENDPOINT;
 pub use worked_zone::zone;
 use zone_events::{Datagram, Event};
 
-/// A world of `workers` workers, with `capacity` places in each ring. If there is no memory, the
-/// zone that comes back is taken once more.
-pub fn world(alloc: Global, workers: usize, capacity: usize) -> Option<World<FixedPool>> {
-    match World::new(alloc, zone(alloc)?, workers, capacity) {
-        Ok(world) => Some(world),
-        Err((zone, WorldFault::Memory)) => match World::new(alloc, zone, workers, capacity) {
-            Ok(world) => Some(world),
-            Err(_) => None,
-        },
-        Err(_) => None,
+/// The fact that doesn't hold, if there is one.
+pub type Looked = Result<(), &'static str>;
+
+/// The fact without which nothing is tried.
+pub const MEMORY: &str = "there is memory";
+
+/// A world of this many workers, with this many places in each ring.
+pub fn world(
+    alloc: Global,
+    workers: usize,
+    capacity: usize,
+) -> Result<World<FixedPool>, &'static str> {
+    let zone = zone(alloc).ok_or(MEMORY)?;
+    match World::new(alloc, zone, workers, capacity) {
+        Ok(world) => Ok(world),
+        Err(_) => Err("there is a world"),
     }
 }
 
 /// A datagram with these octets comes from the endpoint.
-pub fn event(alloc: Global, bytes: &[u8], milliseconds: u64) -> Option<Event> {
+pub fn event(alloc: Global, bytes: &[u8], milliseconds: u64) -> Result<Event, &'static str> {
     event_from(alloc, ENDPOINT, bytes, milliseconds)
 }
 
 /// A datagram with these octets comes from this address.
-pub fn event_from(alloc: Global, from: Source, bytes: &[u8], milliseconds: u64) -> Option<Event> {
-    let moment = Moment::new(milliseconds)?;
-    let bytes = Octets::from_vec(bytes.to_vec(alloc).ok()?);
-    Some(Event::Datagram(from, bytes, moment))
+pub fn event_from(
+    alloc: Global,
+    from: Source,
+    bytes: &[u8],
+    milliseconds: u64,
+) -> Result<Event, &'static str> {
+    let moment = Moment::new(milliseconds).ok_or("there is such a moment")?;
+    let Ok(bytes) = bytes.to_vec(alloc) else {
+        return Err(MEMORY);
+    };
+    Ok(Event::Datagram(from, Octets::from_vec(bytes), moment))
 }
 
-pub fn turn(milliseconds: u64) -> Option<Event> {
-    Some(Event::Turn(Moment::new(milliseconds)?))
+/// A turn at this moment.
+pub fn turn(milliseconds: u64) -> Result<Event, &'static str> {
+    Ok(Event::Turn(Moment::new(milliseconds).ok_or("there is such a moment")?))
 }
 
-/// Whether the datagram goes to this address, with these octets.
+/// Whether a datagram goes to this address, with these octets.
 fn has_octets(datagram: &Datagram, to: Source, bytes: &[u8]) -> bool {
     datagram.to == to && datagram.bytes.as_slice() == bytes
 }
 
-/// How many steps the zone made, and how many entries the book has.
-fn figures(world: &World<FixedPool>) -> (u64, usize) {
-    (world.zone().steps(), world.book().entries.len())
-}
-
-/// The zone makes a step for the worker. If there is no memory for it, nothing has changed, and it
-/// is tried once more.
+/// The zone makes a step for the worker.
 pub fn apply(world: &mut World<FixedPool>, w: usize) -> Result<Acted, WorldFault> {
-    let before = figures(world);
-    match world.act(WorldStep::Apply(w)) {
-        Err(WorldFault::Memory) => {
-            if figures(world) == before {
-                world.act(WorldStep::Apply(w))
-            } else {
-                Err(WorldFault::Memory)
-            }
-        }
-        other => other,
-    }
+    world.act(WorldStep::Apply(w))
 }
 
-/// The worker posts what it has. If there is no memory for it, it is tried once more.
-pub fn post(world: &mut World<FixedPool>, w: usize) -> Result<Acted, WorldFault> {
-    match world.act(WorldStep::Post(w)) {
-        Err(WorldFault::Memory) => world.act(WorldStep::Post(w)),
-        other => other,
-    }
-}
-
-/// Whether the worker receives the event. This takes no memory.
-pub fn is_received(world: &mut World<FixedPool>, w: usize, event: Event) -> bool {
+/// The worker receives an event.
+pub fn receive(world: &mut World<FixedPool>, w: usize, event: Event) -> Looked {
     let received = world.act(WorldStep::Receive(w, event));
-    matches!(&received, Ok(Acted::Received))
+    expect(
+        matches!(&received, Ok(Acted::Received)),
+        "a worker receives an event",
+    )
 }
 
-/// Whether the worker receives the event, and the zone makes a step of it.
-pub fn is_applied(world: &mut World<FixedPool>, w: usize, event: Event) -> bool {
-    if !is_received(world, w, event) {
-        return false;
-    }
+/// The zone makes a step for the worker, which holds an event.
+pub fn make_step(world: &mut World<FixedPool>, w: usize) -> Looked {
     let applied = apply(world, w);
-    matches!(&applied, Ok(Acted::Applied(_)))
+    expect(
+        matches!(&applied, Ok(Acted::Applied(_))),
+        "the zone makes a step for a worker that holds an event",
+    )
 }
 
-/// Whether the front of the worker's ring goes to the endpoint, with these octets.
-pub fn is_taken(world: &mut World<FixedPool>, w: usize, bytes: &[u8]) -> bool {
-    is_taken_to(world, w, ENDPOINT, bytes)
+/// The worker receives an event, and the zone makes a step of it.
+pub fn serve(world: &mut World<FixedPool>, w: usize, event: Event) -> Looked {
+    receive(world, w, event)?;
+    make_step(world, w)
 }
 
-/// Whether the front of the worker's ring goes to this address, with these octets. This takes no
-/// memory.
-pub fn is_taken_to(world: &mut World<FixedPool>, w: usize, to: Source, bytes: &[u8]) -> bool {
+/// The worker posts the reply that it holds.
+pub fn post(world: &mut World<FixedPool>, w: usize) -> Looked {
+    let posted = world.act(WorldStep::Post(w));
+    expect(
+        matches!(&posted, Ok(Acted::Posted)),
+        "a reply is posted where its ring has room",
+    )
+}
+
+/// The front of the worker's ring is taken. It goes to the endpoint, with these octets.
+pub fn take(world: &mut World<FixedPool>, w: usize, bytes: &[u8]) -> Looked {
+    take_to(world, w, ENDPOINT, bytes)
+}
+
+/// Takes the front of the worker's ring, and returns whether it goes to this address, with these
+/// octets.
+fn take_front(world: &mut World<FixedPool>, w: usize, to: Source, bytes: &[u8]) -> bool {
     match world.act(WorldStep::Take(w)) {
         Ok(Acted::Took(datagram)) => has_octets(&datagram, to, bytes),
         _ => false,
     }
 }
 
-/// Whether the book of the world leads to its zone. If there is no memory for it, it is tried once
-/// more.
-pub fn is_run(world: &World<FixedPool>) -> bool {
-    match replays(world.book(), world.zone()) {
-        Ok(is_run) => is_run,
-        Err(_) => replays(world.book(), world.zone()).unwrap_or(false),
-    }
+/// The front of the worker's ring is taken. It goes to this address, with these octets.
+pub fn take_to(world: &mut World<FixedPool>, w: usize, to: Source, bytes: &[u8]) -> Looked {
+    expect(
+        take_front(world, w, to, bytes),
+        "the front of a ring is the reply to its endpoint",
+    )
+}
+
+/// The book of the world leads to its zone.
+pub fn find_run(world: &World<FixedPool>) -> Looked {
+    let is_run = replays(world.book(), world.zone()).unwrap_or(false);
+    expect(is_run, "the book leads to the zone")
 }

@@ -1,8 +1,11 @@
 //! What comes of orders in which workers act.
 
-use crate::fixtures::{apply, event, is_applied, is_received, is_run, is_taken, post, turn, world};
+use crate::fixtures::{
+    Looked, apply, event, find_run, make_step, post, receive, serve, take, turn, world,
+};
 use books::Entry;
-use history::{Acted, World};
+use facts::expect;
+use history::{Acted, World, WorldStep};
 use pools::FixedPool;
 use ras_core::Note;
 use std::alloc::Global;
@@ -18,94 +21,87 @@ fn are_first_calls(entries: &[Entry], first: usize, second: usize) -> bool {
     }
 }
 
-/// Whether each of two workers, of which this one is first under the zone's lock and the other one
-/// posts first, has its own reply in its ring.
-fn are_served(alloc: Global, world: &mut World<FixedPool>, first: usize) -> Option<bool> {
+/// Two workers are served, of which this one is first under the zone's lock, and the other one
+/// posts first. Each has its own reply in its ring.
+fn serve_both(alloc: Global, world: &mut World<FixedPool>, first: usize) -> Looked {
     let second = if first == 0 { 1 } else { 0 };
-    let is_received = is_received(world, second, event(alloc, &GRQ_OF_XX, 1)?);
-    let is_first = is_applied(world, first, event(alloc, &GRQ, 0)?);
-    let applied = apply(world, second);
-    let is_second = matches!(&applied, Ok(Acted::Applied(_)));
-    let later = post(world, second);
-    let earlier = post(world, first);
-    Some(
-        is_received
-            && is_first
-            && is_second
-            && matches!(&later, Ok(Acted::Posted))
-            && matches!(&earlier, Ok(Acted::Posted))
-            && is_taken(world, first, &GCF)
-            && is_taken(world, second, &GRJ)
-            && are_first_calls(&world.book().entries, first, second),
+    receive(world, second, event(alloc, &GRQ_OF_XX, 1)?)?;
+    serve(world, first, event(alloc, &GRQ, 0)?)?;
+    make_step(world, second)?;
+    post(world, second)?;
+    post(world, first)?;
+    take(world, first, &GCF)?;
+    take(world, second, &GRJ)?;
+    expect(
+        are_first_calls(&world.book().entries, first, second),
+        "the book has the first step of each worker, in the order of the lock",
     )
 }
 
-/// Whether it is so in a world of its own.
-fn is_in_order(alloc: Global, first: usize) -> Option<bool> {
+/// The same in a world of its own.
+fn serve_in_order(alloc: Global, first: usize) -> Looked {
     let mut world = world(alloc, 2, 4)?;
-    let passed = are_served(alloc, &mut world, first);
+    let served = serve_both(alloc, &mut world, first);
     drop(world);
-    passed
+    served
 }
 
 #[test]
-fn two_workers_are_served_in_either_order(rt: HostRuntime) {
+fn two_workers_are_served_in_either_order(rt: HostRuntime) -> Looked {
     let alloc = rt.alloc();
-    for first in 0..2 {
-        let passed = match is_in_order(alloc, first) {
-            Some(passed) => passed,
-            None => is_in_order(alloc, first).unwrap_or(false),
-        };
-        assert!(rt; passed);
-    }
+    serve_in_order(alloc, 0)?;
+    serve_in_order(alloc, 1)
 }
 
-/// Whether the step that the worker holds an outcome of is posted, and the next reply is dropped
-/// while it waits in the ring.
-fn is_dropped(alloc: Global, world: &mut World<FixedPool>) -> Option<bool> {
-    let is_first = is_applied(world, 0, event(alloc, &GRQ, 0)?);
-    let first = post(world, 0);
-    let is_second = is_applied(world, 0, event(alloc, &GRQ_OF_XX, 1)?);
-    let second = post(world, 0);
-    Some(
-        is_first
-            && is_second
-            && matches!(&first, Ok(Acted::Posted))
-            && matches!(&second, Ok(Acted::Dropped))
-            && is_taken(world, 0, &GCF),
+/// What the worker does with the outcome that it holds: whether it is dropped, and whether there is
+/// nothing to send.
+fn hand_on(world: &mut World<FixedPool>, w: usize) -> (bool, bool) {
+    let posted = world.act(WorldStep::Post(w));
+    (
+        matches!(&posted, Ok(Acted::Dropped)),
+        matches!(&posted, Ok(Acted::Nothing)),
     )
 }
 
-/// Whether the worker receives the event, and its kept reply is sent again.
-fn is_repeat(world: &mut World<FixedPool>, w: usize, event: Event) -> bool {
-    if !is_received(world, w, event) {
-        return false;
-    }
+/// A reply is posted, and the next one is dropped while that waits in the ring.
+fn drop_second(alloc: Global, world: &mut World<FixedPool>) -> Looked {
+    serve(world, 0, event(alloc, &GRQ, 0)?)?;
+    post(world, 0)?;
+    serve(world, 0, event(alloc, &GRQ_OF_XX, 1)?)?;
+    let (is_dropped, _) = hand_on(world, 0);
+    expect(is_dropped, "a reply is dropped if its ring is full")?;
+    take(world, 0, &GCF)
+}
+
+/// Whether the zone sends a kept reply for the event that the worker holds.
+fn sends_kept(world: &mut World<FixedPool>, w: usize) -> bool {
     match apply(world, w) {
         Ok(Acted::Applied(outcome)) => outcome.note == Note::Kept,
         _ => false,
     }
 }
 
-/// Whether the reply that was dropped is kept, and finds its place when its request comes again and
-/// the ring is empty. The book is then a run of three steps.
-fn is_posted_again(alloc: Global, world: &mut World<FixedPool>) -> Option<bool> {
-    let is_third = is_repeat(world, 0, event(alloc, &GRQ_OF_XX, 2)?);
-    let third = post(world, 0);
-    Some(
-        is_third
-            && matches!(&third, Ok(Acted::Posted))
-            && is_taken(world, 0, &GRJ)
-            && world.book().entries.len() == 3
-            && is_run(world),
-    )
+/// The worker receives a repeat, and its kept reply is sent again.
+fn repeat(world: &mut World<FixedPool>, w: usize, event: Event) -> Looked {
+    receive(world, w, event)?;
+    expect(sends_kept(world, w), "a repeat gets its kept reply")
 }
 
-/// Whether a turn has no output.
-fn is_silent(world: &mut World<FixedPool>) -> Option<bool> {
-    let is_fourth = is_applied(world, 0, turn(3)?);
-    let fourth = post(world, 0);
-    Some(is_fourth && matches!(&fourth, Ok(Acted::Nothing)))
+/// The reply that was dropped is kept, and finds its place when its request comes again and the
+/// ring is empty. The book is then a run of three steps.
+fn post_again(alloc: Global, world: &mut World<FixedPool>) -> Looked {
+    repeat(world, 0, event(alloc, &GRQ_OF_XX, 2)?)?;
+    post(world, 0)?;
+    take(world, 0, &GRJ)?;
+    expect(world.book().entries.len() == 3, "three steps were made")?;
+    find_run(world)
+}
+
+/// A turn has no output.
+fn turn_silently(world: &mut World<FixedPool>) -> Looked {
+    serve(world, 0, turn(3)?)?;
+    let (_, is_nothing) = hand_on(world, 0);
+    expect(is_nothing, "nothing is sent of an idle turn")
 }
 
 /// Whether the entries are of this seat, with the calls 0, 1, 2 and so on.
@@ -118,25 +114,24 @@ fn are_counted(entries: &[Entry], seat: usize) -> bool {
     true
 }
 
-/// Whether it is so for one worker, whose ring has one place.
-fn is_ring_of_one(alloc: Global) -> Option<bool> {
-    let mut world = world(alloc, 1, 1)?;
-    let dropped = is_dropped(alloc, &mut world);
-    let posted = is_posted_again(alloc, &mut world);
-    let silent = is_silent(&mut world);
-    let (zone, book) = world.close();
-    let counted = zone.steps() == 4 && book.entries.len() == 4 && are_counted(&book.entries, 0);
-    drop(zone);
-    drop(book);
-    Some(dropped? && posted? && silent? && counted)
+/// All of this by one worker, whose ring has one place.
+fn go_through(alloc: Global, world: &mut World<FixedPool>) -> Looked {
+    drop_second(alloc, world)?;
+    post_again(alloc, world)?;
+    turn_silently(world)
 }
 
 #[test]
-fn a_ring_of_one_drops_the_second_reply(rt: HostRuntime) {
+fn a_ring_of_one_drops_the_second_reply(rt: HostRuntime) -> Looked {
     let alloc = rt.alloc();
-    let passed = match is_ring_of_one(alloc) {
-        Some(passed) => passed,
-        None => is_ring_of_one(alloc).unwrap_or(false),
-    };
-    assert!(rt; passed);
+    let mut world = world(alloc, 1, 1)?;
+    let gone = go_through(alloc, &mut world);
+    let (zone, book) = world.close();
+    let steps = zone.steps();
+    let is_counted = book.entries.len() == 4 && are_counted(&book.entries, 0);
+    drop(zone);
+    drop(book);
+    gone?;
+    expect(steps == 4, "a closed world leaves its zone, of four steps")?;
+    expect(is_counted, "it leaves a book of the four steps of one seat")
 }

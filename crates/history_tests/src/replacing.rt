@@ -1,6 +1,7 @@
 //! A pool that is replaced in a world.
 
-use crate::fixtures::{event, event_from, is_applied, is_run, zone};
+use crate::fixtures::{Looked, MEMORY, event, event_from, find_run, serve, zone};
+use facts::expect;
 use history::World;
 use pools::{FixedPool, Pool, ReplaceFault};
 use ras_core::{Change, Moment, Note, Zone};
@@ -15,127 +16,119 @@ const CALLED: Source = Address {
 };
 
 /// A zone in which two endpoints are registered, and a call of theirs has 1,280 units.
-fn zone_with_call(alloc: Global) -> Option<Zone<FixedPool>> {
-    let mut zone = zone(alloc)?;
+fn zone_with_call(alloc: Global) -> Result<Zone<FixedPool>, &'static str> {
+    let mut zone = zone(alloc).ok_or(MEMORY)?;
     let requests = [
         event(alloc, &RRQ_101, 0)?,
         event_from(alloc, CALLED, &RRQ_102, 0)?,
         event(alloc, &ARQ, 0)?,
     ];
     for request in requests {
-        drop(zone.step(request).ok()?);
+        drop(zone.step(request).ok().ok_or(MEMORY)?);
     }
-    Some(zone)
+    Ok(zone)
 }
 
 /// A world over that zone.
-fn world_with_call(alloc: Global, workers: usize) -> Option<World<FixedPool>> {
-    World::new(alloc, zone_with_call(alloc)?, workers, 1).ok()
+fn world_with_call(alloc: Global, workers: usize) -> Result<World<FixedPool>, &'static str> {
+    match World::new(alloc, zone_with_call(alloc)?, workers, 1) {
+        Ok(world) => Ok(world),
+        Err(_) => Err("there is a world"),
+    }
 }
 
-/// A pool of this limit takes the place of that one. If there is no memory for it, the fresh one
-/// comes back, and it is tried once more.
+/// A pool of this limit takes the place of that one.
 fn replace(
     world: &mut World<FixedPool>,
     pool: usize,
     limit: u64,
 ) -> Result<FixedPool, (FixedPool, ReplaceFault)> {
-    match world.replace(pool, FixedPool::new(limit), Moment::START) {
-        Err((fresh, ReplaceFault::Memory)) => world.replace(pool, fresh, Moment::START),
-        other => other,
-    }
+    world.replace(pool, FixedPool::new(limit), Moment::START)
 }
 
-/// Whether a pool has this limit, and nothing lent.
-fn is_repaid(pool: &FixedPool, limit: u64) -> bool {
-    pool.limit() == limit && pool.lent() == 0
-}
-
-/// Whether the last entry of the book is of this seat and this call, and tells that the first pool
-/// was replaced by an idle one of 2,000 units.
-fn is_noted(world: &World<FixedPool>, seat: usize, call: usize) -> bool {
-    let Some(entry) = world.book().entries.last() else {
-        return false;
-    };
+/// The last entry of the book is of this seat and this call, and tells that the first pool was
+/// replaced by an idle one of 2,000 units.
+fn find_replacement(world: &World<FixedPool>, seat: usize, call: usize) -> Looked {
+    let entry = world.book().entries.last().ok_or("the book has an entry")?;
     let is_change = match &entry.event {
         Change::PoolChange(change) => {
             change.pool == 0 && change.offered.limit == 2_000 && change.offered.lent == 0
         }
         Change::Event(_) => false,
     };
-    is_change
-        && entry.seat == seat
-        && entry.call == call
-        && entry.outcome.note == Note::Replaced(0)
-        && entry.outcome.output.is_none()
+    expect(is_change, "the entry tells which pool was offered")?;
+    expect(entry.seat == seat, "it is of the seat behind the workers'")?;
+    expect(entry.call == call, "the seat's steps are counted")?;
+    expect(
+        entry.outcome.note == Note::Replaced(0),
+        "the pool was replaced",
+    )?;
+    expect(entry.outcome.output.is_none(), "nothing is sent")
 }
 
-/// Whether the pool is replaced over the call: the old one comes back, the one entry is of the seat
-/// behind the worker's, and the book is run again.
-fn is_replaced(world: &mut World<FixedPool>) -> bool {
+/// The first pool is replaced by one of 2,000 units, and the old one, of this limit, comes back with
+/// nothing lent.
+fn exchange(world: &mut World<FixedPool>, limit: u64) -> Looked {
     let Ok(old) = replace(world, 0, 2_000) else {
-        return false;
+        return Err("a pool that can carry the loans is taken");
     };
-    is_repaid(&old, 2_500)
-        && world.book().entries.len() == 1
-        && is_noted(world, 1, 0)
-        && world.zone().in_use() == 1_280
-        && is_run(world)
+    expect(old.limit() == limit, "the old pool comes back")?;
+    expect(old.lent() == 0, "it has nothing lent")
 }
 
-/// Whether a worker goes on after it, and a second replacement is the second one of its seat.
-fn goes_on(alloc: Global, world: &mut World<FixedPool>) -> Option<bool> {
-    let is_served = is_applied(world, 0, event(alloc, &GRQ, 1)?);
-    let Ok(old) = replace(world, 0, 2_000) else {
-        return Some(false);
-    };
-    Some(is_served && is_repaid(&old, 2_000) && is_noted(world, 1, 1) && is_run(world))
+/// The pool is replaced over the call; then a worker goes on, and it is replaced once more.
+fn replace_twice(alloc: Global, world: &mut World<FixedPool>) -> Looked {
+    exchange(world, 2_500)?;
+    expect(world.book().entries.len() == 1, "the book has one entry")?;
+    find_replacement(world, 1, 0)?;
+    expect(world.zone().in_use() == 1_280, "the call goes on")?;
+    find_run(world)?;
+    serve(world, 0, event(alloc, &GRQ, 1)?)?;
+    exchange(world, 2_000)?;
+    find_replacement(world, 1, 1)?;
+    find_run(world)
 }
 
-/// Whether it is so in a world of one worker.
-fn has_replaced(alloc: Global) -> Option<bool> {
+#[test]
+fn a_pool_is_replaced_between_the_steps_of_workers(rt: HostRuntime) -> Looked {
+    let alloc = rt.alloc();
     let mut world = world_with_call(alloc, 1)?;
-    let is_first = is_replaced(&mut world);
-    let is_second = goes_on(alloc, &mut world);
+    let replaced = replace_twice(alloc, &mut world);
     drop(world);
-    Some(is_first && is_second?)
+    replaced
 }
 
-#[test]
-fn a_pool_is_replaced_between_the_steps_of_workers(rt: HostRuntime) {
-    let alloc = rt.alloc();
-    let passed = match has_replaced(alloc) {
-        Some(passed) => passed,
-        None => has_replaced(alloc).unwrap_or(false),
-    };
-    assert!(rt; passed);
-}
-
-/// Whether this pool is refused for this reason, and comes back with nothing lent.
-fn is_refused(world: &mut World<FixedPool>, pool: usize, limit: u64, fault: ReplaceFault) -> bool {
-    match replace(world, pool, limit) {
+/// A pool of this limit is refused for this reason, and comes back with nothing lent.
+fn be_refused(
+    world: &mut World<FixedPool>,
+    pool: usize,
+    limit: u64,
+    fault: ReplaceFault,
+    fact: &'static str,
+) -> Looked {
+    let is_refused = match replace(world, pool, limit) {
         Ok(_) => false,
-        Err((fresh, found)) => found == fault && is_repaid(&fresh, limit),
-    }
+        Err((fresh, found)) => found == fault && fresh.limit() == limit && fresh.lent() == 0,
+    };
+    expect(is_refused, fact)
 }
 
-/// Whether a pool that is too small for the call, and one for a pool that isn't there, are refused,
-/// and the world stays as it was.
-fn has_refused(alloc: Global) -> Option<bool> {
-    let mut world = world_with_call(alloc, 2)?;
-    let is_small = is_refused(&mut world, 0, 1_279, ReplaceFault::NotLent);
-    let is_nowhere = is_refused(&mut world, 1, 2_000, ReplaceFault::NoPool);
-    let is_unchanged = world.book().entries.is_empty() && world.zone().in_use() == 1_280;
-    drop(world);
-    Some(is_small && is_nowhere && is_unchanged)
+/// A pool that is too small for the call, and one for a pool that isn't there, are refused, and the
+/// world stays as it was.
+fn refuse_pools(world: &mut World<FixedPool>) -> Looked {
+    let small = "a pool that is too small for the call is refused, and comes back";
+    be_refused(world, 0, 1_279, ReplaceFault::NotLent, small)?;
+    let nowhere = "one for a pool that isn't there is refused, and comes back";
+    be_refused(world, 1, 2_000, ReplaceFault::NoPool, nowhere)?;
+    expect(world.book().entries.is_empty(), "the book stays empty")?;
+    expect(world.zone().in_use() == 1_280, "the call goes on")
 }
 
 #[test]
-fn a_pool_that_cannot_take_over_the_loans_is_refused(rt: HostRuntime) {
+fn a_pool_that_cannot_take_over_the_loans_is_refused(rt: HostRuntime) -> Looked {
     let alloc = rt.alloc();
-    let passed = match has_refused(alloc) {
-        Some(passed) => passed,
-        None => has_refused(alloc).unwrap_or(false),
-    };
-    assert!(rt; passed);
+    let mut world = world_with_call(alloc, 2)?;
+    let refused = refuse_pools(&mut world);
+    drop(world);
+    refused
 }

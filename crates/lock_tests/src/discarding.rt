@@ -3,10 +3,11 @@
 ghost use Rattle.std.specs.Prelude.{◌≡◌};
 
 use crate::audits::is_fault;
-use crate::fixtures::apply;
-use crate::locks::{Deed, passes};
+use crate::fixtures::{Looked, apply};
+use crate::locks::{Deed, try_deed};
 use book_audit::AuditFault;
 use books::Finished;
+use facts::expect;
 use pools::{FixedPool, Pool};
 use std::alloc::Global;
 use std::sync::Wait;
@@ -31,49 +32,61 @@ fn discard_steps<D: Hall, T: Ledger, U: Ledger, V: Ledger>(
     alloc: Global,
     lock: &ZoneLock<FixedPool, D, T, U, V>,
     seats: &mut [Seat<D, T, U, V>],
-) -> Option<bool> {
-    let seat = seats.get_mut(0)?;
-    drop(apply(rt, alloc, lock, seat, &GRQ)?);
+) -> Looked {
+    let memory = "memory for a step";
+    let seat = seats.get_mut(0).ok_or("a seat")?;
+    drop(apply(rt, alloc, lock, seat, &GRQ).ok_or(memory)?);
     let first = discard(rt, alloc, lock);
-    drop(apply(rt, alloc, lock, seat, &GRQ_OF_XX)?);
+    drop(apply(rt, alloc, lock, seat, &GRQ_OF_XX).ok_or(memory)?);
     let is_refused = matches!(lock.cut(rt), Err(CutFault::NoBase));
-    let place = apply(rt, alloc, lock, seat, &GRQ)?.place;
+    let place = apply(rt, alloc, lock, seat, &GRQ).ok_or(memory)?.place;
     let second = discard(rt, alloc, lock);
     let third = discard(rt, alloc, lock);
-    drop(apply(rt, alloc, lock, seat, &GRQ_OF_XX)?);
-    let are_gone = first == (1, true) && second == (2, false) && third == (0, false);
-    Some(are_gone && is_refused && place == 2)
+    drop(apply(rt, alloc, lock, seat, &GRQ_OF_XX).ok_or(memory)?);
+    expect(
+        first == (1, true),
+        "a step goes with the state in which it began",
+    )?;
+    expect(is_refused, "no chapter is cut without that state")?;
+    expect(place == 2, "places go on over what was let go")?;
+    expect(second == (2, false), "two steps go without a state")?;
+    expect(third == (0, false), "nothing is left to go")
 }
 
-/// Whether what is left begins behind four datagrams, and has no entries.
-fn is_nothing_left<P: Pool>(finished: &Finished<P>) -> bool {
+/// Finds what is left: it begins behind four datagrams, and has no entries.
+fn find_nothing_left<P: Pool>(finished: &Finished<P>) -> Looked {
     let carried = finished.carried();
-    finished.first() == 4
-        && finished.entries().is_empty()
-        && finished.base().is_same(finished.zone().machine())
-        && carried.datagrams == 4
-        && carried.turns == 0
+    let is_same = finished.base().is_same(finished.zone().machine());
+    expect(
+        finished.first() == 4,
+        "what is left begins behind four steps",
+    )?;
+    expect(finished.entries().is_empty(), "it has no entries")?;
+    expect(is_same, "it begins with the state of the zone")?;
+    expect(carried.datagrams == 4, "four datagrams are carried")?;
+    expect(carried.turns == 0, "no turn is carried")
 }
 
-/// Whether steps are let go, and what is left goes on from the state of the zone, with their
-/// totals. An audit finds that their chapters are missing.
-pub fn has_discarded<D: Hall, T: Ledger, U: Ledger, V: Ledger, R: Wait>(
+/// Lets steps go. What is left goes on from the state of the zone, with their totals. An audit
+/// finds that their chapters are missing.
+pub fn discard_and_audit<D: Hall, T: Ledger, U: Ledger, V: Ledger, R: Wait>(
     rt: &R,
     alloc: Global,
     lock: ZoneLock<FixedPool, D, T, U, V>,
     seats: Vec<Seat<D, T, U, V>>,
-) -> Option<bool> {
+) -> Looked {
     let mut seats = seats;
     let are_gone = discard_steps(rt, alloc, &lock, &mut seats);
     let Ok(finished) = lock.finish(seats) else {
-        return None;
+        return Err("the lock is finished");
     };
+    let is_nothing_left = find_nothing_left(&finished);
     let is_gap_found = is_fault(&[], &finished, &[], AuditFault::NotJoined);
-    Some(are_gone == Some(true) && is_nothing_left(&finished) && is_gap_found)
+    let is_found = expect(is_gap_found, "an audit finds that chapters are missing");
+    are_gone.and(is_nothing_left).and(is_found)
 }
 
 #[test]
-fn entries_are_let_go(rt: HostRuntime) {
-    let passed = passes(&rt, rt.alloc(), 1, Deed::Discarding);
-    assert!(rt; passed == Some(true));
+fn entries_are_let_go(rt: HostRuntime) -> Looked {
+    try_deed(&rt, rt.alloc(), 1, Deed::Discarding)
 }

@@ -1,6 +1,7 @@
 //! The zone of the worked examples, and steps of it by a seat.
 
 use books::Receipt;
+use facts::expect;
 use pools::FixedPool;
 use ras_core::{Datagram, Event, Moment, Outcome, Prepared, prepare};
 use ras_module::{Address, Octets, Source};
@@ -8,8 +9,18 @@ use std::alloc::Global;
 use std::sync::Wait;
 use std::sync::ledger::Ledger;
 use worked_zone::ENDPOINT;
-pub use worked_zone::{zone, zone_of};
+pub use worked_zone::{CALL_LIMIT, LIMIT, POOL, zone, zone_of};
 use zone_lock::{Hall, Seat, ZoneLock};
+
+/// The units of the worked call.
+pub const CALL: u64 = 1_280;
+
+/// What is left for a second call in a zone of as many units as a call may have.
+pub const REST: u64 = CALL_LIMIT - CALL;
+
+/// What a test returns: the first fact that doesn't hold, if any. It can be let go, and can leave a
+/// thread.
+pub type Looked = Result<(), &'static str>;
 
 /// A datagram of the endpoint with these octets, read.
 pub fn datagram(alloc: Global, bytes: &[u8]) -> Option<Prepared> {
@@ -39,6 +50,33 @@ pub fn is_sent_as(datagram: Option<&Datagram>, reply: &[u8]) -> bool {
         Some(output) => output.to == ENDPOINT && output.bytes.as_slice() == reply,
         None => false,
     }
+}
+
+/// The seat makes a step of this datagram, whose receipt has to be that of its seat's call at this
+/// place, with this reply, and stands behind the others then.
+pub fn record<D: Hall, T: Ledger, U: Ledger, V: Ledger>(
+    rt: &impl Wait,
+    alloc: Global,
+    lock: &ZoneLock<FixedPool, D, T, U, V>,
+    seat: &mut Seat<D, T, U, V>,
+    receipts: &mut Vec<Receipt>,
+    step: &Step<'_>,
+) -> Looked {
+    let receipt = apply(rt, alloc, lock, seat, step.request).ok_or("memory for a step")?;
+    let is_told = is_told(&receipt, step.call, step.place, step.reply);
+    receipts.push(receipt).ok().ok_or("memory for a receipt")?;
+    expect(is_told, step.fact)
+}
+
+/// A step of a seat: a request, which of the seat's calls it is, at which place of the history it
+/// stands, its reply, and the fact that it is told so.
+#[derive(Clone, Copy)]
+pub struct Step<'a> {
+    pub request: &'a [u8],
+    pub call: usize,
+    pub place: usize,
+    pub reply: &'a [u8],
+    pub fact: &'static str,
 }
 
 /// Whether the receipt is that of its seat's call at this place, with this reply.

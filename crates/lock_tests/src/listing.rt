@@ -2,10 +2,11 @@
 
 ghost use Rattle.std.specs.Prelude.{◌≡◌};
 
-use crate::audits::are_audited;
-use crate::fixtures::apply;
-use crate::locks::{Deed, passes};
+use crate::audits::audit_datagrams;
+use crate::fixtures::{Looked, apply};
+use crate::locks::{Deed, try_deed};
 use books::{Chapter, Receipt};
+use facts::expect;
 use pools::FixedPool;
 use std::alloc::Global;
 use std::sync::Wait;
@@ -21,45 +22,46 @@ fn list_between<D: Hall, T: Ledger, U: Ledger, V: Ledger>(
     seats: &mut [Seat<D, T, U, V>],
     receipts: &mut Vec<Receipt>,
     chapters: &mut Vec<Chapter>,
-) -> Option<()> {
-    let seat = seats.get_mut(0)?;
-    receipts.push(apply(rt, alloc, lock, seat, &GRQ)?).ok()?;
-    drop(lock.list(rt).ok()?);
-    receipts
-        .push(apply(rt, alloc, lock, seat, &GRQ_OF_XX)?)
-        .ok()?;
-    drop(lock.list(rt).ok()?);
-    chapters.push(lock.cut(rt).ok()?).ok()?;
-    Some(())
-}
-
-/// Whether the chapter has both steps.
-fn has_both(chapters: &[Chapter]) -> bool {
-    match chapters {
-        [chapter] => chapter.first() == 0 && chapter.entries().len() == 2,
-        _ => false,
+) -> Looked {
+    let seat = seats.get_mut(0).ok_or("a seat")?;
+    for request in [GRQ.as_slice(), GRQ_OF_XX.as_slice()] {
+        let receipt = apply(rt, alloc, lock, seat, request).ok_or("memory for a step")?;
+        receipts.push(receipt).ok().ok_or("memory for a receipt")?;
+        drop(lock.list(rt).ok().ok_or("memory for a list")?);
     }
+    let chapter = lock.cut(rt).ok().ok_or("memory for a chapter")?;
+    chapters.push(chapter).ok().ok_or("memory for a chapter")
 }
 
-/// Whether lists leave a history as it is: a chapter has what was done before them, and is audited.
-pub fn is_left_by_lists<D: Hall, T: Ledger, U: Ledger, V: Ledger, R: Wait>(
+/// Finds both steps in the chapter.
+fn find_both(chapters: &[Chapter]) -> Looked {
+    let [chapter] = chapters else {
+        return Err("one chapter is cut");
+    };
+    expect(chapter.first() == 0, "the chapter begins with the history")?;
+    expect(chapter.entries().len() == 2, "the chapter has both steps")
+}
+
+/// Lists what is in the zone between steps, which leaves the history as it is: a chapter has what
+/// was done before, and is audited.
+pub fn list_and_audit<D: Hall, T: Ledger, U: Ledger, V: Ledger, R: Wait>(
     rt: &R,
     alloc: Global,
     lock: ZoneLock<FixedPool, D, T, U, V>,
     seats: Vec<Seat<D, T, U, V>>,
-) -> Option<bool> {
+) -> Looked {
     let (mut seats, mut receipts, mut chapters) = (seats, Vec::new(alloc), Vec::new(alloc));
     let is_cut = list_between(rt, alloc, &lock, &mut seats, &mut receipts, &mut chapters);
     let Ok(finished) = lock.finish(seats) else {
-        return None;
+        return Err("the lock is finished");
     };
-    let is_whole = has_both(&chapters) && are_audited(&chapters, &finished, &receipts, 2);
+    let are_there = find_both(&chapters);
+    let are_audited = audit_datagrams(&chapters, &finished, &receipts, 2);
     drop(finished);
-    Some(is_cut.is_some() && is_whole)
+    is_cut.and(are_there).and(are_audited)
 }
 
 #[test]
-fn a_list_changes_nothing(rt: HostRuntime) {
-    let passed = passes(&rt, rt.alloc(), 1, Deed::ListsBetween);
-    assert!(rt; passed == Some(true));
+fn a_list_changes_nothing(rt: HostRuntime) -> Looked {
+    try_deed(&rt, rt.alloc(), 1, Deed::ListsBetween)
 }

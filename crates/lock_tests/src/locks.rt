@@ -2,16 +2,16 @@
 
 ghost use Rattle.std.specs.Prelude.{◌≡◌};
 
-use crate::chapters::has_chapters;
-use crate::discarding::has_discarded;
-use crate::fixtures::{zone, zone_of};
-use crate::least_grant::has_returned_loan;
-use crate::listing::is_left_by_lists;
-use crate::replacing::{has_refused_pools, has_replaced_pool};
-use crate::seats::{are_listed, are_seated, is_short_of_a_seat};
-use crate::threads::are_all_entered;
-use crate::turns::are_turns_made;
-use crate::unrecorded::{are_all_counted, is_unrecorded};
+use crate::chapters::cut_and_audit;
+use crate::discarding::discard_and_audit;
+use crate::fixtures::{CALL_LIMIT, Looked, zone, zone_of};
+use crate::least_grant::return_a_loan;
+use crate::listing::list_and_audit;
+use crate::replacing::{refuse_pools, replace_and_audit};
+use crate::seats::{finish_without_a_seat, list_a_call, seat_two};
+use crate::threads::enter_all;
+use crate::turns::make_turns;
+use crate::unrecorded::{count_all, step_unrecorded};
 use pools::FixedPool;
 use ras_core::Zone;
 use std::alloc::Global;
@@ -41,18 +41,21 @@ pub enum Deed {
     UnrecordedTurns,
 }
 
-/// Whether a lock of this many seats over a zone of its own passes what is done with it: false if
-/// it isn't made because of their number, and None if memory is out.
-pub fn passes<R: Threads + Wait + Sync>(
+/// The fault of a lock that isn't made because of the number of its seats.
+pub const BAD_SEATS: &str = "a lock has 1 to 16 seats";
+
+/// Makes a lock of this many seats over a zone of its own, and does this with it.
+pub fn try_deed<R: Threads + Wait + Sync>(
     rt: &R,
     alloc: Global,
     seats: usize,
     deed: Deed,
-) -> Option<bool> {
+) -> Looked {
     let zone = match deed {
-        Deed::ReturnedLoan | Deed::Unrecorded => zone_of(alloc, 2_000, 1_000)?,
-        _ => zone(alloc)?,
+        Deed::ReturnedLoan | Deed::Unrecorded => zone_of(alloc, CALL_LIMIT, 1_000),
+        _ => zone(alloc),
     };
+    let zone = zone.ok_or("memory for a zone")?;
     let blanks = Blanks::new(seats);
     open_and_do::<Brand, Brand, Brand, Brand, R>(rt, alloc, zone, seats, blanks, deed)
 }
@@ -64,14 +67,7 @@ fn open_and_do<
     U: Ledger + Send + Sync,
     V: Ledger + Send + Sync,
     R: Threads + Wait + Sync,
->(
-    rt: &R,
-    alloc: Global,
-    zone: Zone<FixedPool>,
-    seats: usize,
-    blanks: Blanks,
-    deed: Deed,
-) -> Option<bool>
+>(rt: &R, alloc: Global, zone: Zone<FixedPool>, seats: usize, blanks: Blanks, deed: Deed) -> Looked
     requires datagrams { (blanks.datagrams.name ≡ D.name)
         × (blanks.datagrams.parts ≡ D.parts) × (D.parts ≡ seats) }
     requires turns { (blanks.turns.name ≡ T.name)
@@ -84,23 +80,23 @@ fn open_and_do<
 {
     match ZoneLock::<FixedPool, D, T, U, V>::open(alloc, zone, seats, blanks) {
         Ok((lock, seats)) => match deed {
-            Deed::Nothing => Some(true),
-            Deed::TwoSeats => are_seated(rt, alloc, lock, seats),
-            Deed::Listing => are_listed(rt, alloc, lock, seats),
-            Deed::ListsBetween => is_left_by_lists(rt, alloc, lock, seats),
-            Deed::SeatMissing => is_short_of_a_seat(lock, seats),
-            Deed::Chapters => has_chapters(rt, alloc, lock, seats),
-            Deed::Discarding => has_discarded(rt, alloc, lock, seats),
-            Deed::Threads => are_all_entered(rt, alloc, lock, seats),
-            Deed::ReturnedLoan => has_returned_loan(rt, alloc, lock, seats),
-            Deed::ReplacedPool => has_replaced_pool(rt, alloc, lock, seats),
-            Deed::RefusedPools => has_refused_pools(rt, alloc, lock, seats),
-            Deed::Unrecorded => is_unrecorded(rt, alloc, lock, seats),
-            Deed::UnrecordedThreads => are_all_counted(rt, alloc, lock, seats),
-            Deed::Turns => are_turns_made(rt, alloc, lock, seats, true),
-            Deed::UnrecordedTurns => are_turns_made(rt, alloc, lock, seats, false),
+            Deed::Nothing => Ok(()),
+            Deed::TwoSeats => seat_two(rt, alloc, lock, seats),
+            Deed::Listing => list_a_call(rt, alloc, lock, seats),
+            Deed::ListsBetween => list_and_audit(rt, alloc, lock, seats),
+            Deed::SeatMissing => finish_without_a_seat(lock, seats),
+            Deed::Chapters => cut_and_audit(rt, alloc, lock, seats),
+            Deed::Discarding => discard_and_audit(rt, alloc, lock, seats),
+            Deed::Threads => enter_all(rt, alloc, lock, seats),
+            Deed::ReturnedLoan => return_a_loan(rt, alloc, lock, seats),
+            Deed::ReplacedPool => replace_and_audit(rt, alloc, lock, seats),
+            Deed::RefusedPools => refuse_pools(rt, alloc, lock, seats),
+            Deed::Unrecorded => step_unrecorded(rt, alloc, lock, seats),
+            Deed::UnrecordedThreads => count_all(rt, alloc, lock, seats),
+            Deed::Turns => make_turns(rt, alloc, lock, seats, true),
+            Deed::UnrecordedTurns => make_turns(rt, alloc, lock, seats, false),
         },
-        Err((_, OpenFault::BadSeats)) => Some(false),
-        Err((_, OpenFault::Memory)) => None,
+        Err((_, OpenFault::BadSeats)) => Err(BAD_SEATS),
+        Err((_, OpenFault::Memory)) => Err("memory for a lock"),
     }
 }

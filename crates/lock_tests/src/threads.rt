@@ -2,10 +2,11 @@
 
 ghost use Rattle.std.specs.Prelude.{◌≡◌};
 
-use crate::audits::are_audited;
-use crate::fixtures::datagram;
-use crate::locks::{Deed, passes};
+use crate::audits::audit_datagrams;
+use crate::fixtures::{Looked, datagram};
+use crate::locks::{Deed, try_deed};
 use books::{Chapter, Finished, Receipt};
+use facts::expect;
 use pools::{FixedPool, Pool};
 use std::alloc::Global;
 use std::sync::Wait;
@@ -62,7 +63,7 @@ fn go_on<D: Hall, T: Ledger, U: Ledger, V: Ledger>(
     Some(())
 }
 
-/// Whether the thread makes its steps.
+/// Makes the steps of a thread. Whether all are made.
 fn work<D: Hall, T: Ledger, U: Ledger, V: Ledger>(
     rt: &impl Wait,
     alloc: Global,
@@ -79,8 +80,8 @@ fn work<D: Hall, T: Ledger, U: Ledger, V: Ledger>(
     true
 }
 
-/// Whether the first seat makes its steps, for the first share.
-fn has_first_worked<D: Hall, T: Ledger, U: Ledger, V: Ledger>(
+/// Makes the steps of the first seat, for the first share. Whether all are made.
+fn work_by_one<D: Hall, T: Ledger, U: Ledger, V: Ledger>(
     rt: &impl Wait,
     alloc: Global,
     lock: &ZoneLock<FixedPool, D, T, U, V>,
@@ -94,8 +95,8 @@ fn has_first_worked<D: Hall, T: Ledger, U: Ledger, V: Ledger>(
     }
 }
 
-/// Whether two threads make their steps, of which the first one has this number.
-fn have_two_worked<
+/// Makes the steps of two threads, of which the first one has this number. Whether all are made.
+fn work_by_two<
     D: Hall + Send + Sync,
     T: Ledger + Send + Sync,
     U: Ledger + Send + Sync,
@@ -116,14 +117,14 @@ fn have_two_worked<
     let (x, y) = shares.split_at_mut(1);
     let (one, two) = join(
         rt,
-        || has_first_worked(rt, alloc, lock, a, x, thread),
-        || has_first_worked(rt, alloc, lock, b, y, thread | 1),
+        || work_by_one(rt, alloc, lock, a, x, thread),
+        || work_by_one(rt, alloc, lock, b, y, thread | 1),
     );
     one && two
 }
 
-/// Whether four threads make their steps.
-fn have_worked<
+/// Makes the steps of four threads. Whether all are made.
+fn work_by_four<
     D: Hall + Send + Sync,
     T: Ledger + Send + Sync,
     U: Ledger + Send + Sync,
@@ -143,8 +144,8 @@ fn have_worked<
     let (x, y) = shares.split_at_mut(2);
     let (one, two) = join(
         rt,
-        || have_two_worked(rt, alloc, lock, a, x, 0),
-        || have_two_worked(rt, alloc, lock, b, y, 2),
+        || work_by_two(rt, alloc, lock, a, x, 0),
+        || work_by_two(rt, alloc, lock, b, y, 2),
     );
     one && two
 }
@@ -189,23 +190,31 @@ fn made<
     seats: &mut [Seat<D, T, U, V>],
 ) -> Option<Vec<Share>> {
     let mut shares = shares_of(alloc)?;
-    if have_worked(rt, alloc, lock, seats, &mut shares) {
+    if work_by_four(rt, alloc, lock, seats, &mut shares) {
         Some(shares)
     } else {
         None
     }
 }
 
-/// Whether there are as many entries as receipts and ten chapters, and all of it agrees.
-fn do_agree<P: Pool>(finished: &Finished<P>, receipts: &[Receipt], chapters: &[Chapter]) -> bool {
-    finished.first().saturating_add(finished.entries().len()) == receipts.len()
-        && chapters.len() == STEPS / CHAPTER
-        && are_audited(chapters, finished, receipts, 4 * STEPS as u64)
+/// Compares a history with as many receipts as it has entries, and ten chapters, which agree.
+fn compare_all<P: Pool>(
+    finished: &Finished<P>,
+    receipts: &[Receipt],
+    chapters: &[Chapter],
+) -> Looked {
+    let entries = finished.first().saturating_add(finished.entries().len());
+    expect(
+        entries == receipts.len(),
+        "there are as many entries as receipts",
+    )?;
+    expect(chapters.len() == STEPS / CHAPTER, "there are ten chapters")?;
+    audit_datagrams(chapters, finished, receipts, 4 * STEPS as u64)
 }
 
-/// Whether each step of four threads is an entry of the history, in ten chapters and the rest, and
-/// the receipts of all threads agree with it.
-pub fn are_all_entered<
+/// Makes steps by four threads, each of which is an entry of the history, in ten chapters and the
+/// rest. The receipts of all threads agree with it.
+pub fn enter_all<
     D: Hall + Send + Sync,
     T: Ledger + Send + Sync,
     U: Ledger + Send + Sync,
@@ -216,20 +225,19 @@ pub fn are_all_entered<
     alloc: Global,
     lock: ZoneLock<FixedPool, D, T, U, V>,
     seats: Vec<Seat<D, T, U, V>>,
-) -> Option<bool> {
+) -> Looked {
     let mut seats = seats;
     let shares = made(rt, alloc, &lock, &mut seats);
     let Ok(finished) = lock.finish(seats) else {
-        return None;
+        return Err("the lock is finished");
     };
     match shares.and_then(|shares| gathered(alloc, shares)) {
-        Some((receipts, chapters)) => Some(do_agree(&finished, &receipts, &chapters)),
-        None => None,
+        Some((receipts, chapters)) => compare_all(&finished, &receipts, &chapters),
+        None => Err("each thread makes its steps"),
     }
 }
 
 #[test]
-fn each_step_of_four_threads_is_an_entry(rt: HostRuntime) {
-    let passed = passes(&rt, rt.alloc(), 4, Deed::Threads);
-    assert!(rt; passed == Some(true));
+fn each_step_of_four_threads_is_an_entry(rt: HostRuntime) -> Looked {
+    try_deed(&rt, rt.alloc(), 4, Deed::Threads)
 }

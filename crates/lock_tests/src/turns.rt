@@ -2,8 +2,9 @@
 
 ghost use Rattle.std.specs.Prelude.{◌≡◌};
 
-use crate::fixtures::{datagram, is_sent_as};
-use crate::locks::{Deed, passes};
+use crate::fixtures::{Looked, datagram, is_sent_as};
+use crate::locks::{Deed, try_deed};
+use facts::expect;
 use pools::FixedPool;
 use ras_core::{Datagram, Moment, Note, Outcome};
 use std::alloc::Global;
@@ -52,57 +53,75 @@ fn turns<D: Hall, T: Ledger, U: Ledger, V: Ledger>(
     Some((end, replies))
 }
 
-/// Whether two turns are made where no more are wanted, then three more and one in which nothing is
-/// due, and then one in which nothing is due; and whether what they send together is the question
-/// for a sign of life.
-fn are_made<D: Hall, T: Ledger, U: Ledger, V: Ledger>(
+/// Makes two turns where no more are wanted, then three more and one in which nothing is due, and
+/// then one in which nothing is due. What they send together is the question for a sign of life.
+fn turn_thrice<D: Hall, T: Ledger, U: Ledger, V: Ledger>(
     rt: &impl Wait,
     alloc: Global,
     lock: &ZoneLock<FixedPool, D, T, U, V>,
     seat: &mut Seat<D, T, U, V>,
-) -> Option<bool> {
+) -> Looked {
+    let memory = "memory for turns";
     let mut counts = Counts::none();
-    let (first, mut sent) = turns(rt, alloc, lock, seat, 2, &mut counts)?;
-    let (second, mut later) = turns(rt, alloc, lock, seat, 50, &mut counts)?;
-    let (third, nothing) = turns(rt, alloc, lock, seat, 1, &mut counts)?;
-    sent.append(&mut later).ok()?;
-    Some(
-        first == TurnsEnd::More
-            && second == TurnsEnd::Idle
-            && third == TurnsEnd::Idle
-            && nothing.is_empty()
-            && sent.len() == 1
-            && is_sent_as(sent.first(), &IRQ)
-            && are_told_by(&counts),
-    )
+    let (first, mut sent) = turns(rt, alloc, lock, seat, 2, &mut counts).ok_or(memory)?;
+    let (second, mut later) = turns(rt, alloc, lock, seat, 50, &mut counts).ok_or(memory)?;
+    let (third, nothing) = turns(rt, alloc, lock, seat, 1, &mut counts).ok_or(memory)?;
+    sent.append(&mut later).ok().ok_or(memory)?;
+    let is_silent = nothing.is_empty();
+    let is_asked = sent.len() == 1 && is_sent_as(sent.first(), &IRQ);
+    drop(nothing);
+    drop(later);
+    drop(sent);
+    expect(
+        first == TurnsEnd::More,
+        "two turns are made where no more are wanted",
+    )?;
+    expect(
+        second == TurnsEnd::Idle,
+        "three more are made and one in which nothing is due",
+    )?;
+    expect(
+        third == TurnsEnd::Idle,
+        "one is made in which nothing is due",
+    )?;
+    expect(is_silent, "nothing is sent in that")?;
+    expect(is_asked, "the question for a sign of life is sent")?;
+    compare_counts(&counts)
 }
 
-/// Whether these counts tell what the turns did.
-fn are_told_by(counts: &Counts) -> bool {
-    counts.get(Count::Turn(TurnDeed::KeptOver)) == 3
-        && counts.get(Count::Turn(TurnDeed::Interrogation)) == 1
-        && counts.get(Count::Turn(TurnDeed::PoolTurn)) == 1
-        && counts.get(Count::Turn(TurnDeed::Idle)) == 2
-        && counts.get(Count::Reply(ReplyKind::Irq)) == 1
+/// Compares counts with what the turns did.
+fn compare_counts(counts: &Counts) -> Looked {
+    let kept = counts.get(Count::Turn(TurnDeed::KeptOver));
+    let asked = counts.get(Count::Turn(TurnDeed::Interrogation));
+    let turned = counts.get(Count::Turn(TurnDeed::PoolTurn));
+    let idle = counts.get(Count::Turn(TurnDeed::Idle));
+    let sent = counts.get(Count::Reply(ReplyKind::Irq));
+    expect(kept == 3, "three kept replies count as over")?;
+    expect(asked == 1, "one interrogation is counted")?;
+    expect(turned == 1, "one turn of the pools is counted")?;
+    expect(idle == 2, "two idle turns are counted")?;
+    expect(sent == 1, "one question is counted as sent")
 }
 
-/// Whether turns are made under one hold, and each is counted; if nothing is recorded, no entry is
-/// left of any.
-pub fn are_turns_made<D: Hall, T: Ledger, U: Ledger, V: Ledger, R: Wait>(
+/// Makes turns under one hold, each of which is counted; if nothing is recorded, no entry is left
+/// of any.
+pub fn make_turns<D: Hall, T: Ledger, U: Ledger, V: Ledger, R: Wait>(
     rt: &R,
     alloc: Global,
     lock: ZoneLock<FixedPool, D, T, U, V>,
     seats: Vec<Seat<D, T, U, V>>,
     is_recorded: bool,
-) -> Option<bool> {
+) -> Looked {
     let mut seats = seats;
     if !is_recorded {
         drop(lock.discard(rt, Vec::new(alloc)));
     }
-    begin_call(rt, alloc, &lock, seats.get_mut(0)?)?;
-    let are_made = are_made(rt, alloc, &lock, seats.get_mut(1)?);
+    let seat = seats.get_mut(0).ok_or("the first seat")?;
+    begin_call(rt, alloc, &lock, seat).ok_or("memory for a call")?;
+    let seat = seats.get_mut(1).ok_or("the second seat")?;
+    let are_made = turn_thrice(rt, alloc, &lock, seat);
     let Ok(finished) = lock.finish(seats) else {
-        return None;
+        return Err("the lock is finished");
     };
     let carried = finished.carried();
     let are_counted = if is_recorded {
@@ -111,17 +130,15 @@ pub fn are_turns_made<D: Hall, T: Ledger, U: Ledger, V: Ledger, R: Wait>(
         carried.datagrams == 3 && carried.turns == 7 && finished.entries().is_empty()
     };
     drop(finished);
-    Some(are_made? && are_counted)
+    are_made.and(expect(are_counted, "each step is an entry, or is carried"))
 }
 
 #[test]
-fn turns_are_made_under_one_hold(rt: HostRuntime) {
-    let passed = passes(&rt, rt.alloc(), 2, Deed::Turns);
-    assert!(rt; passed == Some(true));
+fn turns_are_made_under_one_hold(rt: HostRuntime) -> Looked {
+    try_deed(&rt, rt.alloc(), 2, Deed::Turns)
 }
 
 #[test]
-fn unrecorded_turns_are_made_under_one_hold(rt: HostRuntime) {
-    let passed = passes(&rt, rt.alloc(), 2, Deed::UnrecordedTurns);
-    assert!(rt; passed == Some(true));
+fn unrecorded_turns_are_made_under_one_hold(rt: HostRuntime) -> Looked {
+    try_deed(&rt, rt.alloc(), 2, Deed::UnrecordedTurns)
 }

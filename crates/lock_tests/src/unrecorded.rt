@@ -2,9 +2,10 @@
 
 ghost use Rattle.std.specs.Prelude.{◌≡◌};
 
-use crate::fixtures::{apply, datagram, is_sent};
-use crate::locks::{Deed, passes};
+use crate::fixtures::{CALL, Looked, REST, apply, datagram, is_sent};
+use crate::locks::{Deed, try_deed};
 use books::Finished;
+use facts::expect;
 use pools::{FixedPool, Pool};
 use ras_core::{Note, Outcome};
 use std::alloc::Global;
@@ -23,20 +24,24 @@ fn blank() -> Outcome {
     Outcome::noted(Note::Idle, None)
 }
 
-/// Whether the seat makes a step of this datagram, of which nothing need be recorded, with this
+/// The seat makes a step of this datagram, of which nothing need be recorded. It has to get this
 /// reply.
-fn is_answered<D: Hall, T: Ledger, U: Ledger, V: Ledger>(
+fn step<D: Hall, T: Ledger, U: Ledger, V: Ledger>(
     rt: &impl Wait,
     alloc: Global,
     lock: &ZoneLock<FixedPool, D, T, U, V>,
     seat: &mut Seat<D, T, U, V>,
     bytes: &[u8],
     reply: &[u8],
-) -> Option<bool> {
+    fact: &'static str,
+) -> Looked {
+    let memory = "memory for a step";
+    let prepared = datagram(alloc, bytes).ok_or(memory)?;
     let mut outcome = blank();
-    lock.step(rt, seat, datagram(alloc, bytes)?, &mut outcome)
-        .ok()?;
-    Some(is_sent(&outcome, reply))
+    lock.step(rt, seat, prepared, &mut outcome)
+        .ok()
+        .ok_or(memory)?;
+    expect(is_sent(&outcome, reply), fact)
 }
 
 /// Takes the entries out. How many there are, and whether the state in which they begin was there.
@@ -49,71 +54,129 @@ fn discard<D: Hall, T: Ledger, U: Ledger, V: Ledger>(
     (entries.len(), base.is_some())
 }
 
-/// Whether two seats register an endpoint each, where a chapter could be cut, so that both steps
-/// are recorded. They are let go.
-fn are_recorded<D: Hall, T: Ledger, U: Ledger, V: Ledger>(
+/// Registers an endpoint by each of two seats, where a chapter could be cut, so that both steps are
+/// recorded. They are let go.
+fn step_recorded<D: Hall, T: Ledger, U: Ledger, V: Ledger>(
     rt: &impl Wait,
     alloc: Global,
     lock: &ZoneLock<FixedPool, D, T, U, V>,
     seats: &mut [Seat<D, T, U, V>],
-) -> Option<bool> {
-    let first = is_answered(rt, alloc, lock, seats.get_mut(0)?, &RRQ_101, &RCF_0001)?;
-    let second = is_answered(rt, alloc, lock, seats.get_mut(1)?, &RRQ_102, &RCF_0002)?;
-    Some(first && second && discard(rt, alloc, lock) == (2, true))
+) -> Looked {
+    let seat = seats.get_mut(0).ok_or("the first seat")?;
+    step(
+        rt,
+        alloc,
+        lock,
+        seat,
+        &RRQ_101,
+        &RCF_0001,
+        "0001 is registered",
+    )?;
+    let seat = seats.get_mut(1).ok_or("the second seat")?;
+    step(
+        rt,
+        alloc,
+        lock,
+        seat,
+        &RRQ_102,
+        &RCF_0002,
+        "0002 is registered",
+    )?;
+    let gone = discard(rt, alloc, lock);
+    expect(gone == (2, true), "both steps were recorded")
 }
 
-/// Whether no chapter can be cut then, and of three more steps none is left: one that isn't
+/// Cuts a chapter in vain then, and makes three more steps, of which none is left: one that isn't
 /// recorded, one that is, and one that isn't.
-fn are_passed<D: Hall, T: Ledger, U: Ledger, V: Ledger>(
+fn step_without_a_base<D: Hall, T: Ledger, U: Ledger, V: Ledger>(
     rt: &impl Wait,
     alloc: Global,
     lock: &ZoneLock<FixedPool, D, T, U, V>,
     seats: &mut [Seat<D, T, U, V>],
-) -> Option<bool> {
+) -> Looked {
+    let denied = &ARQ_OF_A_SECOND_CALL;
     let is_refused = matches!(lock.cut(rt), Err(CutFault::NoBase));
-    let call = is_answered(rt, alloc, lock, seats.get_mut(0)?, &ARQ, &ACF_1280)?;
-    let between = apply(rt, alloc, lock, seats.get_mut(1)?, &GRQ)?.place;
-    let seat = seats.get_mut(0)?;
-    let denied = is_answered(rt, alloc, lock, seat, &ARQ_OF_A_SECOND_CALL, &ARJ)?;
-    let are_none = discard(rt, alloc, lock) == (0, false);
-    Some(is_refused && call && between == 3 && denied && are_none)
+    expect(
+        is_refused,
+        "no chapter is cut without the state in which it begins",
+    )?;
+    let seat = seats.get_mut(0).ok_or("the first seat")?;
+    step(
+        rt,
+        alloc,
+        lock,
+        seat,
+        &ARQ,
+        &ACF_1280,
+        "the first call opens",
+    )?;
+    let seat = seats.get_mut(1).ok_or("the second seat")?;
+    let between = apply(rt, alloc, lock, seat, &GRQ).ok_or("memory for a step")?;
+    let place = between.place;
+    drop(between);
+    expect(place == 3, "a recorded step stands behind the others")?;
+    let seat = seats.get_mut(0).ok_or("the first seat")?;
+    step(
+        rt,
+        alloc,
+        lock,
+        seat,
+        denied,
+        &ARJ,
+        "the second call is denied",
+    )?;
+    let gone = discard(rt, alloc, lock);
+    expect(gone == (0, false), "none of three steps is left")
 }
 
-/// Whether the history has five datagrams, of which no entry is left. The two calls were lent 1,280
-/// and 720 units, and the 720 came back.
-fn are_all_told<P: Pool>(finished: &Finished<P>) -> bool {
+/// Finds five datagrams in the history, of which no entry is left. The units of both calls were
+/// lent, and those of the second one came back.
+fn find_totals<P: Pool>(finished: &Finished<P>) -> Looked {
     let carried = finished.carried();
-    finished.first() == 5
-        && finished.entries().is_empty()
-        && finished.base().is_same(finished.zone().machine())
-        && carried.datagrams == 5
-        && carried.turns == 0
-        && carried.lent == 2_000
-        && carried.returned == 720
-        && finished.zone().in_use() == 1_280
+    let is_same = finished.base().is_same(finished.zone().machine());
+    expect(
+        finished.first() == 5,
+        "what is left begins behind five steps",
+    )?;
+    expect(finished.entries().is_empty(), "it has no entries")?;
+    expect(is_same, "it begins with the state of the zone")?;
+    expect(carried.datagrams == 5, "five datagrams are carried")?;
+    expect(carried.turns == 0, "no turn is carried")?;
+    expect(
+        carried.lent == u128::from(CALL + REST),
+        "the units of both calls are carried as lent",
+    )?;
+    expect(
+        carried.returned == u128::from(REST),
+        "those of the second call are carried as returned",
+    )?;
+    expect(
+        finished.zone().in_use() == CALL,
+        "those of the first call are in use",
+    )
 }
 
-/// Whether nothing is recorded of steps where no chapter can be cut, and all is where one can be,
-/// and the totals of all are right.
-pub fn is_unrecorded<D: Hall, T: Ledger, U: Ledger, V: Ledger, R: Wait>(
+/// Makes steps of which nothing is recorded where no chapter can be cut, and all where one can be.
+/// The totals of all are right.
+pub fn step_unrecorded<D: Hall, T: Ledger, U: Ledger, V: Ledger, R: Wait>(
     rt: &R,
     alloc: Global,
     lock: ZoneLock<FixedPool, D, T, U, V>,
     seats: Vec<Seat<D, T, U, V>>,
-) -> Option<bool> {
+) -> Looked {
     let mut seats = seats;
-    let recorded = are_recorded(rt, alloc, &lock, &mut seats);
-    let passed = are_passed(rt, alloc, &lock, &mut seats);
+    let recorded = step_recorded(rt, alloc, &lock, &mut seats);
+    let unrecorded = step_without_a_base(rt, alloc, &lock, &mut seats);
     let Ok(finished) = lock.finish(seats) else {
-        return None;
+        return Err("the lock is finished");
     };
-    let are_told = are_all_told(&finished);
+    let are_told = find_totals(&finished);
     drop(finished);
-    Some(recorded? && passed? && are_told)
+    recorded.and(unrecorded).and(are_told)
 }
 
-/// Whether the first of these seats makes its steps.
-fn has_worked<D: Hall, T: Ledger, U: Ledger, V: Ledger>(
+/// Makes the steps of the first of these seats. Whether all are made.
+fn work<D: Hall, T: Ledger, U: Ledger, V: Ledger>(
     rt: &impl Wait,
     alloc: Global,
     lock: &ZoneLock<FixedPool, D, T, U, V>,
@@ -134,8 +197,8 @@ fn has_worked<D: Hall, T: Ledger, U: Ledger, V: Ledger>(
     true
 }
 
-/// Whether two threads make their steps.
-fn have_worked<
+/// Makes the steps of two threads. Whether all are made.
+fn work_by_two<
     D: Hall + Send + Sync,
     T: Ledger + Send + Sync,
     U: Ledger + Send + Sync,
@@ -151,16 +214,12 @@ fn have_worked<
         return false;
     }
     let (a, b) = seats.split_at_mut(1);
-    let (one, two) = join(
-        rt,
-        || has_worked(rt, alloc, lock, a),
-        || has_worked(rt, alloc, lock, b),
-    );
+    let (one, two) = join(rt, || work(rt, alloc, lock, a), || work(rt, alloc, lock, b));
     one && two
 }
 
-/// Whether each step of two threads is counted, and no entry is left of any.
-pub fn are_all_counted<
+/// Makes steps by two threads, each of which is counted, and no entry is left of any.
+pub fn count_all<
     D: Hall + Send + Sync,
     T: Ledger + Send + Sync,
     U: Ledger + Send + Sync,
@@ -171,28 +230,33 @@ pub fn are_all_counted<
     alloc: Global,
     lock: ZoneLock<FixedPool, D, T, U, V>,
     seats: Vec<Seat<D, T, U, V>>,
-) -> Option<bool> {
+) -> Looked {
     let mut seats = seats;
-    let is_first = discard(rt, alloc, &lock) == (0, true);
-    let have_worked = have_worked(rt, alloc, &lock, &mut seats);
+    let gone = discard(rt, alloc, &lock);
+    let have_worked = work_by_two(rt, alloc, &lock, &mut seats);
     let Ok(finished) = lock.finish(seats) else {
-        return None;
+        return Err("the lock is finished");
     };
-    let are_counted = finished.carried().datagrams == 2 * STEPS
-        && finished.first() as u64 == 2 * STEPS
-        && finished.entries().is_empty();
+    let datagrams = finished.carried().datagrams;
+    let first = finished.first() as u64;
+    let is_empty = finished.entries().is_empty();
     drop(finished);
-    Some(is_first && have_worked && are_counted)
+    expect(
+        gone == (0, true),
+        "the state in which a chapter begins is let go",
+    )?;
+    expect(have_worked, "both threads make their steps")?;
+    expect(datagrams == 2 * STEPS, "each datagram is carried")?;
+    expect(first == 2 * STEPS, "what is left begins behind all steps")?;
+    expect(is_empty, "it has no entries")
 }
 
 #[test]
-fn steps_are_made_without_a_record(rt: HostRuntime) {
-    let passed = passes(&rt, rt.alloc(), 2, Deed::Unrecorded);
-    assert!(rt; passed == Some(true));
+fn steps_are_made_without_a_record(rt: HostRuntime) -> Looked {
+    try_deed(&rt, rt.alloc(), 2, Deed::Unrecorded)
 }
 
 #[test]
-fn each_unrecorded_step_of_two_threads_is_counted(rt: HostRuntime) {
-    let passed = passes(&rt, rt.alloc(), 2, Deed::UnrecordedThreads);
-    assert!(rt; passed == Some(true));
+fn each_unrecorded_step_of_two_threads_is_counted(rt: HostRuntime) -> Looked {
+    try_deed(&rt, rt.alloc(), 2, Deed::UnrecordedThreads)
 }

@@ -246,15 +246,15 @@ fn are_three(pools: &[Boxed]) -> bool {
     first.limit() == 100 && first.lent() == 0 && first.refusals() == 1
 }
 
-/// Whether the pools stand as their marks count.
-fn are_in_order(pools: &mut [Boxed], seen: &Seen) -> bool {
+/// Gives each pool a turn. The first mark that isn't met in its place; None if all are.
+fn turn_each(pools: &mut [Boxed], seen: &Seen) -> Option<u64> {
     for (pool, mark) in pools.iter_mut().zip(1u64..) {
         pool.turn();
         if seen.turned_last.load(Ordering::SeqCst) != mark {
-            return false;
+            return Some(mark);
         }
     }
-    true
+    None
 }
 
 #[test]
@@ -266,7 +266,7 @@ fn closed_set_hands_back_the_same_boxes_with_nothing_lent(rt: HostRuntime) -> Re
     };
     let early_drops = seen.drops.load(Ordering::SeqCst);
     let are_three = are_three(&back);
-    let are_in_order = are_in_order(&mut back, &seen);
+    let out_of_order = turn_each(&mut back, &seen);
     drop(back);
     let drops = seen.drops.load(Ordering::SeqCst);
     let lent_at_drop = seen.lent_at_drop.load(Ordering::SeqCst);
@@ -281,7 +281,7 @@ fn closed_set_hands_back_the_same_boxes_with_nothing_lent(rt: HostRuntime) -> Re
     assert_eq!(rt; last, Some((70, Lend::Refused)));
     assert_eq!(rt; early_drops, 0);
     assert!(rt; are_three);
-    assert!(rt; are_in_order);
+    assert_eq!(rt; out_of_order, None);
     assert_eq!(rt; drops, 3);
     assert_eq!(rt; lent_at_drop, 0);
     Ok(())

@@ -3,6 +3,7 @@
 use crate::fixtures::{ENDPOINT, call, zone};
 use book_audit::replays;
 use books::{Book, Entry};
+use facts::ensure_of;
 use pools::{FixedPool, Lend};
 use ras_core::{Datagram, Note, Zone};
 use ras_module::Octets;
@@ -82,8 +83,8 @@ fn alter(alloc: Global, book: &mut Book, what: Change) -> Result<(), Fail> {
     Ok(())
 }
 
-/// Whether the book of a call leads to its zone, once it was changed so.
-fn is_run(
+/// Makes the book of a call, and changes it so. Whether it leads to its zone then.
+fn change_and_replay(
     alloc: Global,
     book: &mut Book,
     zone: &mut Zone<FixedPool>,
@@ -97,41 +98,43 @@ fn is_run(
 // A zone and a book that are dropped at each of many exits make a test costly to prove, so what is
 // asked of them stands in functions that borrow them.
 
-/// Whether the book of a call, which begins at this zone, leads to it, once the book was changed
-/// so.
-fn is_run_from(alloc: Global, zone: &mut Zone<FixedPool>, what: Change) -> Result<bool, Fail> {
+/// Makes a book of a call, which begins at this zone, and changes it so. Whether it leads to the
+/// zone then.
+fn replay_from(alloc: Global, zone: &mut Zone<FixedPool>, what: Change) -> Result<bool, Fail> {
     let mut book = Book::new(alloc, zone.snapshot()?);
-    let passed = is_run(alloc, &mut book, zone, what);
+    let replays = change_and_replay(alloc, &mut book, zone, what);
     drop(book);
-    passed
+    replays
 }
 
+/// Whether the book of a call in a zone of its own leads to that, once it was changed so.
 fn replays_with(alloc: Global, what: Change) -> Result<bool, Fail> {
     let mut zone = zone(alloc)?;
-    let passed = is_run_from(alloc, &mut zone, what);
+    let replays = replay_from(alloc, &mut zone, what);
     drop(zone);
-    passed
+    replays
 }
 
 #[test]
 fn a_book_of_a_call_is_a_run(rt: HostRuntime) -> Result<(), Fail> {
-    assert!(rt; replays_with(rt.alloc(), Change::Nothing)?);
-    Ok(())
+    let replays = replays_with(rt.alloc(), Change::Nothing)?;
+    ensure_of("nothing is changed", replays, "the book leads to the zone")
 }
 
 #[test]
 fn each_change_is_found(rt: HostRuntime) -> Result<(), Fail> {
     let changes = [
-        Change::Octet,
-        Change::LeftOut,
-        Change::Exchanged,
-        Change::UsedIdentifier,
-        Change::UnitMore,
-        Change::Noted,
-        Change::Dropped,
+        ("an octet of a reply", Change::Octet),
+        ("an entry is left out", Change::LeftOut),
+        ("two entries are exchanged", Change::Exchanged),
+        ("an identifier is given twice", Change::UsedIdentifier),
+        ("a unit more is lent", Change::UnitMore),
+        ("a repeat is noted as served", Change::Noted),
+        ("a reply is dropped too early", Change::Dropped),
     ];
-    for what in changes {
-        assert!(rt; !replays_with(rt.alloc(), what)?);
+    for (name, what) in changes {
+        let replays = replays_with(rt.alloc(), what)?;
+        ensure_of(name, !replays, "the change is found")?;
     }
     Ok(())
 }

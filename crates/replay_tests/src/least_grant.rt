@@ -1,6 +1,7 @@
 //! The check of a recorded step whose pool lent, as the least grant has it.
 
 use crate::fixtures::{ENDPOINT, datagram, zone_of};
+use facts::ensure;
 use pools::{FixedPool, Lend};
 use ras_core::{Change, Datagram, Outcome, Snapshot, Zone};
 use ras_module::Octets;
@@ -16,6 +17,12 @@ const ACF_720: [u8; 22] = [
     0xC0, 0x01, 0x00, 0x02, 0x00, 0x00,
 ];
 
+/// The units that the pool lends to the second call: all that the zone has left.
+const LEFT: u64 = 720;
+
+/// The units of a zone in which so much is left behind a call of 1,280.
+const TIGHT: u64 = 2_000;
+
 fn reply_of(alloc: Global, bytes: &[u8]) -> Result<Option<Datagram>, Fail> {
     Ok(Some(Datagram {
         to: ENDPOINT,
@@ -23,9 +30,9 @@ fn reply_of(alloc: Global, bytes: &[u8]) -> Result<Option<Datagram>, Fail> {
     }))
 }
 
-/// Whether the step is accepted with the reply that was recorded alone: not with the other one, and
-/// not if no pool was asked. The snapshot is then the state of the zone.
-fn is_accepted_as_recorded(
+/// Offers the step with the reply that was recorded, which is accepted, and otherwise in vain: with
+/// the other one, and as if no pool was asked. The snapshot is then the state of the zone.
+fn accept_as_recorded(
     alloc: Global,
     snapshot: &mut Snapshot,
     zone: &Zone<FixedPool>,
@@ -33,27 +40,42 @@ fn is_accepted_as_recorded(
     outcome: &mut Outcome,
     recorded: &[u8],
     other: &[u8],
-) -> Result<bool, Fail> {
-    let was_lent = outcome.answer == Some(Lend::Lent(720));
-    let was_told = outcome.output == reply_of(alloc, recorded)?;
+) -> Result<(), Fail> {
+    let lent = Some(Lend::Lent(LEFT));
+    ensure(outcome.answer == lent, "the pool lent what is left")?;
+    ensure(
+        outcome.output == reply_of(alloc, recorded)?,
+        "the reply is the one recorded",
+    )?;
     outcome.output = reply_of(alloc, other)?;
-    let takes_other = accepts(snapshot, event, outcome)?;
+    ensure(
+        !accepts(snapshot, event, outcome)?,
+        "the other reply isn't accepted",
+    )?;
     outcome.output = reply_of(alloc, recorded)?;
     outcome.answer = None;
-    let takes_unasked = accepts(snapshot, event, outcome)?;
-    outcome.answer = Some(Lend::Lent(720));
-    let takes_recorded = accepts(snapshot, event, outcome)?;
-    let is_judged = takes_recorded && !takes_other && !takes_unasked;
-    Ok(was_lent && was_told && is_judged && same(snapshot, zone))
+    ensure(
+        !accepts(snapshot, event, outcome)?,
+        "a step that asks no pool isn't accepted",
+    )?;
+    outcome.answer = lent;
+    ensure(
+        accepts(snapshot, event, outcome)?,
+        "the step is accepted as it was recorded",
+    )?;
+    ensure(
+        same(snapshot, zone),
+        "the snapshot is the state of the zone",
+    )
 }
 
-/// Whether it is so of the step in which a second call is lent 720 units, behind a call of 1,280.
-fn is_second_call_accepted(
+/// Does so with the step in which a second call is lent what is left, behind a call of 1,280 units.
+fn accept_second_call(
     alloc: Global,
     zone: &mut Zone<FixedPool>,
     recorded: &[u8],
     other: &[u8],
-) -> Result<bool, Fail> {
+) -> Result<(), Fail> {
     let requests: [&[u8]; 3] = [&RRQ_101, &RRQ_102, &ARQ];
     for request in requests {
         zone.step(datagram(alloc, request, 0)?)?;
@@ -62,7 +84,7 @@ fn is_second_call_accepted(
     let event = datagram(alloc, &ARQ_OF_A_SECOND_CALL, 1)?;
     let mut outcome = zone.step(event.copy()?)?;
     let event = Change::Event(event);
-    is_accepted_as_recorded(
+    accept_as_recorded(
         alloc,
         &mut snapshot,
         zone,
@@ -75,18 +97,16 @@ fn is_second_call_accepted(
 
 #[test]
 fn a_loan_that_went_back_is_accepted_as_a_reject(rt: HostRuntime) -> Result<(), Fail> {
-    let mut zone = zone_of(rt.alloc(), 2_000, 1_000)?;
-    let passed = is_second_call_accepted(rt.alloc(), &mut zone, &ARJ, &ACF_720);
+    let mut zone = zone_of(rt.alloc(), TIGHT, LEFT + 280)?;
+    let ended = accept_second_call(rt.alloc(), &mut zone, &ARJ, &ACF_720);
     drop(zone);
-    assert!(rt; passed?);
-    Ok(())
+    ended
 }
 
 #[test]
 fn a_loan_of_the_least_grant_is_accepted_as_a_confirm(rt: HostRuntime) -> Result<(), Fail> {
-    let mut zone = zone_of(rt.alloc(), 2_000, 720)?;
-    let passed = is_second_call_accepted(rt.alloc(), &mut zone, &ACF_720, &ARJ);
+    let mut zone = zone_of(rt.alloc(), TIGHT, LEFT)?;
+    let ended = accept_second_call(rt.alloc(), &mut zone, &ACF_720, &ARJ);
     drop(zone);
-    assert!(rt; passed?);
-    Ok(())
+    ended
 }

@@ -4,6 +4,7 @@
 use crate::fixtures::{call, zone};
 use book_audit::replays;
 use books::{Book, Entry};
+use facts::ensure_of;
 use pools::{Figures, FixedPool};
 use ras_core::{Change, Moment, Note, PoolChange, Zone, figures_of};
 use std::alloc::Global;
@@ -93,50 +94,56 @@ fn alter(book: &mut Book, what: Altered) -> Result<(), Fail> {
     Ok(())
 }
 
-/// Whether the book of a call and of a replacement leads to its zone, once it was altered so.
-fn is_run(book: &mut Book, zone: &mut Zone<FixedPool>, what: Altered) -> Result<bool, Fail> {
+/// Adds a replacement to the book of a call, and alters it so. Whether it leads to its zone then.
+fn replace_and_replay(
+    book: &mut Book,
+    zone: &mut Zone<FixedPool>,
+    what: Altered,
+) -> Result<bool, Fail> {
     replace(book, zone)?;
     alter(book, what)?;
     Ok(replays(book, zone)?)
 }
 
-/// Whether it is so of a book that begins at this zone.
-fn is_run_from(alloc: Global, zone: &mut Zone<FixedPool>, what: Altered) -> Result<bool, Fail> {
+/// Does so with a book that begins at this zone.
+fn replay_from(alloc: Global, zone: &mut Zone<FixedPool>, what: Altered) -> Result<bool, Fail> {
     let mut book = Book::new(alloc, zone.snapshot()?);
     let called = call(alloc, &mut book, zone);
-    let passed = match called {
-        Ok(()) => is_run(&mut book, zone, what),
+    let replays = match called {
+        Ok(()) => replace_and_replay(&mut book, zone, what),
         Err(fail) => Err(fail),
     };
     drop(book);
-    passed
+    replays
 }
 
+/// Whether such a book in a zone of its own leads to that, once it was altered so.
 fn replays_with(alloc: Global, what: Altered) -> Result<bool, Fail> {
     let mut zone = zone(alloc)?;
-    let passed = is_run_from(alloc, &mut zone, what);
+    let replays = replay_from(alloc, &mut zone, what);
     drop(zone);
-    passed
+    replays
 }
 
 #[test]
 fn a_book_with_a_replaced_pool_is_a_run(rt: HostRuntime) -> Result<(), Fail> {
-    assert!(rt; replays_with(rt.alloc(), Altered::Nothing)?);
-    Ok(())
+    let replays = replays_with(rt.alloc(), Altered::Nothing)?;
+    ensure_of("nothing is altered", replays, "the book leads to the zone")
 }
 
 #[test]
 fn each_change_of_a_replacement_is_found(rt: HostRuntime) -> Result<(), Fail> {
     let changes = [
-        Altered::Told,
-        Altered::NotIdle,
-        Altered::TooSmall,
-        Altered::NoPool,
-        Altered::Limit,
-        Altered::Later,
+        ("another pool is told", Altered::Told),
+        ("the fresh pool has a loan", Altered::NotIdle),
+        ("the fresh pool is too small", Altered::TooSmall),
+        ("no pool was there", Altered::NoPool),
+        ("the fresh pool has another limit", Altered::Limit),
+        ("it was a millisecond later", Altered::Later),
     ];
-    for what in changes {
-        assert!(rt; !replays_with(rt.alloc(), what)?);
+    for (name, what) in changes {
+        let replays = replays_with(rt.alloc(), what)?;
+        ensure_of(name, !replays, "the change is found")?;
     }
     Ok(())
 }

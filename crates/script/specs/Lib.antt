@@ -4,11 +4,13 @@ pub mod Fields
 pub mod Settings
 pub mod Pools
 pub mod Lines
+pub mod Outcomes
 pub mod Said
 pub mod Scripts
 pub mod Faults
 pub mod Streams
 pub mod Reads
 pub mod Prints
+pub mod EventLines
 pub mod Deeds
 pub mod Runs

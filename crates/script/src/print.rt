@@ -121,7 +121,7 @@ fn write_digits<W: Write>(octets: &[u8], out: &mut W) -> io::Result<()>
     out.write_all(digits)
 }
 
-fn write_hex<W: Write>(octets: &[u8], out: &mut W) -> io::Result<()>
+pub(crate) fn write_hex<W: Write>(octets: &[u8], out: &mut W) -> io::Result<()>
     ensures { OnOk result (Appends (W.contents out.old) (W.contents out.new)
         (encode_upper octets.now)) }
 {
@@ -302,11 +302,7 @@ fn write_long_line<W: Write>(number: usize, outcome: &Outcome, out: &mut W) -> i
 
 /// Writes the line of an outcome, with this number. Most lines are short, and are written in one
 /// piece.
-pub(crate) fn write_outcome<W: Write>(
-    number: usize,
-    outcome: &Outcome,
-    out: &mut W,
-) -> io::Result<()>
+pub fn write_outcome<W: Write>(number: usize, outcome: &Outcome, out: &mut W) -> io::Result<()>
     ensures { OnOk result (Appends (W.contents out.old) (W.contents out.new)
         (outcome_line number outcome.now)) }
 {

@@ -19,8 +19,10 @@ use ras_core::{Config, Event, NewFault, Note, Outcome, StepFault, Zone, prepare}
 use std::alloc::Global;
 use std::io::Write;
 
-/// The zone of a script before its first event.
-fn zone_of<P: Pool>(alloc: Global, config: Config, pools: Vec<P>) -> Result<Zone<P>, RunFault>
+/// The zone of a script before its first event, with these pools.
+///
+/// promise script-zone-begins: A script's zone begins as its lines say (`start_of`).
+pub fn zone_of<P: Pool>(alloc: Global, config: Config, pools: Vec<P>) -> Result<Zone<P>, RunFault>
     ensures start { IfOk result
         (λ zone. zone ≡ start_of config (map P.account pools.items)) }
     ensures pools { IfOk result (λ _. are_pools_of config (map P.account pools.items) ≡ true) }

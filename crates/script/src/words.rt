@@ -1,11 +1,11 @@
 //! The words of a line.
 
-ghost use Rattle.std.specs.Prelude.{◌≡◌, ◌∷◌, [], MatchOption};
-ghost use Rattle.script.specs.Words.{words_of};
+ghost use Rattle.std.specs.Prelude.{◌≡◌, ◌∷◌, [], MatchOption, drop, if◌then◌else◌};
+ghost use Rattle.script.specs.Words.{begins_with, words_of};
 
 use crate::long_parts::long_parted;
 use std::marker::Model;
-use value_texts::parted;
+use value_texts::{is_word, parted};
 
 /// The words of a line that are left. Contracts see the list of them.
 #[derive(Drop)]
@@ -58,5 +58,20 @@ impl<'a> Words<'a> {
             }
         }
         None
+    }
+
+    /// Passes over the next word if it is this one, and says whether it is.
+    pub fn passes(&mut self, word: &str) -> bool
+        ensures next { result ≡ begins_with word.now self.old }
+        ensures rest { self.new ≡ if result then drop 1 self.old else self.old }
+    {
+        let before = self.rest;
+        match self.next_word() {
+            Some(next) if is_word(next, word) => true,
+            _ => {
+                self.rest = before;
+                false
+            }
+        }
     }
 }

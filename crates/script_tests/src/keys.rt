@@ -1,9 +1,19 @@
 //! The whole-number settings of a zone, with the names, ranges and defaults of docs/PROFILE.md.
 
+use facts::ensure_of;
 use ras_module::{Address, Name};
 use std::alloc::Global;
 use std::test::Fail;
 use zone_config::{ConfigParts, Key, Networks};
+
+/// The most milliseconds that most waits may take: an hour.
+const HOUR: u64 = 3_600_000;
+
+/// The greatest number of 32 bits.
+const MOST_OF_32_BITS: u64 = 4_294_967_295;
+
+/// The most endpoints, and the most calls.
+const MOST: u64 = 20_000;
 
 /// For each key its name, its path, the least and the greatest number that it takes, and its
 /// default.
@@ -21,7 +31,7 @@ const ROWS: [(Key, &str, &str, u64, u64, u64); 14] = [
         "call_limit",
         "zone.call_limit",
         1,
-        4_294_967_295,
+        MOST_OF_32_BITS,
         20_000,
     ),
     (
@@ -29,7 +39,7 @@ const ROWS: [(Key, &str, &str, u64, u64, u64); 14] = [
         "time_to_live",
         "zone.time_to_live",
         1,
-        4_294_967_295,
+        MOST_OF_32_BITS,
         60,
     ),
     (
@@ -37,31 +47,17 @@ const ROWS: [(Key, &str, &str, u64, u64, u64); 14] = [
         "endpoints",
         "zone.endpoints",
         1,
-        20_000,
+        MOST,
         1_000,
     ),
-    (Key::Calls, "calls", "zone.calls", 1, 20_000, 1_000),
+    (Key::Calls, "calls", "zone.calls", 1, MOST, 1_000),
     (Key::Kept, "kept", "zone.kept", 1, 65_536, 4_096),
-    (Key::Window, "window", "zone.window", 1, 3_600_000, 10_000),
-    (
-        Key::Silence,
-        "silence",
-        "zone.silence",
-        1,
-        3_600_000,
-        30_000,
-    ),
+    (Key::Window, "window", "zone.window", 1, HOUR, 10_000),
+    (Key::Silence, "silence", "zone.silence", 1, HOUR, 30_000),
     (Key::Delay, "delay", "zone.delay", 1, 65_535, 500),
     (Key::Retries, "retries", "zone.retries", 1, 16, 3),
     (Key::Asks, "asks", "zone.asks", 1, 16, 3),
-    (
-        Key::AskWait,
-        "ask_wait",
-        "zone.ask_wait",
-        1,
-        3_600_000,
-        5_000,
-    ),
+    (Key::AskWait, "ask_wait", "zone.ask_wait", 1, HOUR, 5_000),
     (
         Key::PoolTurn,
         "pool_turn",
@@ -75,7 +71,7 @@ const ROWS: [(Key, &str, &str, u64, u64, u64); 14] = [
         "least_grant",
         "zone.least_grant",
         0,
-        4_294_967_295,
+        MOST_OF_32_BITS,
         0,
     ),
 ];
@@ -83,7 +79,7 @@ const ROWS: [(Key, &str, &str, u64, u64, u64); 14] = [
 #[test]
 fn the_keys_stand_in_the_order_of_the_table(rt: HostRuntime) {
     for (place, row) in ROWS.iter().enumerate() {
-        assert_eq!(rt; Key::ALL[place], row.0);
+        assert_eq!(rt; Key::ALL[place], row.0, "{}", row.1);
     }
 }
 
@@ -124,56 +120,68 @@ fn unset_parts(alloc: Global) -> Result<ConfigParts, Fail> {
     Ok(ConfigParts::new(identifier, address, networks))
 }
 
-/// Whether each key reads its default.
-fn are_defaults(parts: &ConfigParts) -> bool {
-    for (key, _, _, _, _, default) in ROWS {
-        if key.get(parts) != default {
-            return false;
-        }
+/// Reads each key's default in settings of which no number is set.
+fn read_defaults(parts: &ConfigParts) -> Result<(), Fail> {
+    for (key, name, _, _, _, default) in ROWS {
+        ensure_of(name, key.get(parts) == default, "it reads its default")?;
     }
-    true
+    Ok(())
 }
 
-/// Whether the settings have the numbers 1 to 14, in the order of the table.
-fn are_counted(parts: &ConfigParts) -> bool {
-    (parts.limit, parts.call_limit, parts.time_to_live) == (1, 2, 3)
-        && (parts.endpoints, parts.calls, parts.kept) == (4, 5, 6)
-        && (parts.window, parts.silence, parts.delay) == (7, 8, 9)
-        && (parts.retries, parts.asks) == (10, 11)
-        && (parts.ask_wait, parts.pool_turn, parts.least_grant) == (12, 13, 14)
-}
-
-/// Whether a number that is set under a key is the one that is read, and is that of its setting.
-fn are_set(parts: &mut ConfigParts) -> bool {
-    for (key, number) in [
-        (Key::Limit, 1),
-        (Key::CallLimit, 2),
-        (Key::TimeToLive, 3),
-        (Key::Endpoints, 4),
-        (Key::Calls, 5),
-        (Key::Kept, 6),
-        (Key::Window, 7),
-        (Key::Silence, 8),
-        (Key::Delay, 9),
-        (Key::Retries, 10),
-        (Key::Asks, 11),
-        (Key::AskWait, 12),
-        (Key::PoolTurn, 13),
-        (Key::LeastGrant, 14),
-    ] {
+/// Sets the keys to the numbers 1 to 14, each to its place in the table, and reads them by the keys.
+fn set_each(parts: &mut ConfigParts) -> Result<(), Fail> {
+    let mut number = 0u64;
+    for (key, name, _, _, _, _) in ROWS {
+        number = number.saturating_add(1);
         key.set(parts, number);
-        if key.get(parts) != number {
-            return false;
-        }
+        ensure_of(
+            name,
+            key.get(parts) == number,
+            "it reads what it was set to",
+        )?;
     }
-    are_counted(parts)
+    Ok(())
+}
+
+/// Reads the same numbers in the settings themselves.
+fn read_settings(parts: &ConfigParts) -> Result<(), Fail> {
+    let settings = [
+        ("limit", parts.limit, 1),
+        ("call_limit", parts.call_limit, 2),
+        ("time_to_live", parts.time_to_live, 3),
+        ("endpoints", parts.endpoints, 4),
+        ("calls", parts.calls, 5),
+        ("kept", parts.kept, 6),
+        ("window", parts.window, 7),
+        ("silence", parts.silence, 8),
+        ("delay", parts.delay, 9),
+        ("retries", parts.retries, 10),
+        ("asks", parts.asks, 11),
+        ("ask_wait", parts.ask_wait, 12),
+        ("pool_turn", parts.pool_turn, 13),
+        ("least_grant", parts.least_grant, 14),
+    ];
+    for (name, found, number) in settings {
+        ensure_of(
+            name,
+            found == number,
+            "the setting is the number of its key",
+        )?;
+    }
+    Ok(())
+}
+
+/// Reads, sets and reads each key.
+fn use_each(parts: &mut ConfigParts) -> Result<(), Fail> {
+    read_defaults(parts)?;
+    set_each(parts)?;
+    read_settings(parts)
 }
 
 #[test]
 fn each_key_is_one_setting(rt: HostRuntime) -> Result<(), Fail> {
     let mut parts = unset_parts(rt.alloc())?;
-    let passed = are_defaults(&parts) && are_set(&mut parts);
+    let ended = use_each(&mut parts);
     drop(parts);
-    assert!(rt; passed);
-    Ok(())
+    ended
 }

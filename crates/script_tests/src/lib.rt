@@ -5,6 +5,8 @@
 #[cfg(test)]
 mod keys;
 #[cfg(test)]
+mod outcome_lines;
+#[cfg(test)]
 mod outcomes;
 #[cfg(test)]
 mod printing;

@@ -1,5 +1,6 @@
 //! Outcomes of steps in which no request was served.
 
+use facts::ensure;
 use ras_module::{Address, Octets};
 use std::alloc::{AllocError, Global};
 use std::test::Fail;
@@ -10,10 +11,13 @@ const ENDPOINT: Address = Address {
     port: 1719,
 };
 
-/// A DCF, as it is sent to an endpoint.
+/// A DCF.
+const DCF: [u8; 3] = [0x3C, 0x00, 0x04];
+
+/// The DCF, as it is sent to an endpoint.
 fn confirm(alloc: Global) -> Result<Datagram, AllocError> {
     let mut bytes = Vec::new(alloc);
-    bytes.extend_from_slice(&[0x3C, 0x00, 0x04])?;
+    bytes.extend_from_slice(&DCF)?;
     Ok(Datagram {
         to: ENDPOINT,
         bytes: Octets::from_vec(bytes),
@@ -29,25 +33,28 @@ fn has_only(outcome: &Outcome, note: Note) -> bool {
         && outcome.given.is_none()
 }
 
-/// Whether this is sent to the endpoint in a step that notes a repeat.
-fn is_sent(alloc: Global) -> Result<bool, AllocError> {
+/// Notes a repeat, for which the DCF is sent, and an idle turn.
+fn note(alloc: Global) -> Result<(), Fail> {
     let outcome = Outcome::noted(Note::Kept, Some(confirm(alloc)?));
-    let is_right = match &outcome.output {
-        Some(output) => output.to == ENDPOINT
-            && output.bytes.as_slice() == [0x3C, 0x00, 0x04].as_slice(),
+    let is_sent = match &outcome.output {
+        Some(output) => output.to == ENDPOINT && output.bytes.as_slice() == DCF.as_slice(),
         None => false,
     };
-    Ok(is_right && has_only(&outcome, Note::Kept))
+    let is_kept = has_only(&outcome, Note::Kept);
+    drop(outcome);
+    ensure(is_sent, "the datagram of a repeat is sent")?;
+    ensure(is_kept, "a repeat is noted alone")?;
+    let idle = Outcome::noted(Note::Idle, None);
+    let is_silent = idle.output.is_none();
+    let is_idle = has_only(&idle, Note::Idle);
+    drop(idle);
+    ensure(is_silent, "nothing is sent in an idle turn")?;
+    ensure(is_idle, "an idle turn is noted alone")
 }
 
 #[test]
 fn an_outcome_has_what_is_noted_and_sent(rt: HostRuntime) -> Result<(), Fail> {
-    assert!(rt; is_sent(rt.alloc())?);
-    let idle = Outcome::noted(Note::Idle, None);
-    let is_idle = has_only(&idle, Note::Idle) && idle.output.is_none();
-    drop(idle);
-    assert!(rt; is_idle);
-    Ok(())
+    note(rt.alloc())
 }
 
 /// Whether nothing is sent for a datagram that is ignored for this cause.

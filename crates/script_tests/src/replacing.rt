@@ -1,5 +1,6 @@
 //! Scripts in which a pool is to be replaced while a call lives.
 
+use facts::ensure_of;
 use pools::{Lend, Pool, PoolSpec, StandardPool};
 use script::{Input, Output, RunFault, read_script, run_script};
 use std::alloc::{AllocError, Global};
@@ -41,9 +42,9 @@ fn pools_of(alloc: Global, specs: &[PoolSpec], lent: u32) -> Result<Vec<Standard
     Ok(pools)
 }
 
-/// Whether this is printed behind the lines of the call if these are the lines behind it. The fresh
-/// pools have lent so much before.
-fn is_printed(alloc: Global, lines: &[&str], lent: u32, printed: &str) -> Result<bool, Fail> {
+/// Runs the call with these lines behind it, for which this has to be printed. The fresh pools have
+/// lent so much before.
+fn run(alloc: Global, row: &str, lines: &[&str], lent: u32, printed: &str) -> Result<(), Fail> {
     let mut text = CALL.to_vec(alloc)?;
     for line in lines {
         text.extend_from_slice(line.as_bytes())?;
@@ -57,7 +58,8 @@ fn is_printed(alloc: Global, lines: &[&str], lent: u32, printed: &str) -> Result
     run_script(alloc, script, pools, fresh, &mut out)?;
     let mut all = CALL_LINES.to_vec(alloc)?;
     all.extend_from_slice(printed.as_bytes())?;
-    Ok(out.into_writer().as_slice() == all.as_slice())
+    let is_printed = out.into_writer().as_slice() == all.as_slice();
+    ensure_of(row, is_printed, "it is printed so")
 }
 
 /// The call asks for 2,000 units in place of 1,280.
@@ -73,23 +75,26 @@ fn a_call_keeps_its_bandwidth_over_a_replaced_pool(rt: HostRuntime) -> Result<()
     let lines = ["replace 0 0 fixed 2000", MORE, SECOND];
     let printed = "4 replaced 0\n5 served lent 720 > 10.0.0.5:1719 3400064007D0\n\
         6 served refused > 10.0.0.5:1719 2C000620\n";
-    assert!(rt; is_printed(rt.alloc(), &lines, 0, printed)?);
-    Ok(())
+    run(rt.alloc(), "a pool of 2,000 units", &lines, 0, printed)
 }
 
 #[test]
 fn a_fresh_pool_lends_by_its_own_rule(rt: HostRuntime) -> Result<(), Fail> {
     let lines = ["replace 0 0 paced 2500 1280", SECOND];
     let printed = "4 replaced 0\n5 served wait > 10.0.0.5:1719 800500000601F3\n";
-    assert!(rt; is_printed(rt.alloc(), &lines, 0, printed)?);
-    Ok(())
+    run(rt.alloc(), "a paced pool", &lines, 0, printed)
 }
 
 #[test]
 fn a_pool_is_replaced_by_one_of_just_enough(rt: HostRuntime) -> Result<(), Fail> {
     let lines = ["replace 0 0 fixed 1280"];
-    assert!(rt; is_printed(rt.alloc(), &lines, 0, "4 replaced 0\n")?);
-    Ok(())
+    run(
+        rt.alloc(),
+        "a pool of just enough",
+        &lines,
+        0,
+        "4 replaced 0\n",
+    )
 }
 
 #[test]
@@ -103,10 +108,7 @@ fn a_refused_pool_changes_nothing(rt: HostRuntime) -> Result<(), Fail> {
         let printed = format!(in rt.alloc();
             "4 not replaced {number}\n5 served lent 720 > 10.0.0.5:1719 3400064007D0\n"
         )?;
-        assert!(rt;
-            is_printed(rt.alloc(), &[line, MORE], 0, &printed)?,
-            "{line}"
-        );
+        run(rt.alloc(), line, &[line, MORE], 0, &printed)?;
     }
     Ok(())
 }
@@ -116,8 +118,7 @@ fn a_fresh_pool_that_has_lent_something_is_refused(rt: HostRuntime) -> Result<()
     let lines = ["replace 0 0 fixed 2000", "replace 0 0 fixed 2500", MORE];
     let printed = "4 not replaced 3\n5 not replaced 3\n\
         6 served lent 720 > 10.0.0.5:1719 3400064007D0\n";
-    assert!(rt; is_printed(rt.alloc(), &lines, 1, printed)?);
-    Ok(())
+    run(rt.alloc(), "pools with a loan", &lines, 1, printed)
 }
 
 #[test]
@@ -129,8 +130,13 @@ fn a_refused_replacement_leaves_the_clock(rt: HostRuntime) -> Result<(), Fail> {
         "turn 0",
     ];
     let printed = "4 not replaced 2\n5 idle\n6 replaced 0\n7 idle\n";
-    assert!(rt; is_printed(rt.alloc(), &lines, 0, printed)?);
-    Ok(())
+    run(
+        rt.alloc(),
+        "a refused pool of the next day",
+        &lines,
+        0,
+        printed,
+    )
 }
 
 /// What a run that is to replace one pool returns with so many fresh pools, and how many octets it

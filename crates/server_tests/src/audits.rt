@@ -4,8 +4,9 @@ ghost use Rattle.udp_server.specs.Plans.{IsPlan};
 
 use crate::clocks::clocks;
 use crate::ends::{Giver, Room, givers};
-use crate::fixtures::{PLAN, zone};
+use crate::fixtures::{Looked, NOT_SERVED, PLAN, zone};
 use book_audit::audit;
+use facts::expect;
 use pools::{FixedPool, Pool};
 use std::alloc::Global;
 use std::rt::Clock;
@@ -17,29 +18,40 @@ use udp_server::{Open, Plan, Report, serve_zone};
 /// How many datagrams each of four ends gives.
 const DATAGRAMS: u64 = 100;
 
-/// Whether the receipts agree with the history: there are as many as entries, and each datagram was
-/// answered.
-fn is_audited<P: Pool>(report: &Report<P>) -> bool {
+/// How many datagrams all ends give.
+const ALL: u64 = 4 * DATAGRAMS;
+
+/// Audits the history, with which the receipts agree: there are as many as entries, and each
+/// datagram was answered.
+fn audit_report<P: Pool>(report: &Report<P>) -> Looked {
     let finished = &report.finished;
     let entries = finished.first().saturating_add(finished.entries().len());
-    match audit(&report.chapters, finished, &report.receipts) {
-        Ok(totals) => {
-            totals.datagrams == 4 * DATAGRAMS
-                && totals.datagrams == report.datagrams
-                && totals.turns == report.turns
-                && report.receipts.len() == entries
-        }
-        Err(_) => false,
-    }
+    let Ok(totals) = audit(&report.chapters, finished, &report.receipts) else {
+        return Err("the receipts agree with the history");
+    };
+    expect(totals.datagrams == ALL, "the audit counts each datagram")?;
+    expect(
+        totals.datagrams == report.datagrams,
+        "the report counts as many",
+    )?;
+    expect(totals.turns == report.turns, "both count as many turns")?;
+    expect(
+        report.receipts.len() == entries,
+        "there are as many receipts as entries",
+    )
 }
 
-/// Whether each reply was sent, or found no place in its ring.
-fn are_all_sent<P: Pool>(report: &Report<P>, sent: u64) -> bool {
-    report.sent == sent
-        && report.sent.saturating_add(report.dropped) == 4 * DATAGRAMS
-        && report.refused == 0
-        && report.receive_faults == 0
-        && report.send_faults == 0
+/// Looks what became of the replies: each was sent, or found no place in its ring.
+fn look_at_replies<P: Pool>(report: &Report<P>, sent: u64) -> Looked {
+    expect(
+        report.sent == sent,
+        "the report counts as many replies as were sent",
+    )?;
+    let replies = report.sent.saturating_add(report.dropped);
+    expect(replies == ALL, "each reply was sent, or found no place")?;
+    expect(report.refused == 0, "no step was refused")?;
+    expect(report.receive_faults == 0, "no receive failed")?;
+    expect(report.send_faults == 0, "no send failed")
 }
 
 /// What a server over four ends in memory leaves.
@@ -69,13 +81,14 @@ fn report<R: Threads + Wait + Clock + Sync>(
     .ok()
 }
 
-/// Whether the history of a server whose chapters end after this many entries passes its audit, and
-/// whether it has any chapters.
-fn passes<R: Threads + Wait + Clock + Sync>(
+/// Serves with chapters that end after this many entries, and audits the history, which has any
+/// chapters or none.
+fn serve_and_audit<R: Threads + Wait + Clock + Sync>(
     rt: &R,
     alloc: Global,
     chapter: usize,
-) -> Option<(bool, bool)> {
+    has_chapters: bool,
+) -> Looked {
     let (sent, reads, impatient) = (AtomicU64::new(0), AtomicU64::new(0), AtomicU64::new(0));
     let room = Room {
         rt,
@@ -84,58 +97,77 @@ fn passes<R: Threads + Wait + Clock + Sync>(
         impatient: &impatient,
     };
     let plan = Plan { chapter, ..PLAN };
-    let report = report(rt, alloc, &room, plan)?;
-    let passes = is_audited(&report)
-        && are_all_sent(&report, sent.load(Ordering::SeqCst))
-        && report.turns >= 1
-        && impatient.load(Ordering::SeqCst) == 0;
-    Some((passes, !report.chapters.is_empty()))
+    let report = report(rt, alloc, &room, plan).ok_or(NOT_SERVED)?;
+    let are_audited = audit_report(&report);
+    let are_sent = look_at_replies(&report, sent.load(Ordering::SeqCst));
+    let turns = report.turns;
+    let has_any = !report.chapters.is_empty();
+    drop(report);
+    are_audited?;
+    are_sent?;
+    expect(turns >= 1, "a turn was made")?;
+    expect(
+        impatient.load(Ordering::SeqCst) == 0,
+        "no end lost its patience",
+    )?;
+    expect(
+        has_any == has_chapters,
+        "there are chapters if they end, and none if not",
+    )
 }
 
 #[test]
-fn a_running_server_is_audited(rt: HostRuntime) {
-    let passed = passes(&rt, rt.alloc(), 0);
-    assert!(rt; passed == Some((true, false)));
+fn a_running_server_is_audited(rt: HostRuntime) -> Looked {
+    serve_and_audit(&rt, rt.alloc(), 0, false)
 }
 
 #[test]
-fn a_running_server_is_audited_in_chapters(rt: HostRuntime) {
-    let passed = passes(&rt, rt.alloc(), 10);
-    assert!(rt; passed == Some((true, true)));
+fn a_running_server_is_audited_in_chapters(rt: HostRuntime) -> Looked {
+    serve_and_audit(&rt, rt.alloc(), 10, true)
 }
 
-/// Whether these are two chapters of one turn each, one behind the other, right before what is
-/// left.
-fn are_latest<P: Pool>(report: &Report<P>) -> bool {
+/// Finds two chapters of one turn each, one behind the other, right before what is left.
+fn find_latest<P: Pool>(report: &Report<P>) -> Looked {
     let [one, other] = report.chapters.as_slice() else {
-        return false;
+        return Err("two chapters are kept");
     };
     let finished = &report.finished;
-    one.entries().len() == 1
-        && other.entries().len() == 1
-        && one.first().saturating_add(1) == other.first()
-        && other.first().saturating_add(1) == finished.first()
-        && finished.entries().is_empty()
+    let behind_one = one.first().saturating_add(1);
+    let behind_other = other.first().saturating_add(1);
+    expect(one.entries().len() == 1, "the first chapter has one turn")?;
+    expect(
+        other.entries().len() == 1,
+        "the second chapter has one turn",
+    )?;
+    expect(
+        behind_one == other.first(),
+        "the second chapter follows the first one",
+    )?;
+    expect(
+        behind_other == finished.first(),
+        "what is left follows the second chapter",
+    )?;
+    expect(finished.entries().is_empty(), "it has no entries")
 }
 
-/// Whether all steps were let go: none is left, and the zone is where they led.
-fn are_let_go<P: Pool>(report: &Report<P>) -> bool {
+/// Finds all steps let go: none is left, and the zone is where they led.
+fn find_none<P: Pool>(report: &Report<P>) -> Looked {
     let finished = &report.finished;
     let steps = report.datagrams.saturating_add(report.turns);
-    finished.first() as u64 == steps
-        && finished.entries().is_empty()
-        && finished.base().is_same(finished.zone().machine())
-        && report.chapters.is_empty()
-        && report.turns >= 1
+    let is_same = finished.base().is_same(finished.zone().machine());
+    expect(
+        finished.first() as u64 == steps,
+        "what is left begins behind all steps",
+    )?;
+    expect(finished.entries().is_empty(), "it has no entries")?;
+    expect(is_same, "it begins with the state of the zone")?;
+    expect(report.chapters.is_empty(), "no chapter is kept")?;
+    expect(report.turns >= 1, "a turn was made")
 }
 
-/// Whether a server that ends a chapter after each turn has the latest two, if it keeps two of
-/// them; or whether it has let all go, if it keeps none.
-fn keeps_latest<R: Threads + Wait + Clock + Sync>(
-    rt: &R,
-    alloc: Global,
-    latest: usize,
-) -> Option<bool> {
+/// Serves with a chapter that ends after each turn. The latest two are kept, if two of them are to
+/// be; or all are let go, if none is.
+fn keep_latest<R: Threads + Wait + Clock + Sync>(rt: &R, alloc: Global, latest: usize) -> Looked {
     let (sent, reads, impatient) = (AtomicU64::new(0), AtomicU64::new(0), AtomicU64::new(0));
     let room = Room {
         rt,
@@ -148,21 +180,21 @@ fn keeps_latest<R: Threads + Wait + Clock + Sync>(
         latest,
         ..PLAN
     };
-    let report = report(rt, alloc, &room, plan)?;
+    let report = report(rt, alloc, &room, plan).ok_or(NOT_SERVED)?;
     if latest == 0 {
-        return Some(are_let_go(&report));
+        find_none(&report)
+    } else {
+        find_latest(&report)
     }
-    Some(are_latest(&report))
 }
 
 #[test]
-fn the_latest_chapters_are_kept(rt: HostRuntime) {
-    let kept = keeps_latest(&rt, rt.alloc(), 2);
-    assert!(rt; kept == Some(true));
+fn the_latest_chapters_are_kept(rt: HostRuntime) -> Looked {
+    keep_latest(&rt, rt.alloc(), 2)
 }
 
-/// Whether a server that records nothing serves and counts as any does, and no step is left.
-fn is_unrecorded<R: Threads + Wait + Clock + Sync>(rt: &R, alloc: Global) -> Option<bool> {
+/// Serves without a record, and counts as any server does. No step is left.
+fn serve_unrecorded<R: Threads + Wait + Clock + Sync>(rt: &R, alloc: Global) -> Looked {
     let (sent, reads, impatient) = (AtomicU64::new(0), AtomicU64::new(0), AtomicU64::new(0));
     let room = Room {
         rt,
@@ -176,24 +208,28 @@ fn is_unrecorded<R: Threads + Wait + Clock + Sync>(rt: &R, alloc: Global) -> Opt
         receipts: false,
         ..PLAN
     };
-    let report = report(rt, alloc, &room, plan)?;
-    Some(
-        are_let_go(&report)
-            && are_all_sent(&report, sent.load(Ordering::SeqCst))
-            && report.datagrams == 4 * DATAGRAMS
-            && report.receipts.is_empty()
-            && impatient.load(Ordering::SeqCst) == 0,
+    let report = report(rt, alloc, &room, plan).ok_or(NOT_SERVED)?;
+    let are_gone = find_none(&report);
+    let are_sent = look_at_replies(&report, sent.load(Ordering::SeqCst));
+    let datagrams = report.datagrams;
+    let has_receipt = !report.receipts.is_empty();
+    drop(report);
+    are_gone?;
+    are_sent?;
+    expect(datagrams == ALL, "each datagram is counted")?;
+    expect(!has_receipt, "no step has a receipt")?;
+    expect(
+        impatient.load(Ordering::SeqCst) == 0,
+        "no end lost its patience",
     )
 }
 
 #[test]
-fn a_server_without_records_serves_as_any(rt: HostRuntime) {
-    let passed = is_unrecorded(&rt, rt.alloc());
-    assert!(rt; passed == Some(true));
+fn a_server_without_records_serves_as_any(rt: HostRuntime) -> Looked {
+    serve_unrecorded(&rt, rt.alloc())
 }
 
 #[test]
-fn a_server_without_chapters_lets_its_steps_go(rt: HostRuntime) {
-    let kept = keeps_latest(&rt, rt.alloc(), 0);
-    assert!(rt; kept == Some(true));
+fn a_server_without_chapters_lets_its_steps_go(rt: HostRuntime) -> Looked {
+    keep_latest(&rt, rt.alloc(), 0)
 }

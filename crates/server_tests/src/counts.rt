@@ -5,7 +5,8 @@ ghost use Rattle.udp_server.specs.Ends.{fault_count};
 ghost use Rattle.udp_server.specs.Plans.{IsPlan};
 
 use crate::clocks::clocks;
-use crate::fixtures::{ENDPOINT, PLAN, discovery, zone};
+use crate::fixtures::{ENDPOINT, Looked, NOT_SERVED, PLAN, discovery, zone};
+use facts::expect;
 use pools::{FixedPool, Pool};
 use std::alloc::Global;
 use std::rt::Clock;
@@ -188,25 +189,29 @@ fn a_datagram_that_is_too_long_has_no_reply(rt: HostRuntime) {
     assert!(rt; counts == Some((2, 1)));
 }
 
-const GIVING: [Deed; 9] = [Deed::Gives; 9];
+/// How many datagrams are given to a ring of one.
+const MANY: u64 = 9;
 
-/// Whether each reply was sent, found no place in a ring of one, or was lost by a failed send.
-fn are_replies_counted<R: Threads + Wait + Clock + Sync>(rt: &R, alloc: Global) -> Option<bool> {
+const GIVING: [Deed; MANY as usize] = [Deed::Gives; MANY as usize];
+
+/// Serves with a ring of one, whose sender's every second send fails. Each reply was sent, found no
+/// place, or was lost by a failed send.
+fn count_replies<R: Threads + Wait + Clock + Sync>(rt: &R, alloc: Global) -> Looked {
     let plan = Plan { ring: 1, ..PLAN };
-    let report = served(rt, alloc, &GIVING, plan)?;
-    let counted = report.sent.saturating_add(report.dropped);
-    let failed = report.send_faults;
-    Some(
-        outputs(&report) == 9
-            && counted.saturating_add(failed) == 9
-            && (report.sent == failed || report.sent == failed.saturating_add(1)),
-    )
+    let report = served(rt, alloc, &GIVING, plan).ok_or(NOT_SERVED)?;
+    let replies = outputs(&report);
+    let (sent, dropped, failed) = (report.sent, report.dropped, report.send_faults);
+    drop(report);
+    let counted = sent.saturating_add(dropped).saturating_add(failed);
+    let is_half = sent == failed || sent == failed.saturating_add(1);
+    expect(replies == MANY, "each datagram is answered")?;
+    expect(counted == MANY, "each reply is counted once")?;
+    expect(is_half, "every second send failed")
 }
 
 #[test]
-fn each_reply_is_counted_once(rt: HostRuntime) {
-    let counted = are_replies_counted(&rt, rt.alloc());
-    assert!(rt; counted == Some(true));
+fn each_reply_is_counted_once(rt: HostRuntime) -> Looked {
+    count_replies(&rt, rt.alloc())
 }
 
 /// What a server with `ends` receiving ends, and with clocks for `clocked` ends, returns.
@@ -244,8 +249,8 @@ fn wrong_counts_are_refused(rt: HostRuntime) {
     let many = refusal(&rt, alloc, 2, 3);
     let sixteen = refusal(&rt, alloc, 16, 16);
     let fifteen = refusal(&rt, alloc, 15, 15);
-    assert!(rt; few == Some(ServeFault::WrongCounts));
-    assert!(rt; many == Some(ServeFault::WrongCounts));
-    assert!(rt; sixteen == Some(ServeFault::WrongCounts));
-    assert!(rt; fifteen == None);
+    assert!(rt; few == Some(ServeFault::WrongCounts), "too few clocks");
+    assert!(rt; many == Some(ServeFault::WrongCounts), "too many clocks");
+    assert!(rt; sixteen == Some(ServeFault::WrongCounts), "too many ends");
+    assert!(rt; fifteen == None, "as many ends as there may be");
 }

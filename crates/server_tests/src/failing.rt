@@ -4,8 +4,9 @@ ghost use Rattle.std.specs.Prelude.{◌≡◌};
 ghost use Rattle.udp_server.specs.Ends.{fault_count};
 
 use crate::clocks::clocks;
-use crate::fixtures::{ENDPOINT, PLAN, zone};
+use crate::fixtures::{ENDPOINT, Looked, NOT_SERVED, PLAN, zone};
 use book_audit::audit;
+use facts::expect;
 use pools::{FixedPool, Pool};
 use ras_core::Note;
 use std::alloc::Global;
@@ -180,13 +181,19 @@ fn outputs<P: Pool>(report: &Report<P>) -> u64 {
         .count() as u64
 }
 
-/// Whether each output was sent, dropped or lost by a failed send, `failed` calls have failed, and
-/// the receipts pass their audit.
-fn agrees<P: Pool>(report: &Report<P>, failed: u64) -> bool {
+/// Compares a report in which so many calls have failed: each output was sent, dropped or lost by a
+/// failed send, and the receipts pass their audit.
+fn compare_failed<P: Pool>(report: &Report<P>, failed: u64) -> Looked {
     let tried = report.sent.saturating_add(report.send_faults);
-    tried.saturating_add(report.dropped) == outputs(report)
-        && report.receive_faults.saturating_add(report.send_faults) == failed
-        && audit(&report.chapters, &report.finished, &report.receipts).is_ok()
+    let became = tried.saturating_add(report.dropped);
+    let faults = report.receive_faults.saturating_add(report.send_faults);
+    let audited = audit(&report.chapters, &report.finished, &report.receipts).is_ok();
+    expect(
+        became == outputs(report),
+        "each output was sent, dropped or lost",
+    )?;
+    expect(faults == failed, "each failed call is counted")?;
+    expect(audited, "the receipts agree with the history")
 }
 
 /// Two requests, the first of them twice: it is answered by its kept reply then.
@@ -196,55 +203,60 @@ const REPEATED: [Discovery; 3] = [
     Discovery::Confirmed,
 ];
 
-/// Whether a run agrees in which these calls fail, and whether one has failed.
-fn agrees_if_failing<R: Threads + Wait + Clock + Sync>(
+/// Serves while these calls fail. Whether one has failed.
+fn serve_failing<R: Threads + Wait + Clock + Sync>(
     rt: &R,
     alloc: Global,
     receive: u64,
     send: u64,
-) -> Option<(bool, bool)> {
+) -> Result<bool, &'static str> {
     let (receiver, sender) = (Record::new(receive), Record::new(send));
-    let report = served(rt, alloc, &receiver, &sender, &REPEATED)?;
+    let report = served(rt, alloc, &receiver, &sender, &REPEATED).ok_or(NOT_SERVED)?;
     let failed = receiver.failed().saturating_add(sender.failed());
-    Some((agrees(&report, failed), failed > 0))
+    let compared = compare_failed(&report, failed);
+    drop(report);
+    compared?;
+    Ok(failed > 0)
 }
 
-/// In how many runs a receive has failed, each time another one, until none does; None if one of
-/// the runs doesn't agree.
-fn failing_receives<R: Threads + Wait + Clock + Sync>(rt: &R, alloc: Global) -> Option<u64> {
-    for receive in 0..100 {
-        match agrees_if_failing(rt, alloc, receive, NEVER)? {
-            (true, true) => {}
-            (true, false) => return Some(receive),
-            (false, _) => return None,
+/// Which call is tried at most, of those that fail one after the other.
+const LAST_CALL: u64 = 100;
+
+/// Serves while a receive fails, each time another one, until none does. In how many runs one did.
+fn fail_receives<R: Threads + Wait + Clock + Sync>(
+    rt: &R,
+    alloc: Global,
+) -> Result<u64, &'static str> {
+    for receive in 0..LAST_CALL {
+        if !serve_failing(rt, alloc, receive, NEVER)? {
+            return Ok(receive);
         }
     }
-    None
+    Err("the receives of a run come to an end")
 }
 
 /// The same of sends.
-fn failing_sends<R: Threads + Wait + Clock + Sync>(rt: &R, alloc: Global) -> Option<u64> {
-    for send in 0..100 {
-        match agrees_if_failing(rt, alloc, NEVER, send)? {
-            (true, true) => {}
-            (true, false) => return Some(send),
-            (false, _) => return None,
+fn fail_sends<R: Threads + Wait + Clock + Sync>(
+    rt: &R,
+    alloc: Global,
+) -> Result<u64, &'static str> {
+    for send in 0..LAST_CALL {
+        if !serve_failing(rt, alloc, NEVER, send)? {
+            return Ok(send);
         }
     }
-    None
+    Err("the sends of a run come to an end")
 }
 
 #[test]
 fn each_receive_fails_in_turn(rt: HostRuntime) {
     // Three give a datagram, and the fourth one tells that the end has stopped.
-    let failed = failing_receives(&rt, rt.alloc());
-    assert!(rt; failed == Some(4));
+    assert_eq!(rt; fail_receives(&rt, rt.alloc()), Ok(4));
 }
 
 #[test]
 fn each_send_fails_in_turn(rt: HostRuntime) {
-    let failed = failing_sends(&rt, rt.alloc());
-    assert!(rt; failed == Some(3));
+    assert_eq!(rt; fail_sends(&rt, rt.alloc()), Ok(3));
 }
 
 /// The counts of a report but for its turns.
@@ -290,23 +302,27 @@ fn note_behind<P: Pool>(report: &Report<P>, before: usize) -> Option<Note> {
     None
 }
 
-/// Whether, in a run in which the first send fails and its request comes again, the confirm is sent
-/// once, by the reply that was kept.
-fn is_resent<R: Threads + Wait + Clock + Sync>(rt: &R, alloc: Global) -> Option<bool> {
+/// Serves while the first send fails, and its request comes again: the confirm is sent once, by the
+/// reply that was kept.
+fn send_again<R: Threads + Wait + Clock + Sync>(rt: &R, alloc: Global) -> Looked {
     const TWICE: [Discovery; 2] = [Discovery::Confirmed, Discovery::Confirmed];
     let (receiver, sender) = (Record::new(NEVER), Record::new(0));
-    let report = served(rt, alloc, &receiver, &sender, &TWICE)?;
-    let is_counted = counts(&report) == (2, 1, 0, 0, 0, 1);
-    let is_served = note_behind(&report, 0) == Some(Note::Served);
-    let is_repeated = note_behind(&report, 1) == Some(Note::Kept);
-    let is_confirmed_once = sender.confirms() == 1;
-    Some(is_counted && is_served && is_repeated && is_confirmed_once)
+    let report = served(rt, alloc, &receiver, &sender, &TWICE).ok_or(NOT_SERVED)?;
+    let counts = counts(&report);
+    let (first, second) = (note_behind(&report, 0), note_behind(&report, 1));
+    drop(report);
+    expect(
+        counts == (2, 1, 0, 0, 0, 1),
+        "one of two replies is sent, and the other one lost",
+    )?;
+    expect(first == Some(Note::Served), "the request is served")?;
+    expect(second == Some(Note::Kept), "its repeat gets the kept reply")?;
+    expect(sender.confirms() == 1, "the confirm is sent once")
 }
 
 #[test]
-fn a_repeat_is_answered_after_a_failed_send(rt: HostRuntime) {
-    let passed = is_resent(&rt, rt.alloc());
-    assert!(rt; passed == Some(true));
+fn a_repeat_is_answered_after_a_failed_send(rt: HostRuntime) -> Looked {
+    send_again(&rt, rt.alloc())
 }
 
 /// A gate that holds the first worker before its step until an end has stopped.

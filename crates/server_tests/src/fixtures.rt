@@ -1,8 +1,24 @@
 //! The zone of the worked examples, and how it is served.
 
+use ras_module::{Address, Source};
 use udp_server::Plan;
 use vectors::requests::GRQ;
-pub use worked_zone::{ENDPOINT, zone};
+pub use worked_zone::{CALL_LIMIT, ENDPOINT, POOL, zone};
+
+/// What a test returns: the first fact that doesn't hold, if any.
+pub type Looked = Result<(), &'static str>;
+
+/// That a server wasn't made, or didn't run: memory or a thread was refused.
+pub const NOT_SERVED: &str = "the server runs";
+
+/// The units of the worked call.
+pub const CALL: u64 = 1_280;
+
+/// The endpoint that is called.
+pub const CALLED: Source = Address {
+    ip: [10, 0, 0, 6],
+    port: 1719,
+};
 
 /// Each reply waits in a ring of 64, each step has a receipt, and no chapter ends.
 pub const PLAN: Plan = Plan {

@@ -1,7 +1,8 @@
 //! A server over a UDP socket of this machine.
 
 use crate::clocks::clocks;
-use crate::fixtures::{PLAN, zone};
+use crate::fixtures::{Looked, NOT_SERVED, PLAN, zone};
+use facts::expect;
 use ras_module::Address;
 use std::alloc::Global;
 use std::net::{IpAddr, Ipv4Addr, Net, SocketAddr, UdpSocket};
@@ -36,26 +37,29 @@ fn client<R: Net>(rt: &R, gatekeeper: Address) -> Option<UdpSocket> {
     Some(socket)
 }
 
-/// Whether the confirm of the discovery arrived.
-fn is_answered(client: &UdpSocket) -> Option<bool> {
+/// Receives the confirm of the discovery.
+fn receive_confirm(client: &UdpSocket) -> Looked {
     let mut buffer = [0u8; 64];
-    let (octets, _from) = client.recv_from(&mut buffer).ok()?;
-    Some(&buffer[..octets] == GCF.as_slice())
+    let Ok((octets, _from)) = client.recv_from(&mut buffer) else {
+        return Err("the client receives a datagram");
+    };
+    expect(
+        &buffer[..octets] == GCF.as_slice(),
+        "it is the confirm of the discovery",
+    )
 }
 
-/// Serves a socket by two ends that receive three times each. Whether it received one datagram, and
-/// sent one.
-fn is_served<R: Threads + Wait + Clock + Sync>(
-    rt: &R,
-    alloc: Global,
-    socket: &BoundSocket,
-) -> Option<bool> {
+/// Serves a socket by two ends that receive three times each. It receives one datagram, and sends
+/// one.
+fn serve<R: Threads + Wait + Clock + Sync>(rt: &R, alloc: Global, socket: &BoundSocket) -> Looked {
     let (reads, is_over) = (AtomicU64::new(0), AtomicBool::new(false));
-    let zone = zone(alloc)?;
+    let zone = zone(alloc).ok_or(NOT_SERVED)?;
     let mut receivers = Vec::new(alloc);
-    receivers.push(socket.end(Some(3), &is_over)).ok()?;
-    receivers.push(socket.end(Some(3), &is_over)).ok()?;
-    let clocks = clocks(alloc, 2, &reads)?;
+    for _end in 0..2 {
+        let end = socket.end(Some(3), &is_over);
+        receivers.push(end).ok().ok_or(NOT_SERVED)?;
+    }
+    let clocks = clocks(alloc, 2, &reads).ok_or(NOT_SERVED)?;
     let sender = socket.end(None, &is_over);
     let report = serve_zone(
         rt,
@@ -68,15 +72,23 @@ fn is_served<R: Threads + Wait + Clock + Sync>(
         Vec::new(alloc),
         PLAN,
     )
-    .ok()?;
-    Some(report.datagrams == 1 && report.sent == 1 && report.receive_faults == 0)
+    .ok()
+    .ok_or(NOT_SERVED)?;
+    let counts = (report.datagrams, report.sent, report.receive_faults);
+    drop(report);
+    expect(
+        counts == (1, 1, 0),
+        "one datagram is received, and one reply sent",
+    )
 }
 
-/// Whether the discovery of a client is answered over a socket.
-fn passes<R: Threads + Wait + Clock + Net + Sync>(rt: &R, alloc: Global) -> Option<bool> {
-    let socket = bind_zone(rt, LOOPBACK).ok()?;
-    let client = client(rt, socket.address()?)?;
-    Some(is_served(rt, alloc, &socket)? && is_answered(&client)?)
+/// Answers the discovery of a client over a socket.
+fn answer<R: Threads + Wait + Clock + Net + Sync>(rt: &R, alloc: Global) -> Looked {
+    let socket = bind_zone(rt, LOOPBACK).ok().ok_or("the socket is bound")?;
+    let address = socket.address().ok_or("the socket has an address")?;
+    let client = client(rt, address).ok_or("the client sends its discovery")?;
+    serve(rt, alloc, &socket)?;
+    receive_confirm(&client)
 }
 
 /// What is told of an address that is bound already, and of one that no machine has for itself.
@@ -92,9 +104,8 @@ fn faults<R: Net>(rt: &R) -> Option<(BindFault, BindFault)> {
 }
 
 #[test]
-fn loopback(rt: HostRuntime) {
-    let passed = passes(&rt, rt.alloc());
-    assert!(rt; passed == Some(true));
+fn loopback(rt: HostRuntime) -> Looked {
+    answer(&rt, rt.alloc())
 }
 
 #[test]
@@ -103,11 +114,14 @@ fn an_address_that_is_not_to_be_had(rt: HostRuntime) {
     assert!(rt; faults == Some((BindFault::InUse, BindFault::NotHere)));
 }
 
+/// The octets of a receive buffer.
+const BUFFER: u64 = 65_536;
+
 #[test]
 fn a_receive_buffer(rt: HostRuntime) {
     let granted = match bind_zone(&rt, LOOPBACK) {
-        Ok(socket) => socket.reserve_buffer(65_536),
+        Ok(socket) => socket.reserve_buffer(BUFFER),
         Err(_) => None,
     };
-    assert!(rt; granted == Some(65_536));
+    assert!(rt; granted == Some(BUFFER));
 }

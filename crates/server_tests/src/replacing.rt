@@ -3,11 +3,12 @@
 ghost use Rattle.std.specs.Prelude.{◌≡◌, ◌≤◌, length};
 ghost use Rattle.udp_server.specs.Ends.{IsWithin};
 
-use crate::fixtures::{ENDPOINT, PLAN, zone};
+use crate::fixtures::{CALL, CALL_LIMIT, CALLED, ENDPOINT, Looked, NOT_SERVED, PLAN, POOL, zone};
 use book_audit::audit;
+use facts::expect;
 use pools::{FixedPool, Pool};
 use ras_core::Moment;
-use ras_module::{Address, Source};
+use ras_module::Source;
 use std::alloc::Global;
 use std::rt::Clock;
 use std::sync::Wait;
@@ -25,11 +26,8 @@ const REQUESTS: u64 = 3;
 /// For how many milliseconds the end waits for the replies at most.
 const PATIENCE: u64 = 10_000;
 
-/// The endpoint that is called.
-const CALLED: Source = Address {
-    ip: [10, 0, 0, 6],
-    port: 1719,
-};
+/// The units of the fresh pool.
+const FRESH: u64 = CALL_LIMIT;
 
 /// An end that gives `left` requests, is quiet until each has its reply, and then has stopped.
 #[derive(Drop)]
@@ -133,19 +131,28 @@ fn report<R: Threads + Wait + Clock + Sync>(
     .ok()
 }
 
-/// Whether the audit counts three datagrams, 1,280 units lent and none returned, and one pool that
-/// was replaced; 1,280 units are in use.
-fn is_audited<P: Pool>(report: &Report<P>) -> bool {
-    match audit(&report.chapters, &report.finished, &report.receipts) {
-        Ok(totals) => {
-            totals.datagrams == 3
-                && totals.lent == 1_280
-                && totals.returned == 0
-                && totals.changes == 1
-                && report.finished.zone().in_use() == 1_280
-        }
-        Err(_) => false,
-    }
+/// Compares a report with that of three datagrams, of the call's units lent and none returned, and
+/// of one pool that was replaced. The call's units are in use.
+fn compare_report<P: Pool>(report: &Report<P>) -> Looked {
+    let Ok(totals) = audit(&report.chapters, &report.finished, &report.receipts) else {
+        return Err("the receipts agree with the history");
+    };
+    expect(report.changes == 1, "the report counts one replaced pool")?;
+    expect(report.refused == 0, "no step was refused")?;
+    expect(
+        totals.datagrams == REQUESTS,
+        "the audit counts three datagrams",
+    )?;
+    expect(
+        totals.lent == u128::from(CALL),
+        "it counts the call's units as lent",
+    )?;
+    expect(totals.returned == 0, "it counts none as returned")?;
+    expect(totals.changes == 1, "it counts one replaced pool")?;
+    expect(
+        report.finished.zone().in_use() == CALL,
+        "the call's units are in use",
+    )
 }
 
 /// Whether this came back for an order: the pool's number, this pool with nothing lent, and whether
@@ -155,52 +162,77 @@ fn is_back(back: &(usize, FixedPool, bool), pool: usize, limit: u64, is_old: boo
     *number == pool && fixed.limit() == limit && fixed.lent() == 0 && *was_old == is_old
 }
 
-/// Whether one order is carried out once the call is open: the old pool comes back.
-fn is_carried_out<R: Threads + Wait + Clock + Sync>(rt: &R, alloc: Global) -> Option<bool> {
-    let mut orders = Vec::new(alloc);
-    orders.push(order(1, 0, 2_000)?).ok()?;
-    let report = report(rt, alloc, orders)?;
-    let has_old = match report.boxes.as_slice() {
-        [back] => is_back(back, 0, 2_500, true),
-        _ => false,
+/// Compares what came back with the old pool alone.
+fn compare_one_box(boxes: &[(usize, FixedPool, bool)]) -> Looked {
+    let [back] = boxes else {
+        return Err("one pool comes back");
     };
-    Some(has_old && report.changes == 1 && report.refused == 0 && is_audited(&report))
+    expect(
+        is_back(back, 0, POOL, true),
+        "it is the old one, with nothing lent",
+    )
+}
+
+/// Carries out one order once the call is open: the old pool comes back.
+fn carry_out<R: Threads + Wait + Clock + Sync>(rt: &R, alloc: Global) -> Looked {
+    let mut orders = Vec::new(alloc);
+    let order = order(1, 0, FRESH).ok_or("an order")?;
+    orders.push(order).ok().ok_or(NOT_SERVED)?;
+    let report = report(rt, alloc, orders).ok_or(NOT_SERVED)?;
+    let has_old = compare_one_box(&report.boxes);
+    let compared = compare_report(&report);
+    drop(report);
+    has_old.and(compared)
 }
 
 #[test]
-fn an_order_is_carried_out_over_a_live_call(rt: HostRuntime) {
-    let passed = is_carried_out(&rt, rt.alloc());
-    assert!(rt; passed == Some(true));
+fn an_order_is_carried_out_over_a_live_call(rt: HostRuntime) -> Looked {
+    carry_out(&rt, rt.alloc())
 }
 
-/// Whether the fresh pools come back of orders that can't be carried out: for a pool that isn't
-/// there, of fewer units than are lent, and at a moment that doesn't come. The one between them is
-/// carried out.
-fn are_handed_back<R: Threads + Wait + Clock + Sync>(rt: &R, alloc: Global) -> Option<bool> {
+/// Compares what came back with the fresh pools of three orders, and with the old pool of the one
+/// between them.
+fn compare_four_boxes(boxes: &[(usize, FixedPool, bool)]) -> Looked {
+    let [nowhere, made, small, late] = boxes else {
+        return Err("four pools come back");
+    };
+    expect(
+        is_back(nowhere, 7, 900, false),
+        "the first one is for a pool that isn't there",
+    )?;
+    expect(
+        is_back(made, 0, POOL, true),
+        "the second one is the old pool",
+    )?;
+    expect(
+        is_back(small, 0, CALL - 1, false),
+        "the third one has too few units",
+    )?;
+    expect(is_back(late, 0, 5_000, false), "the fourth one is too late")
+}
+
+/// Hands back the fresh pools of orders that can't be carried out: for a pool that isn't there, of
+/// fewer units than are lent, and at a moment that doesn't come. The one between them is carried
+/// out.
+fn hand_back<R: Threads + Wait + Clock + Sync>(rt: &R, alloc: Global) -> Looked {
     let mut orders = Vec::new(alloc);
     for (at, pool, limit) in [
         (1, 7, 900),
-        (2, 0, 2_000),
-        (3, 0, 1_279),
+        (2, 0, FRESH),
+        (3, 0, CALL - 1),
         (60_000, 0, 5_000),
     ] {
-        orders.push(order(at, pool, limit)?).ok()?;
+        let order = order(at, pool, limit).ok_or("an order")?;
+        orders.push(order).ok().ok_or(NOT_SERVED)?;
     }
-    let report = report(rt, alloc, orders)?;
-    let are_back = match report.boxes.as_slice() {
-        [nowhere, made, small, late] => {
-            is_back(nowhere, 7, 900, false)
-                && is_back(made, 0, 2_500, true)
-                && is_back(small, 0, 1_279, false)
-                && is_back(late, 0, 5_000, false)
-        }
-        _ => false,
-    };
-    Some(are_back && report.changes == 1 && report.refused == 0 && is_audited(&report))
+    let report = report(rt, alloc, orders).ok_or(NOT_SERVED)?;
+    let are_back = compare_four_boxes(&report.boxes);
+    let compared = compare_report(&report);
+    drop(report);
+    are_back.and(compared)
 }
 
 #[test]
-fn orders_that_cannot_be_carried_out_are_handed_back(rt: HostRuntime) {
-    let passed = are_handed_back(&rt, rt.alloc());
-    assert!(rt; passed == Some(true));
+fn orders_that_cannot_be_carried_out_are_handed_back(rt: HostRuntime) -> Looked {
+    hand_back(&rt, rt.alloc())
 }

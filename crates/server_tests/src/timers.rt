@@ -5,9 +5,11 @@ ghost use Rattle.std.specs.Prelude.{◌≤◌, length};
 ghost use Rattle.udp_server.specs.Ends.{IsWithin};
 ghost use Rattle.udp_server.specs.Plans.{IsPlan};
 
-use crate::fixtures::{ENDPOINT, PLAN, discovery, zone};
+use crate::fixtures::{CALLED, ENDPOINT, Looked, NOT_SERVED, PLAN, discovery, zone};
+use facts::expect;
+use pools::Pool;
 use ras_core::{Change, Event, Moment};
-use ras_module::{Address, Source};
+use ras_module::Source;
 use std::alloc::Global;
 use std::rt::Clock;
 use std::sync::Wait;
@@ -15,7 +17,9 @@ use std::sync::atomic::{AtomicBool, AtomicU64, Ordering};
 use std::thread;
 use std::thread::Threads;
 use std::time::Duration;
-use udp_server::{Datagrams, DeviceFault, Gate, Moments, Open, Plan, Received, Stage, serve_zone};
+use udp_server::{
+    Datagrams, DeviceFault, Gate, Moments, Open, Plan, Received, Report, Stage, serve_zone,
+};
 use vectors::requests::{ARQ, GRQ, RRQ_101, RRQ_102};
 use zone_events::Datagram;
 
@@ -31,12 +35,6 @@ const PATIENCE: u64 = 10_000;
 /// How many milliseconds after its start the clock of the timers leaps to: by then each kept reply
 /// is over, and the endpoint that is in the call was silent for too long.
 const AHEAD: u64 = 40_000;
-
-/// The endpoint that is called.
-const CALLED: Source = Address {
-    ip: [10, 0, 0, 6],
-    port: 1719,
-};
 
 /// An end that gives `left` requests, is quiet until that many replies were sent, and then has
 /// stopped.
@@ -136,9 +134,9 @@ const UNRECORDED: Plan = Plan {
     ..ROOMY
 };
 
-/// Whether at the end nothing is due any more, and all was sent: a reply to each request, and what
-/// asks the silent endpoint for its state.
-fn is_all_done<R: Threads + Wait + Clock + Sync>(rt: &R, alloc: Global, plan: Plan) -> Option<bool>
+/// Serves all requests. At the end nothing is due any more, and all was sent: a reply to each
+/// request, and what asks the silent endpoint for its state.
+fn do_all<R: Threads + Wait + Clock + Sync>(rt: &R, alloc: Global, plan: Plan) -> Looked
     requires { IsPlan plan }
 {
     let (sent, was_held) = (AtomicU64::new(0), AtomicBool::new(false));
@@ -149,18 +147,18 @@ fn is_all_done<R: Threads + Wait + Clock + Sync>(rt: &R, alloc: Global, plan: Pl
         patience: PATIENCE,
     };
     let mut receivers = Vec::new(alloc);
-    receivers.push(caller(REQUESTS)).ok()?;
+    receivers.push(caller(REQUESTS)).ok().ok_or(NOT_SERVED)?;
     let mut clocks = Vec::new(alloc);
     for awaited in [u64::MAX, REQUESTS] {
         let sent = &sent;
-        clocks.push(Leap { sent, awaited }).ok()?;
+        clocks.push(Leap { sent, awaited }).ok().ok_or(NOT_SERVED)?;
     }
     let gate = Late {
         rt,
         sent: &sent,
         was_held: &was_held,
     };
-    let zone = zone(alloc)?;
+    let zone = zone(alloc).ok_or(NOT_SERVED)?;
     let report = serve_zone(
         rt,
         alloc,
@@ -172,26 +170,35 @@ fn is_all_done<R: Threads + Wait + Clock + Sync>(rt: &R, alloc: Global, plan: Pl
         Vec::new(alloc),
         plan,
     )
-    .ok()?;
-    let is_due = report
-        .finished
-        .zone()
-        .machine()
-        .due(Moment::new(AHEAD)?)
-        .is_some();
-    Some(!is_due && report.sent == REQUESTS + 1 && report.dropped == 0 && report.turns > REQUESTS)
+    .ok()
+    .ok_or(NOT_SERVED)?;
+    compare_done(&report)
+}
+
+/// Compares a report with that of a server that did all that was due.
+fn compare_done<P: Pool>(report: &Report<P>) -> Looked {
+    let ahead = Moment::new(AHEAD).ok_or("there is such a moment")?;
+    let due = report.finished.zone().machine().due(ahead);
+    expect(due.is_none(), "nothing is due any more")?;
+    expect(
+        report.sent == REQUESTS + 1,
+        "each reply was sent, and one question",
+    )?;
+    expect(report.dropped == 0, "each found its place")?;
+    expect(
+        report.turns > REQUESTS,
+        "a turn was made for each kept reply, and one more",
+    )
 }
 
 #[test]
-fn what_is_due_is_done_at_once(rt: HostRuntime) {
-    let passed = is_all_done(&rt, rt.alloc(), ROOMY);
-    assert!(rt; passed == Some(true));
+fn what_is_due_is_done_at_once(rt: HostRuntime) -> Looked {
+    do_all(&rt, rt.alloc(), ROOMY)
 }
 
 #[test]
-fn what_is_due_is_done_at_once_without_a_record(rt: HostRuntime) {
-    let passed = is_all_done(&rt, rt.alloc(), UNRECORDED);
-    assert!(rt; passed == Some(true));
+fn what_is_due_is_done_at_once_without_a_record(rt: HostRuntime) -> Looked {
+    do_all(&rt, rt.alloc(), UNRECORDED)
 }
 
 /// An end that gives one discovery, and lets time pass before.
@@ -222,22 +229,25 @@ impl Datagrams for Waiting<'_> {
     }
 }
 
-/// Whether the step of a datagram has the moment at which it came, and not that at which its end
+/// Serves one datagram, whose step has the moment at which it came, and not that at which its end
 /// began to wait.
-fn has_its_moment<R: Threads + Wait + Clock + Sync>(rt: &R, alloc: Global) -> Option<bool> {
+fn serve_one<R: Threads + Wait + Clock + Sync>(rt: &R, alloc: Global) -> Looked {
     let passed = AtomicU64::new(0);
     let end = |is_done: bool| Waiting {
         passed: &passed,
         is_done,
     };
     let mut receivers = Vec::new(alloc);
-    receivers.push(end(false)).ok()?;
+    receivers.push(end(false)).ok().ok_or(NOT_SERVED)?;
     let mut clocks = Vec::new(alloc);
     for _worker in 0..2 {
         let sent = &passed;
-        clocks.push(Leap { sent, awaited: 1 }).ok()?;
+        clocks
+            .push(Leap { sent, awaited: 1 })
+            .ok()
+            .ok_or(NOT_SERVED)?;
     }
-    let zone = zone(alloc)?;
+    let zone = zone(alloc).ok_or(NOT_SERVED)?;
     let report = serve_zone(
         rt,
         alloc,
@@ -249,8 +259,14 @@ fn has_its_moment<R: Threads + Wait + Clock + Sync>(rt: &R, alloc: Global) -> Op
         Vec::new(alloc),
         PLAN,
     )
-    .ok()?;
-    let came = Moment::new(AHEAD)?;
+    .ok()
+    .ok_or(NOT_SERVED)?;
+    compare_moment(&report)
+}
+
+/// Compares a report with that of one datagram, which came when the clock was ahead.
+fn compare_moment<P: Pool>(report: &Report<P>) -> Looked {
+    let came = Moment::new(AHEAD).ok_or("there is such a moment")?;
     let is_late = report
         .finished
         .entries()
@@ -259,11 +275,11 @@ fn has_its_moment<R: Threads + Wait + Clock + Sync>(rt: &R, alloc: Global) -> Op
             Change::Event(Event::Datagram(_, _, moment)) => *moment == came,
             Change::Event(Event::Turn(_)) | Change::PoolChange(_) => true,
         });
-    Some(is_late && report.datagrams == 1)
+    expect(is_late, "the datagram has the moment at which it came")?;
+    expect(report.datagrams == 1, "one datagram is counted")
 }
 
 #[test]
-fn a_datagram_has_the_moment_at_which_it_came(rt: HostRuntime) {
-    let passed = has_its_moment(&rt, rt.alloc());
-    assert!(rt; passed == Some(true));
+fn a_datagram_has_the_moment_at_which_it_came(rt: HostRuntime) -> Looked {
+    serve_one(&rt, rt.alloc())
 }

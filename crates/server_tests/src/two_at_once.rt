@@ -2,8 +2,9 @@
 //! anywhere.
 
 use crate::clocks::clocks;
-use crate::fixtures::{PLAN, zone};
+use crate::fixtures::{Looked, NOT_SERVED, PLAN, zone};
 use crate::meeting::{Guest, Held, Meeting};
+use facts::expect;
 use std::alloc::Global;
 use std::rt::Clock;
 use std::sync::Wait;
@@ -11,31 +12,55 @@ use std::sync::atomic::{AtomicU64, Ordering};
 use std::thread::Threads;
 use udp_server::{Stage, serve_zone};
 
-/// Each place where a worker or the sender may be held.
-const PLACES: [Held; 9] = [
-    Held::Receive(0),
-    Held::Worker(0, Stage::BeforeApply),
-    Held::Worker(0, Stage::AfterApply),
-    Held::Worker(0, Stage::AfterPost),
-    Held::Receive(1),
-    Held::Worker(1, Stage::BeforeApply),
-    Held::Worker(1, Stage::AfterApply),
-    Held::Worker(1, Stage::AfterPost),
-    Held::Send,
+/// Each place where a worker or the sender may be held, by its name.
+const PLACES: [(&str, Held); 9] = [
+    ("first worker, in its receive", Held::Receive(0)),
+    (
+        "first worker, before its step",
+        Held::Worker(0, Stage::BeforeApply),
+    ),
+    (
+        "first worker, behind its step",
+        Held::Worker(0, Stage::AfterApply),
+    ),
+    (
+        "first worker, behind its post",
+        Held::Worker(0, Stage::AfterPost),
+    ),
+    ("second worker, in its receive", Held::Receive(1)),
+    (
+        "second worker, before its step",
+        Held::Worker(1, Stage::BeforeApply),
+    ),
+    (
+        "second worker, behind its step",
+        Held::Worker(1, Stage::AfterApply),
+    ),
+    (
+        "second worker, behind its post",
+        Held::Worker(1, Stage::AfterPost),
+    ),
+    ("sender, in its first send", Held::Send),
 ];
 
-/// Whether both datagrams are answered, and who is held isn't held for too long.
-fn do_both_get_on<R: Threads + Wait + Clock + Sync>(
+/// Serves two datagrams. Both are answered, and who is held isn't held for too long.
+fn serve_two<R: Threads + Wait + Clock + Sync>(
     rt: &R,
     alloc: Global,
     meeting: &Meeting<'_, R>,
-) -> Option<bool> {
+) -> Looked {
     let reads = AtomicU64::new(0);
-    let zone = zone(alloc)?;
+    let zone = zone(alloc).ok_or(NOT_SERVED)?;
     let mut receivers = Vec::new(alloc);
-    receivers.push(Guest::new(meeting, 0)).ok()?;
-    receivers.push(Guest::new(meeting, 1)).ok()?;
-    let clocks = clocks(alloc, 2, &reads)?;
+    receivers
+        .push(Guest::new(meeting, 0))
+        .ok()
+        .ok_or(NOT_SERVED)?;
+    receivers
+        .push(Guest::new(meeting, 1))
+        .ok()
+        .ok_or(NOT_SERVED)?;
+    let clocks = clocks(alloc, 2, &reads).ok_or(NOT_SERVED)?;
     let sender = Guest::new(meeting, 2);
     let report = serve_zone(
         rt,
@@ -48,24 +73,32 @@ fn do_both_get_on<R: Threads + Wait + Clock + Sync>(
         Vec::new(alloc),
         PLAN,
     )
-    .ok()?;
-    Some(report.sent == 2 && report.datagrams == 2 && meeting.impatient.load(Ordering::SeqCst) == 0)
+    .ok()
+    .ok_or(NOT_SERVED)?;
+    let (datagrams, sent) = (report.datagrams, report.sent);
+    drop(report);
+    expect(datagrams == 2, "both datagrams are served")?;
+    expect(sent == 2, "both are answered")?;
+    expect(
+        meeting.impatient.load(Ordering::SeqCst) == 0,
+        "nobody is held for too long",
+    )
 }
 
-/// The same, if one is held at this place.
-fn get_on_though_held<R: Threads + Wait + Clock + Sync>(
+/// Does so while one is held at this place.
+fn serve_two_though_held<R: Threads + Wait + Clock + Sync>(
     rt: &R,
     alloc: Global,
     held: Held,
-) -> Option<bool> {
+) -> Looked {
     let meeting = Meeting::new(rt, held);
-    do_both_get_on(rt, alloc, &meeting)
+    serve_two(rt, alloc, &meeting)
 }
 
 #[test]
 fn two_at_once(rt: HostRuntime) {
-    for held in PLACES {
-        let passed = get_on_though_held(&rt, rt.alloc(), held);
-        assert!(rt; passed == Some(true));
+    for (name, held) in PLACES {
+        let ended = serve_two_though_held(&rt, rt.alloc(), held);
+        assert_eq!(rt; ended, Ok(()), "{name}");
     }
 }

@@ -3,8 +3,6 @@
 #![tactic(auto)]
 
 #[cfg(test)]
-mod example;
-#[cfg(test)]
 mod listing;
 #[cfg(test)]
 mod numbers;

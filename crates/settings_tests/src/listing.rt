@@ -1,7 +1,8 @@
 //! What is written of settings.
 
+use facts::ensure_of;
 use settings::{read_settings, write_settings};
-use std::alloc::{AllocError, Global};
+use std::alloc::Global;
 use std::test::Fail;
 
 /// Settings of which some are set, one of them to its default.
@@ -62,19 +63,21 @@ kind = \"fixed\"
 limit = 0
 ";
 
-/// Whether the settings of a text are written so.
-fn is_written(alloc: Global, text: &str, written: &str) -> Result<bool, AllocError> {
+/// Reads the settings of a text, which have to be written so.
+fn read_and_write(alloc: Global, row: &str, text: &str) -> Result<(), Fail> {
     let mut out = Vec::new(alloc);
-    let passed = match read_settings(alloc, text) {
+    let is_read = match read_settings(alloc, text) {
         Ok(settings) => write_settings(&settings, &mut out).is_ok(),
         Err(_) => false,
     };
-    Ok(passed && out.as_slice() == written.as_bytes())
+    let is_written = out.as_slice() == WRITTEN.as_bytes();
+    drop(out);
+    ensure_of(row, is_read, "the text is read")?;
+    ensure_of(row, is_written, "its settings are written so")
 }
 
 #[test]
 fn settings_are_written_as_a_document_of_the_same_settings(rt: HostRuntime) -> Result<(), Fail> {
-    assert!(rt; is_written(rt.alloc(), TEXT, WRITTEN)?);
-    assert!(rt; is_written(rt.alloc(), WRITTEN, WRITTEN)?);
-    Ok(())
+    read_and_write(rt.alloc(), "some are set", TEXT)?;
+    read_and_write(rt.alloc(), "all are written", WRITTEN)
 }

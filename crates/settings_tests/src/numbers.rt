@@ -1,5 +1,6 @@
 //! The whole-number settings, with the ranges and defaults that `examples/gatekeeper.toml` names.
 
+use facts::ensure_of;
 use settings::{ServeKey, Settings, SettingsFault, read_settings};
 use std::alloc::{AllocError, Global};
 use std::test::Fail;
@@ -9,22 +10,31 @@ use zone_config::Key;
 /// its default.
 type Row = (&'static str, &'static str, u64, u64, u64);
 
+/// The most milliseconds that most waits may take: an hour.
+const HOUR: u64 = 3_600_000;
+
+/// The greatest number of 32 bits.
+const MOST_OF_32_BITS: u64 = 4_294_967_295;
+
+/// The most endpoints, and the most calls.
+const MOST: u64 = 20_000;
+
 /// The numbers of the zone.
 const ZONE: [Row; 14] = [
     ("limit", "zone.limit", 1, 1_000_000_000_000, 100_000),
-    ("call_limit", "zone.call_limit", 1, 4_294_967_295, 20_000),
-    ("time_to_live", "zone.time_to_live", 1, 4_294_967_295, 60),
-    ("endpoints", "zone.endpoints", 1, 20_000, 1_000),
-    ("calls", "zone.calls", 1, 20_000, 1_000),
+    ("call_limit", "zone.call_limit", 1, MOST_OF_32_BITS, 20_000),
+    ("time_to_live", "zone.time_to_live", 1, MOST_OF_32_BITS, 60),
+    ("endpoints", "zone.endpoints", 1, MOST, 1_000),
+    ("calls", "zone.calls", 1, MOST, 1_000),
     ("kept", "zone.kept", 1, 65_536, 4_096),
-    ("window", "zone.window", 1, 3_600_000, 10_000),
-    ("silence", "zone.silence", 1, 3_600_000, 30_000),
+    ("window", "zone.window", 1, HOUR, 10_000),
+    ("silence", "zone.silence", 1, HOUR, 30_000),
     ("delay", "zone.delay", 1, 65_535, 500),
     ("retries", "zone.retries", 1, 16, 3),
     ("asks", "zone.asks", 1, 16, 3),
-    ("ask_wait", "zone.ask_wait", 1, 3_600_000, 5_000),
+    ("ask_wait", "zone.ask_wait", 1, HOUR, 5_000),
     ("pool_turn", "zone.pool_turn", 1, 86_400_000, 1_000),
-    ("least_grant", "zone.least_grant", 0, 4_294_967_295, 0),
+    ("least_grant", "zone.least_grant", 0, MOST_OF_32_BITS, 0),
 ];
 
 /// The numbers of the server.
@@ -86,37 +96,50 @@ fn number_read(
     }
 }
 
-/// Whether the numbers of this row are read, and those beyond its range and other kinds refused.
-fn row_holds(alloc: Global, is_zone: bool, row: Row) -> Result<bool, AllocError> {
+/// Reads the numbers of this row, and refuses those beyond its range and other kinds.
+fn try_row(alloc: Global, is_zone: bool, row: Row) -> Result<(), Fail> {
     let (name, path, least, most, _) = row;
     for number in [least, most] {
-        if number_read(alloc, is_zone, name, number)? != Some(number) {
-            return Ok(false);
-        }
+        let read = number_read(alloc, is_zone, name, number)?;
+        ensure_of(
+            name,
+            read == Some(number),
+            "both ends of its range are read",
+        )?;
     }
     let beyond = format!(in alloc; "{}", most.saturating_add(1))?;
-    let outside = Some(SettingsFault::OutOfRange(path));
-    if least > 0 && fault_with(alloc, is_zone, name, "0")? != outside {
-        return Ok(false);
-    }
-    for value in ["-1", beyond.as_str(), "9223372036854775807"] {
-        if fault_with(alloc, is_zone, name, value)? != outside {
-            return Ok(false);
-        }
-    }
+    try_outside(alloc, is_zone, row, &beyond)?;
     let other_kind = Some(SettingsFault::WrongKind(path));
     for value in ["\"1\"", "1.0", "true", "[1]", "{ a = 1 }", "1979-05-27"] {
-        if fault_with(alloc, is_zone, name, value)? != other_kind {
-            return Ok(false);
-        }
+        let fault = fault_with(alloc, is_zone, name, value)?;
+        ensure_of(name, fault == other_kind, "each other kind is refused")?;
     }
-    Ok(true)
+    Ok(())
+}
+
+/// Refuses numbers outside of the range of this row, of which one is right beyond it.
+fn try_outside(alloc: Global, is_zone: bool, row: Row, beyond: &str) -> Result<(), Fail> {
+    let (name, path, least, _, _) = row;
+    let outside = Some(SettingsFault::OutOfRange(path));
+    if least > 0 {
+        let zero = fault_with(alloc, is_zone, name, "0")?;
+        ensure_of(name, zero == outside, "0 is refused")?;
+    }
+    for value in ["-1", beyond, "9223372036854775807"] {
+        let fault = fault_with(alloc, is_zone, name, value)?;
+        ensure_of(
+            name,
+            fault == outside,
+            "each number beyond its range is refused",
+        )?;
+    }
+    Ok(())
 }
 
 #[test]
 fn each_number_of_the_zone_is_read_in_its_range(rt: HostRuntime) -> Result<(), Fail> {
     for row in ZONE {
-        assert!(rt; row_holds(rt.alloc(), true, row)?, "{}", row.0);
+        try_row(rt.alloc(), true, row)?;
     }
     Ok(())
 }
@@ -124,7 +147,7 @@ fn each_number_of_the_zone_is_read_in_its_range(rt: HostRuntime) -> Result<(), F
 #[test]
 fn each_number_of_the_server_is_read_in_its_range(rt: HostRuntime) -> Result<(), Fail> {
     for row in SERVE {
-        assert!(rt; row_holds(rt.alloc(), false, row)?, "{}", row.0);
+        try_row(rt.alloc(), false, row)?;
     }
     Ok(())
 }
@@ -157,13 +180,14 @@ fn a_number_that_is_not_set_is_its_default(rt: HostRuntime) -> Result<(), Fail> 
 fn the_keys_of_the_server_have_their_rows(rt: HostRuntime) {
     for (place, (name, path, least, most, default)) in SERVE.iter().enumerate() {
         let key = ServeKey::ALL[place];
-        assert_eq!(rt; key.name(), *name);
-        assert_eq!(rt; key.path(), *path);
-        assert_eq!(rt; key.least(), *least);
-        assert_eq!(rt; key.most(), *most);
-        assert_eq!(rt; key.default(), *default);
-        assert!(rt; key.takes(*least) && key.takes(*most));
-        assert!(rt; *least == 0 || !key.takes(*least - 1));
-        assert!(rt; !key.takes(key.most() + 1));
+        assert_eq!(rt; key.name(), *name, "{name}");
+        assert_eq!(rt; key.path(), *path, "{name}");
+        assert_eq!(rt; key.least(), *least, "{name}");
+        assert_eq!(rt; key.most(), *most, "{name}");
+        assert_eq!(rt; key.default(), *default, "{name}");
+        assert!(rt; key.takes(*least), "{name}");
+        assert!(rt; key.takes(*most), "{name}");
+        assert!(rt; *least == 0 || !key.takes(*least - 1), "{name}");
+        assert!(rt; !key.takes(key.most() + 1), "{name}");
     }
 }

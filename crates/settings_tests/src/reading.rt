@@ -1,5 +1,6 @@
 //! Which settings a text gives, and which fault is told.
 
+use facts::ensure;
 use pools::PoolSpec;
 use settings::{Settings, SettingsFault, read_settings};
 use std::alloc::{AllocError, Global};
@@ -23,29 +24,34 @@ fn fault_of_parts(alloc: Global, parts: [&str; 3]) -> Result<Option<SettingsFaul
     Ok(fault_of(alloc, &text))
 }
 
-/// Whether these are the settings of the worked example: its two texts, its one pool, and defaults.
-fn are_worked(settings: &Settings) -> bool {
+/// Compares settings with those of the worked example: its two texts, its one pool, and defaults.
+fn compare_worked(settings: &Settings) -> Result<(), Fail> {
     let parts = settings.config.parts();
-    let is_pool = matches!(
-        settings.pools.as_slice(),
-        [PoolSpec::Fixed { limit: 2_500 }]
-    );
-    is_pool
-        && parts.identifier.as_slice() == [103, 107].as_slice()
-        && (parts.address.ip, parts.address.port) == ([10, 0, 0, 1], 1719)
-        && (parts.limit, parts.call_limit) == (100_000, 20_000)
-        && parts.networks.as_slice() == [None].as_slice()
+    let pools = settings.pools.as_slice();
+    let is_pool = matches!(pools, [PoolSpec::Fixed { limit: 2_500 }]);
+    let address = (parts.address.ip, parts.address.port);
+    let is_named = parts.identifier.as_slice() == [103, 107].as_slice();
+    let is_for_all = parts.networks.as_slice() == [None].as_slice();
+    ensure(is_pool, "there is one pool of 2,500 units")?;
+    ensure(is_named, "the zone is named gk")?;
+    ensure(address == ([10, 0, 0, 1], 1719), "it has its address")?;
+    ensure(parts.limit == 100_000, "its limit is the default")?;
+    ensure(
+        parts.call_limit == 20_000,
+        "the limit of its calls is the default",
+    )?;
+    ensure(is_for_all, "the pool serves all addresses")
 }
 
 #[test]
 fn the_worked_example_is_read(rt: HostRuntime) -> Result<(), Fail> {
     let text = format!(in rt.alloc(); "{ZONE}{POOL}")?;
-    let passed = match read_settings(rt.alloc(), &text) {
-        Ok(settings) => are_worked(&settings),
-        Err(_) => false,
+    let compared = match read_settings(rt.alloc(), &text) {
+        Ok(settings) => compare_worked(&settings),
+        Err(_) => Err(Fail::from("the text is read")),
     };
     drop(text);
-    assert!(rt; passed);
+    compared?;
     let kind = ZONE_WITH_A_TEXT_FOR_THE_LIMIT;
     assert_eq!(rt;
         fault_of(rt.alloc(), ZONE),
@@ -270,7 +276,8 @@ limit = 7
 step = 0
 ";
 
-fn are_pools(settings: &Settings) -> bool {
+/// Compares settings with those of the three pools.
+fn compare_pools(settings: &Settings) -> Result<(), Fail> {
     let networks = [
         Some(Network {
             ip: [10, 1, 0, 0],
@@ -282,32 +289,35 @@ fn are_pools(settings: &Settings) -> bool {
         }),
         None,
     ];
-    let are_specs = match settings.pools.as_slice() {
-        [
-            PoolSpec::Step { limit, step },
-            PoolSpec::Paced {
-                limit: second,
-                burst,
-            },
-            PoolSpec::Fixed { limit: 7 },
-        ] => {
-            (*limit, *second) == (1_000_000_000_000, 0)
-                && (step.get(), burst.get()) == (4_294_967_295, 1)
-        }
-        _ => false,
+    let [
+        PoolSpec::Step { limit: first, step },
+        PoolSpec::Paced {
+            limit: second,
+            burst,
+        },
+        PoolSpec::Fixed { limit: third },
+    ] = settings.pools.as_slice()
+    else {
+        return Err(Fail::from("there are three pools, one of each kind"));
     };
-    are_specs && settings.config.parts().networks.as_slice() == networks.as_slice()
+    let are_networks = settings.config.parts().networks.as_slice() == networks.as_slice();
+    ensure(*first == 1_000_000_000_000, "the first pool has its limit")?;
+    ensure(step.get() == 4_294_967_295, "it has its step")?;
+    ensure(*second == 0, "the second pool has its limit")?;
+    ensure(burst.get() == 1, "it has its burst")?;
+    ensure(*third == 7, "the third pool has its limit")?;
+    ensure(are_networks, "each has its network")
 }
 
 #[test]
 fn pools_of_each_kind_are_read_in_order(rt: HostRuntime) -> Result<(), Fail> {
     let text = format!(in rt.alloc(); "{ZONE}{POOLS}")?;
-    let passed = match read_settings(rt.alloc(), &text) {
-        Ok(settings) => are_pools(&settings),
-        Err(_) => false,
+    let compared = match read_settings(rt.alloc(), &text) {
+        Ok(settings) => compare_pools(&settings),
+        Err(_) => Err(Fail::from("the text is read")),
     };
     drop(text);
-    assert!(rt; passed);
+    compared?;
     Ok(())
 }
 

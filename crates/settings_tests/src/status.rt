@@ -1,5 +1,6 @@
 //! The address of the status page.
 
+use facts::ensure;
 use ras_module::Address;
 use settings::{SettingsFault, read_settings, write_settings};
 use std::alloc::{AllocError, Global};
@@ -54,23 +55,26 @@ fn the_page_s_address_is_refused_if_it_is_none(rt: HostRuntime) -> Result<(), Fa
     Ok(())
 }
 
-/// Whether the page's address stands in what is written of settings that have one.
-fn is_written(alloc: Global) -> Result<bool, AllocError> {
+/// Reads settings with the page's address, which stands in what is written of them.
+fn read_and_write(alloc: Global) -> Result<(), Fail> {
     let mut text = String::from_str(alloc, FRONT)?;
     text.push_str("status = \"127.0.0.1:8719\"\n")?;
     let mut out = Vec::new(alloc);
-    let passed = match read_settings(alloc, text.as_str()) {
+    let is_read = match read_settings(alloc, text.as_str()) {
         Ok(settings) => write_settings(&settings, &mut out).is_ok(),
         Err(_) => false,
     };
-    let Ok(written) = str::from_utf8(out.as_slice()) else {
-        return Ok(false);
+    let is_written = match str::from_utf8(out.as_slice()) {
+        Ok(written) => written.contains("\nserve.status = \"127.0.0.1:8719\"\n"),
+        Err(_) => false,
     };
-    Ok(passed && written.contains("\nserve.status = \"127.0.0.1:8719\"\n"))
+    drop(out);
+    drop(text);
+    ensure(is_read, "the text is read")?;
+    ensure(is_written, "the address of the page is written")
 }
 
 #[test]
 fn the_page_s_address_is_written(rt: HostRuntime) -> Result<(), Fail> {
-    assert!(rt; is_written(rt.alloc())?);
-    Ok(())
+    read_and_write(rt.alloc())
 }

@@ -1,5 +1,6 @@
 //! Keys that are passed over.
 
+use facts::{ensure, ensure_of};
 use settings::{SettingsFault, UnknownKey, unknown_keys};
 use std::alloc::Global;
 use std::test::Fail;
@@ -37,31 +38,35 @@ const TOLD: [(&str, Option<&str>); 8] = [
     ("pool.limits", Some("pool.limit")),
 ];
 
-fn are_told(unknown: &[UnknownKey], told: &[(&str, Option<&str>)]) -> bool {
-    if unknown.len() != told.len() {
-        return false;
-    }
+/// Compares keys with those that are told.
+fn compare_keys(unknown: &[UnknownKey], told: &[(&str, Option<&str>)]) -> Result<(), Fail> {
     for (key, (path, nearest)) in unknown.iter().zip(told) {
-        if key.path.as_str() != *path || key.nearest != *nearest {
-            return false;
-        }
+        ensure_of(path, key.path.as_str() == *path, "it is told in its place")?;
+        ensure_of(
+            path,
+            key.nearest == *nearest,
+            "its nearest known key is told",
+        )?;
     }
-    true
+    ensure(
+        unknown.len() == told.len(),
+        "as many keys are told as are unknown",
+    )
 }
 
-/// Whether these keys of a text are told, in this order.
-fn tells(alloc: Global, text: &str, told: &[(&str, Option<&str>)]) -> bool {
+/// Looks for unknown keys in a text, which tells these, in this order.
+fn look(alloc: Global, text: &str, told: &[(&str, Option<&str>)]) -> Result<(), Fail> {
     match unknown_keys(alloc, text) {
-        Ok(unknown) => are_told(&unknown, told),
-        Err(_) => false,
+        Ok(unknown) => compare_keys(&unknown, told),
+        Err(_) => Err(Fail::from("the text is read")),
     }
 }
 
 #[test]
-fn unknown_keys_are_told_with_the_nearest_known_one(rt: HostRuntime) {
-    assert!(rt; tells(rt.alloc(), TEXT, &TOLD));
-    assert!(rt; tells(rt.alloc(), "", &[]));
-    assert!(rt; tells(rt.alloc(), "zone = 1\nserve = 1\npool = [1]\n", &[]));
+fn unknown_keys_are_told_with_the_nearest_known_one(rt: HostRuntime) -> Result<(), Fail> {
+    look(rt.alloc(), TEXT, &TOLD)?;
+    look(rt.alloc(), "", &[])?;
+    look(rt.alloc(), "zone = 1\nserve = 1\npool = [1]\n", &[])
 }
 
 #[test]

@@ -1,6 +1,13 @@
 pub mod Asking
+pub mod Counted
+pub mod Home
+pub mod HomeCounts
+pub mod HomeParts
+pub mod HomeRows
+pub mod JsonRows
 pub mod JsonZone
 pub mod Lists
-pub mod Parts
+pub mod Metrics
 pub mod Queries
 pub mod Statuses
+pub mod Texts

@@ -15,7 +15,7 @@ pub enum Method {
 }
 
 /// What is asked for.
-#[derive(Clone, Copy, PartialEq, Eq)]
+#[derive(PartialEq, Eq, Drop)]
 pub enum Asked {
     /// The page for people.
     Home(Query),

@@ -2,8 +2,7 @@
 //! is a page for people, JSON for programs, and metrics in Prometheus' text format.
 //!
 //! proved: what a request asks for (`asked_by`); lists are rising, behind what was told, and of rows
-//! that the zone told (`endpoints_after`)
-//! tested: the texts of the pages
+//! that the zone told (`endpoints_after`); the texts of all pages (`metrics`, `home`)
 #![tactic(auto)]
 
 mod asked;

@@ -1,12 +1,12 @@
 //! Queries of pages with rows, as in `after=0007&most=50`.
 
-ghost use Rattle.std.specs.Prelude.{◌≡◌, IfOk};
+ghost use Rattle.std.specs.Prelude.{◌≡◌, IfOk, option_copied};
 ghost use Rattle.status_page.specs.Queries.{identifier_of, key_of, query_of, with_call};
 ghost use Rattle.status_page.specs.Queries.{with_endpoint, with_most, with_part};
 
 use hex::FromHex;
 use percent_encoding::percent_decode;
-use ras_module::{CallKey, EndpointId};
+use ras_module::{Boxed, CallKey, EndpointId};
 use std::alloc::{AllocError, Global};
 use value_texts::{is_word, name_of, number_of, parted};
 
@@ -26,14 +26,26 @@ pub enum Table {
 }
 
 /// What a query asks for.
-#[derive(Clone, Copy, PartialEq, Eq)]
+#[derive(PartialEq, Eq, Drop)]
 pub struct Query {
     /// Endpoints behind this one; from the first one on if there's none.
-    pub endpoint: Option<EndpointId>,
+    pub endpoint: Option<Boxed<EndpointId>>,
     /// Calls behind this one; from the first one on if there's none.
     pub call: Option<CallKey>,
     /// The most rows: 1 to 200.
     pub most: u64,
+}
+
+impl Query {
+    /// The endpoint behind which those stand that are asked for, if there is one.
+    pub fn endpoint(&self) -> Option<&EndpointId>
+        ensures { option_copied result ≡ self.now.endpoint }
+    {
+        match &self.endpoint {
+            Some(identifier) => Some(identifier.get()),
+            None => None,
+        }
+    }
 }
 
 /// What a query of this page asks for. None if a part of it isn't one of the page's parameters, or
@@ -93,8 +105,9 @@ fn with_endpoint(alloc: Global, query: Query, value: &[u8]) -> Result<Option<Que
 {
     match identifier_of(alloc, value)? {
         Some(identifier) => Ok(Some(Query {
-            endpoint: Some(identifier),
-            ..query
+            endpoint: Some(Boxed::new(alloc, identifier)?),
+            call: query.call,
+            most: query.most,
         })),
         None => Ok(None),
     }
@@ -106,8 +119,9 @@ fn with_call(query: Query, value: &[u8]) -> Option<Query>
 {
     match key_of(value) {
         Some(key) => Some(Query {
+            endpoint: query.endpoint,
             call: Some(key),
-            ..query
+            most: query.most,
         }),
         None => None,
     }
@@ -118,7 +132,11 @@ fn with_most(query: Query, value: &[u8]) -> Option<Query>
     ensures { result ≡ with_most query value.now }
 {
     match number_of(1, MOST_ROWS, value) {
-        Some(most) => Some(Query { most, ..query }),
+        Some(most) => Some(Query {
+            endpoint: query.endpoint,
+            call: query.call,
+            most,
+        }),
         None => None,
     }
 }

@@ -1,5 +1,8 @@
 //! Binding the address of the status page.
 
+ghost use Rattle.std.specs.Prelude.{◌≡◌};
+ghost use Rattle.status_server.specs.Bind.{cause_text};
+
 use ras_module::Address;
 use std::io::ErrorKind;
 use std::net::{IpAddr, Ipv4Addr, Net, SocketAddr, TcpListener, TcpStream};
@@ -39,7 +42,9 @@ impl BindFault {
     }
 
     /// The cause, as a person is told it.
-    pub fn cause(&self) -> &'static str {
+    pub fn cause(&self) -> &'static str
+        ensures { result.now ≡ cause_text self.now }
+    {
         match self {
             BindFault::InUse => "another program uses this address",
             BindFault::NotHere => "this machine has no such address",

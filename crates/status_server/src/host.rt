@@ -75,6 +75,8 @@ pub(crate) struct PageHost<'a, R, V> {
     pub(crate) timers: Handle,
     pub(crate) http: Builder,
     pub(crate) view: Rc<V>,
+    /// One more than there are connections.
+    pub(crate) connections: Rc<()>,
 }
 
 impl<R: Clock, V: View> Host for PageHost<'_, R, V> {
@@ -85,13 +87,15 @@ impl<R: Clock, V: View> Host for PageHost<'_, R, V> {
     fn work(&self, socket: TcpStream) -> io::Result<Self::Work> {
         let pages = Pages {
             alloc: self.alloc,
+            timers: self.timers.clone()?,
             view: self.view.clone()?,
+            connection: self.connections.clone()?,
         };
         serve_one(self.rt, &self.timers, &self.http, socket, pages)
     }
 
     fn open(&self) -> usize {
-        Rc::strong_count(&self.view).saturating_sub(1)
+        Rc::strong_count(&self.connections).saturating_sub(1)
     }
 
     fn has_ended(&self) -> bool {

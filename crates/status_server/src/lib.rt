@@ -1,11 +1,13 @@
 //! A server of the status pages of a running zone over HTTP, for a thread of its own. It answers
 //! reads and nothing else.
 //!
-//! proved: that it is safe
+//! proved: that it is safe; status, fields and body of an answer follow from its response
 //! tested: the built program
 #![tactic(auto)]
 
+mod answer;
 mod bound;
+mod fields;
 mod host;
 mod pages;
 mod server;

@@ -1,89 +1,52 @@
 //! The pages as a service of hyper.
 
+use crate::answer::{Answer, Question};
 use crate::view::View;
 use bytes::Bytes;
-use futures::future;
-use futures::future::Ready;
 use http_body_util::Full;
+use hyper::Request;
 use hyper::body::Incoming;
-use hyper::header::{
-    ALLOW, CACHE_CONTROL, CONTENT_SECURITY_POLICY, CONTENT_TYPE, HeaderMapError, HeaderValue,
-    X_CONTENT_TYPE_OPTIONS,
-};
 use hyper::service::Service;
-use hyper::{HeaderMap, Request, StatusCode};
-use status_page::{Content, Method, Response, Status};
+use status_page::{Asked, Method, asked_by};
 use std::alloc::{AllocError, Global};
 use std::rc::Rc;
+use tokio::time::{Handle, Sleep};
 
-/// The pages of a view.
+/// The pages of a view, for one connection.
 #[derive(Drop)]
 pub(crate) struct Pages<V> {
     pub(crate) alloc: Global,
+    pub(crate) timers: Handle,
     pub(crate) view: Rc<V>,
-}
-
-/// The field `content-type` of a text.
-fn content_type(content: Content) -> HeaderValue {
-    match content {
-        Content::Html => HeaderValue::from_static("text/html; charset=utf-8"),
-        Content::Metrics => HeaderValue::from_static("text/plain; version=0.0.4; charset=utf-8"),
-        Content::Json => HeaderValue::from_static("application/json"),
-        Content::Plain => HeaderValue::from_static("text/plain; charset=utf-8"),
-    }
-}
-
-/// Sets the fields of a response: it isn't kept, its type isn't guessed, and it runs nothing.
-fn set_fields(
-    fields: &mut HeaderMap,
-    status: Status,
-    content: Content,
-) -> Result<(), HeaderMapError> {
-    fields.insert(CONTENT_TYPE, content_type(content))?;
-    fields.insert(CACHE_CONTROL, HeaderValue::from_static("no-store"))?;
-    fields.insert(X_CONTENT_TYPE_OPTIONS, HeaderValue::from_static("nosniff"))?;
-    fields.insert(
-        CONTENT_SECURITY_POLICY,
-        HeaderValue::from_static(
-            "default-src 'none'; style-src 'unsafe-inline'; frame-ancestors 'none'",
-        ),
-    )?;
-    if status == Status::NotAllowed {
-        fields.insert(ALLOW, HeaderValue::from_static("GET, HEAD"))?;
-    }
-    Ok(())
-}
-
-/// The status as hyper has it.
-fn status_code(status: Status) -> StatusCode {
-    match status {
-        Status::Found => StatusCode::OK,
-        Status::BadRequest => StatusCode::BAD_REQUEST,
-        Status::NotFound => StatusCode::NOT_FOUND,
-        Status::NotAllowed => StatusCode::METHOD_NOT_ALLOWED,
-        Status::Unavailable => StatusCode::SERVICE_UNAVAILABLE,
-    }
+    /// Each connection holds one of these, so that they can be counted.
+    pub(crate) connection: Rc<()>,
 }
 
 impl<V: View> Pages<V> {
-    fn answer(
-        &self,
-        method: Method,
-        path: &str,
-        query: &str,
-    ) -> Result<hyper::Response<Full<Bytes>>, AllocError> {
-        let Response {
-            status,
-            content,
-            text,
-        } = self.view.response(method, path, query)?;
-        let body = Bytes::from_string(text)?;
-        let mut response = hyper::Response::new(self.alloc, Full::new(body));
-        if set_fields(response.headers_mut(), status, content).is_err() {
-            return Err(AllocError);
+    /// What a request asks for.
+    fn question(&self, method: Method, path: &str, query: &str) -> Result<Question<V>, AllocError> {
+        Ok(Question {
+            alloc: self.alloc,
+            view: self.view.clone()?,
+            asked: asked_by(self.alloc, method, path, query)?,
+        })
+    }
+
+    /// The pause until it is the turn of what is asked for; None if it may be answered now.
+    fn pause(&self, asked: &Asked) -> Result<Option<Sleep>, AllocError> {
+        match self.view.turn(asked) {
+            Some(moment) => Ok(Some(self.timers.sleep_until(moment)?)),
+            None => Ok(None),
         }
-        *response.status_mut() = status_code(status);
-        Ok(response)
+    }
+
+    /// The answer to a request, which waits for its turn.
+    fn waiting(&self, method: Method, path: &str, query: &str) -> Result<Answer<V>, AllocError> {
+        let question = self.question(method, path, query)?;
+        Ok(Answer {
+            pause: self.pause(&question.asked)?,
+            question: Some(question),
+        })
     }
 }
 
@@ -92,7 +55,7 @@ impl<V: View, I: Drop> Service<Request<Incoming<I>>> for Pages<V> {
 
     type Error = AllocError;
 
-    type Future = Ready<Result<hyper::Response<Full<Bytes>>, AllocError>>;
+    type Future = Answer<V>;
 
     fn call(&self, request: Request<Incoming<I>>) -> Self::Future {
         let method = match request.method().as_str() {
@@ -100,6 +63,12 @@ impl<V: View, I: Drop> Service<Request<Incoming<I>>> for Pages<V> {
             _ => Method::Other,
         };
         let uri = request.uri();
-        future::ready(self.answer(method, uri.path(), uri.query().unwrap_or("")))
+        match self.waiting(method, uri.path(), uri.query().unwrap_or("")) {
+            Ok(answer) => answer,
+            Err(AllocError) => Answer {
+                question: None,
+                pause: None,
+            },
+        }
     }
 }

@@ -52,13 +52,13 @@ where
     let timers = runtime.handle().time().clone()?;
     let mut http = Builder::new(alloc, RandomState::new(rt)?);
     http.keep_alive(false).max_buf_size(MOST_HEAD);
-    let view = Rc::new(alloc, view)?;
     let host = PageHost {
         rt,
         alloc,
         timers,
         http,
-        view,
+        view: Rc::new(alloc, view)?,
+        connections: Rc::new(alloc, ())?,
     };
     serve_all(rt, &mut runtime, listener, host)
 }

@@ -1,14 +1,15 @@
 //! A zone as it is shown.
 
+ghost use Rattle.std.specs.Prelude.{◌≡◌, IfOk};
+
 use crate::view::View;
 use status_page::{
-    About, Asked, Method, Overview, Query, Response, Status, asked_by, calls_after, calls_json,
-    endpoints_after, endpoints_json, home, line, metrics, zone_json,
+    About, Asked, Overview, Query, Response, Status, calls_after, calls_json, endpoints_after,
+    endpoints_json, home, line, metrics, zone_json,
 };
 use std::alloc::{AllocError, Global};
 use std::cell::RefCell;
 use std::rc::Rc;
-use std::thread;
 use std::time::{Clock, Duration, Instant};
 use zone_view::RunningZone;
 
@@ -50,7 +51,10 @@ fn age<R: Clock>(rt: &R, moment: Instant) -> Option<Duration> {
     moment.elapsed(rt).ok()
 }
 
-fn copied(response: &Response) -> Result<Response, AllocError> {
+fn copied(response: &Response) -> Result<Response, AllocError>
+    ensures status { IfOk result (λ copy. copy.status ≡ response.now.status) }
+    ensures content { IfOk result (λ copy. copy.content ≡ response.now.content) }
+{
     Ok(Response {
         status: response.status,
         content: response.content,
@@ -90,19 +94,15 @@ impl<'a, R: Clock, Z: RunningZone> Shown<'a, R, Z> {
         Ok(overview)
     }
 
-    /// The response with rows: the last one if the same was asked just before. Another list waits
-    /// until the last one is old enough.
+    /// The response with rows: the last one if the same was asked just before.
     fn rows(&self, asked: Asked) -> Result<Response, AllocError> {
         let mut last = self.rows.try_borrow_mut().map_err(|_| AllocError)?;
-        let least = Duration::from_millis(ROWS_AGE);
         if let Some(listed) = &*last {
-            let age = age(self.rt, listed.moment).unwrap_or(least);
-            if age < least && listed.asked == asked {
+            if listed.asked == asked && self.is_fresh(listed) {
                 return copied(&listed.response);
             }
-            thread::sleep(self.rt, least.saturating_sub(age));
         }
-        let response = self.listed(asked)?;
+        let response = self.listed(&asked)?;
         if let Ok(moment) = Instant::now(self.rt) {
             *last = Some(Listed {
                 moment,
@@ -113,14 +113,22 @@ impl<'a, R: Clock, Z: RunningZone> Shown<'a, R, Z> {
         Ok(response)
     }
 
+    /// Whether rows were told so short ago that no others are told.
+    fn is_fresh(&self, listed: &Listed) -> bool {
+        match age(self.rt, listed.moment) {
+            Some(age) => age < Duration::from_millis(ROWS_AGE),
+            None => false,
+        }
+    }
+
     /// A response with rows that are told now.
-    fn listed(&self, asked: Asked) -> Result<Response, AllocError> {
+    fn listed(&self, asked: &Asked) -> Result<Response, AllocError> {
         let alloc = self.alloc;
         match asked {
-            Asked::Home(query) => self.home(&query),
+            Asked::Home(query) => self.home(query),
             Asked::Endpoints(query) => {
                 let most = query.most as usize;
-                let list = endpoints_after(alloc, self.zone, query.endpoint, most)?;
+                let list = endpoints_after(alloc, self.zone, query.endpoint().copied(), most)?;
                 endpoints_json(alloc, &list)
             }
             Asked::Calls(query) => {
@@ -136,16 +144,37 @@ impl<'a, R: Clock, Z: RunningZone> Shown<'a, R, Z> {
         let alloc = self.alloc;
         let most = query.most as usize;
         let overview = self.overview()?;
-        let endpoints = endpoints_after(alloc, self.zone, query.endpoint, most)?;
+        let endpoints = endpoints_after(alloc, self.zone, query.endpoint().copied(), most)?;
         let calls = calls_after(alloc, self.zone, query.call, most)?;
         home(alloc, &self.about, &overview, query, &endpoints, &calls)
     }
 }
 
+/// Whether what is asked for has rows.
+fn has_rows(asked: &Asked) -> bool {
+    matches!(
+        asked,
+        Asked::Home(_) | Asked::Endpoints(_) | Asked::Calls(_)
+    )
+}
+
 impl<R: Clock, Z: RunningZone> View for Shown<'_, R, Z> {
-    fn response(&self, method: Method, path: &str, query: &str) -> Result<Response, AllocError> {
+    /// Other rows than the last ones wait until those are old enough.
+    fn turn(&self, asked: &Asked) -> Option<Instant> {
+        if !has_rows(asked) {
+            return None;
+        }
+        let last = self.rows.try_borrow().ok()?;
+        match &*last {
+            Some(listed) if listed.asked != *asked && self.is_fresh(listed) => {
+                listed.moment.checked_add(Duration::from_millis(ROWS_AGE))
+            }
+            _ => None,
+        }
+    }
+
+    fn response(&self, asked: Asked) -> Result<Response, AllocError> {
         let alloc = self.alloc;
-        let asked = asked_by(alloc, method, path, query)?;
         match asked {
             Asked::Home(_) | Asked::Endpoints(_) | Asked::Calls(_) => self.rows(asked),
             Asked::Metrics => {

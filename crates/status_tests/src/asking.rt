@@ -1,6 +1,6 @@
 //! What requests ask for.
 
-use ras_module::{CallKey, EndpointId};
+use ras_module::{Boxed, CallKey, EndpointId};
 use status_page::{Asked, Method, Query, Status, asked_by, line};
 use std::alloc::{AllocError, Global};
 use std::test::Fail;
@@ -45,12 +45,12 @@ fn only_looks_are_allowed(rt: HostRuntime) -> Result<(), Fail> {
 }
 
 /// A query of seven endpoints behind this one.
-fn seven_behind(endpoint: EndpointId) -> Query {
-    Query {
-        endpoint: Some(endpoint),
+fn seven_behind(alloc: Global, endpoint: EndpointId) -> Result<Query, AllocError> {
+    Ok(Query {
+        endpoint: Some(Boxed::new(alloc, endpoint)?),
         call: None,
         most: 7,
-    }
+    })
 }
 
 #[test]
@@ -58,13 +58,13 @@ fn endpoints_behind_one(rt: HostRuntime) -> Result<(), Fail> {
     let alloc = rt.alloc();
     let name = name_of("a b\u{E9}".as_bytes()).ok_or("no name")?;
     let asked = look(alloc, "/endpoints.json", "after=a%20b%C3%A9&most=7")?;
-    assert!(rt; asked == Asked::Endpoints(seven_behind(EndpointId::new(name))));
+    assert!(rt; asked == Asked::Endpoints(seven_behind(alloc, EndpointId::new(name))?));
     let asked = look(
         alloc,
         "/endpoints.json",
         "most=7&&most=8&after=x&after=a%20b%c3%a9&most=7",
     )?;
-    assert!(rt; asked == Asked::Endpoints(seven_behind(EndpointId::new(name))));
+    assert!(rt; asked == Asked::Endpoints(seven_behind(alloc, EndpointId::new(name))?));
     Ok(())
 }
 
@@ -83,7 +83,7 @@ fn calls_behind_one(rt: HostRuntime) -> Result<(), Fail> {
     assert!(rt; look(alloc, "/calls.json", text)? == Asked::Calls(query));
     let name = name_of(b"0007").ok_or("no name")?;
     let query = Query {
-        endpoint: Some(EndpointId::new(name)),
+        endpoint: Some(Boxed::new(alloc, EndpointId::new(name))?),
         call: Some(CallKey { octets }),
         most: 100,
     };

@@ -3,9 +3,9 @@
 use escapes::{html, json_string, label};
 use std::test::Fail;
 
-/// `<script>`, quotes, an ampersand, a backslash and an end of line.
-const HARM: [u16; 17] = [
-    60, 115, 99, 114, 105, 112, 116, 62, 34, 39, 38, 92, 10, 13, 1, 8_232, 8_233,
+/// `<script>`, quotes, an ampersand, a backslash, ends of lines and control characters.
+const HARM: [u16; 19] = [
+    60, 115, 99, 114, 105, 112, 116, 62, 34, 39, 38, 92, 10, 13, 1, 127, 155, 8_232, 8_233,
 ];
 
 /// Half of a pair, a pair (U+1F600), the second half, and a letter.
@@ -17,7 +17,7 @@ fn in_html(rt: HostRuntime) -> Result<(), Fail> {
     html(&mut text, &HARM)?;
     assert_eq!(rt;
         text.as_str(),
-        "&lt;script&gt;&quot;&#39;&amp;\\\n\r\u{1}\u{2028}\u{2029}"
+        "&lt;script&gt;&quot;&#39;&amp;\\\n\r\u{1}\u{7f}\u{9b}\u{2028}\u{2029}"
     );
     Ok(())
 }
@@ -28,7 +28,7 @@ fn in_json(rt: HostRuntime) -> Result<(), Fail> {
     json_string(&mut text, &HARM)?;
     assert_eq!(rt;
         text.as_str(),
-        "\\u003cscript>\\\"'&\\\\\\u000a\\u000d\\u0001\\u2028\\u2029"
+        "\\u003cscript>\\\"'&\\\\\\u000a\\u000d\\u0001\\u007f\\u009b\\u2028\\u2029"
     );
     Ok(())
 }
@@ -39,7 +39,7 @@ fn in_a_label(rt: HostRuntime) -> Result<(), Fail> {
     label(&mut text, &HARM)?;
     assert_eq!(rt;
         text.as_str(),
-        "<script>\\\"'&\\\\\\n\r\u{1}\u{2028}\u{2029}"
+        "<script>\\\"'&\\\\\\n\r\u{1}\u{7f}\u{9b}\u{2028}\u{2029}"
     );
     Ok(())
 }

@@ -2,6 +2,7 @@
 
 use crate::fixtures::{address, endpoint};
 use admission::{Call, CallFault, CallList, Calls, Left, Leg, Legs};
+use facts::ensure;
 use ras_module::CallKey;
 use std::alloc::AllocError;
 use std::test::Fail;
@@ -12,6 +13,18 @@ const FIRST: u8 = b'1';
 const SECOND: u8 = b'2';
 
 const THIRD: u8 = b'3';
+
+/// The units of a call, half of them, and what is left to 2,000.
+const UNITS: u32 = 1_280;
+
+const HALF: u32 = 640;
+
+const REST: u32 = 720;
+
+/// How many calls are opened where memory is refused, and with how many units each.
+const MANY: u8 = 20;
+
+const FEW_UNITS: u32 = 10;
 
 fn leg(last: u8) -> Leg {
     Leg {
@@ -42,7 +55,7 @@ fn join(calls: &mut Calls, key: CallKey, leg: Leg) -> Option<Result<(), CallFaul
     Some(calls.join(key, leg))
 }
 
-/// What is returned if a call was opened or joined.
+/// What `open` and `join` return if a call was opened or joined.
 const DONE: Option<Result<(), CallFault>> = Some(Ok(()));
 
 const fn refused(fault: CallFault) -> Option<Result<(), CallFault>> {
@@ -55,162 +68,233 @@ const fn key(octet: u8) -> CallKey {
     }
 }
 
-/// Whether a call of two endpoints is made, with key 1 and pool 2.
-fn is_made(calls: &mut Calls) -> bool {
-    calls.reserve(1).is_ok()
-        && open(calls, key(1), 2, 1280, leg(FIRST)) == DONE
-        && join(calls, key(1), leg(SECOND)) == DONE
-        && calls.len() == 1
-        && calls.total() == 1280
+/// Makes a call of two endpoints, with key 1 and pool 2.
+fn admit_two(calls: &mut Calls) -> Result<(), Fail> {
+    calls.reserve(1)?;
+    let is_open = open(calls, key(1), 2, UNITS, leg(FIRST)) == DONE;
+    ensure(is_open, "the call is opened")?;
+    ensure(
+        join(calls, key(1), leg(SECOND)) == DONE,
+        "the second endpoint joins it",
+    )?;
+    ensure(calls.len() == 1, "there is one call")?;
+    ensure(calls.total() == u64::from(UNITS), "its units are in use")
 }
 
-fn is_changed(calls: &mut Calls) -> bool {
-    calls.set_units(&key(1), 640).is_ok() && calls.total() == 640
+/// Gives the call half of its units.
+fn halve(calls: &mut Calls) -> Result<(), Fail> {
+    ensure(calls.set_units(&key(1), HALF).is_ok(), "the call is there")?;
+    ensure(
+        calls.total() == u64::from(HALF),
+        "half of its units are in use",
+    )
 }
 
-/// Whether a first endpoint leaves the call, and the call goes on.
-fn is_left_by_the_first(calls: &mut Calls) -> bool {
+/// Lets the first endpoint leave the call, which goes on.
+fn leave_first(calls: &mut Calls) -> Result<(), Fail> {
     let left = calls.leave(&key(1), &endpoint(FIRST));
     let again = calls.leave(&key(1), &endpoint(FIRST));
-    left == Ok(Left { ended: None }) && again == Err(CallFault::NoLeg) && calls.total() == 640
+    ensure(
+        left == Ok(Left { ended: None }),
+        "the first endpoint leaves",
+    )?;
+    ensure(again == Err(CallFault::NoLeg), "it leaves once")?;
+    ensure(calls.total() == u64::from(HALF), "the call goes on")
 }
 
-/// Whether the call ends with its second endpoint.
-fn is_ended_by_the_second(calls: &mut Calls) -> bool {
-    let ended = Some((2, 640));
+/// Lets the second endpoint leave the call, which ends with it.
+fn leave_second(calls: &mut Calls) -> Result<(), Fail> {
+    let ended = Some((2, HALF));
     let left = calls.leave(&key(1), &endpoint(SECOND));
     let again = calls.leave(&key(1), &endpoint(SECOND));
-    left == Ok(Left { ended }) && again == Err(CallFault::NoCall)
+    ensure(
+        left == Ok(Left { ended }),
+        "the call ends as the second endpoint leaves",
+    )?;
+    ensure(again == Err(CallFault::NoCall), "it ends once")
+}
+
+/// Lets a call live: it is made, gets other units, and is left by one endpoint after the other.
+fn live(calls: &mut Calls) -> Result<(), Fail> {
+    admit_two(calls)?;
+    halve(calls)?;
+    leave_first(calls)?;
+    leave_second(calls)?;
+    ensure(calls.total() == 0, "nothing is in use")?;
+    ensure(calls.len() == 0, "there is no call")
 }
 
 #[test]
 fn a_call_from_admission_to_disengage(rt: HostRuntime) -> Result<(), Fail> {
     let mut calls = Calls::new(rt.alloc(), 10);
-    let is_made = is_made(&mut calls);
-    let is_changed = is_changed(&mut calls);
-    let is_left = is_left_by_the_first(&mut calls);
-    let is_ended = is_ended_by_the_second(&mut calls);
-    let (total, len) = (calls.total(), calls.len());
+    let ended = live(&mut calls);
     drop(calls);
-    assert!(rt; is_made);
-    assert!(rt; is_changed);
-    assert!(rt; is_left);
-    assert!(rt; is_ended);
-    assert_eq!(rt; total, 0);
-    assert_eq!(rt; len, 0);
-    Ok(())
+    ended
 }
 
-/// Whether two endpoints, and no third one, take part in a call.
-fn is_joined_by_two(calls: &mut Calls) -> bool {
-    open(calls, key(1), 0, 1280, leg(FIRST)) == DONE
-        && join(calls, key(2), leg(SECOND)) == refused(CallFault::NoCall)
-        && join(calls, key(1), leg(SECOND)) == DONE
-        && join(calls, key(1), leg(THIRD)) == refused(CallFault::TwoLegs)
+/// Lets two endpoints, and no third one, take part in a call.
+fn join_two(calls: &mut Calls) -> Result<(), Fail> {
+    let is_open = open(calls, key(1), 0, UNITS, leg(FIRST)) == DONE;
+    let nowhere = join(calls, key(2), leg(SECOND));
+    let second = join(calls, key(1), leg(SECOND));
+    let third = join(calls, key(1), leg(THIRD));
+    ensure(is_open, "the call is opened")?;
+    ensure(
+        nowhere == refused(CallFault::NoCall),
+        "no call is joined that isn't there",
+    )?;
+    ensure(second == DONE, "the second endpoint joins it")?;
+    ensure(
+        third == refused(CallFault::TwoLegs),
+        "no third endpoint joins it",
+    )
 }
 
-fn is_call_of_two(call: &Call) -> bool {
+/// Compares a call with that of the two endpoints.
+fn compare_call_of_two(call: &Call) -> Result<(), Fail> {
     let legs = call.copy().legs;
-    call.units == 1280
-        && call.legs.are_two()
-        && call.legs.has_other(&endpoint(SECOND))
-        && legs.as_slice() == [leg(FIRST), leg(SECOND)].as_slice()
+    ensure(call.units == UNITS, "it has its units")?;
+    ensure(call.legs.are_two(), "it has two legs")?;
+    ensure(
+        call.legs.has_other(&endpoint(SECOND)),
+        "the second endpoint isn't alone",
+    )?;
+    let both = [leg(FIRST), leg(SECOND)];
+    ensure(
+        legs.as_slice() == both.as_slice(),
+        "its copy has the legs of both",
+    )
 }
 
-/// Whether the second endpoint's leg is found, and no leg of the third.
-fn are_found(calls: &Calls) -> bool {
-    let second = match calls.leg(&key(1), &endpoint(SECOND)) {
-        Some(leg) => leg.told.ip == [10, 0, 0, SECOND],
-        None => false,
-    };
-    second
-        && calls.leg(&key(1), &endpoint(THIRD)).is_none()
-        && calls.call_of(&endpoint(SECOND)) == Some(key(1))
-        && calls.call_of(&endpoint(THIRD)).is_none()
+/// Finds the second endpoint's leg, and no leg of the third.
+fn find_legs(calls: &Calls) -> Result<(), Fail> {
+    match calls.leg(&key(1), &endpoint(SECOND)) {
+        Some(leg) => ensure(
+            leg.told.ip == [10, 0, 0, SECOND],
+            "the second one was told so",
+        )?,
+        None => return Err(Fail::from("the second endpoint has a leg")),
+    }
+    let third = calls.leg(&key(1), &endpoint(THIRD));
+    ensure(third.is_none(), "the third endpoint has no leg")?;
+    let call = calls.call_of(&endpoint(SECOND));
+    ensure(call == Some(key(1)), "the second endpoint is in the call")?;
+    ensure(
+        calls.call_of(&endpoint(THIRD)).is_none(),
+        "the third endpoint is in no call",
+    )
+}
+
+/// Lets two endpoints take part in a call, which is found with their legs.
+fn call_of_two(calls: &mut Calls) -> Result<(), Fail> {
+    join_two(calls)?;
+    match calls.get(&key(1)) {
+        Some(call) => compare_call_of_two(call)?,
+        None => return Err(Fail::from("the call is found")),
+    }
+    find_legs(calls)
 }
 
 #[test]
 fn two_endpoints_take_part_at_most(rt: HostRuntime) -> Result<(), Fail> {
     let mut calls = Calls::new(rt.alloc(), 10);
-    let are_joined = is_joined_by_two(&mut calls);
-    let are_two = match calls.get(&key(1)) {
-        Some(call) => is_call_of_two(call),
-        None => false,
-    };
-    let are_found = are_found(&calls);
+    let ended = call_of_two(&mut calls);
     drop(calls);
-    assert!(rt; are_joined);
-    assert!(rt; are_two);
-    assert!(rt; are_found);
-    Ok(())
+    ended
 }
 
-/// Whether two calls, one of each of two pools, fill a table of two.
-fn is_filled(calls: &mut Calls) -> bool {
-    open(calls, key(1), 0, 1280, leg(FIRST)) == DONE
-        && open(calls, key(2), 1, 720, leg(FIRST)) == DONE
-        && open(calls, key(3), 1, 1, leg(FIRST)) == refused(CallFault::Full)
-        && calls.set_units(&key(3), 1) == Err(CallFault::NoCall)
+/// Fills a table of two with a call of each of two pools.
+fn fill(calls: &mut Calls) -> Result<(), Fail> {
+    let first = open(calls, key(1), 0, UNITS, leg(FIRST));
+    let second = open(calls, key(2), 1, REST, leg(FIRST));
+    let third = open(calls, key(3), 1, 1, leg(FIRST));
+    let units = calls.set_units(&key(3), 1);
+    ensure(first == DONE, "the first call is opened")?;
+    ensure(second == DONE, "the second call is opened")?;
+    ensure(
+        third == refused(CallFault::Full),
+        "there is no place for a third call",
+    )?;
+    ensure(
+        units == Err(CallFault::NoCall),
+        "what isn't there gets no units",
+    )
 }
 
-fn has_parts(calls: &Calls) -> bool {
-    calls.total() == 2000
-        && calls.total_of(0) == 1280
-        && calls.total_of(1) == 720
-        && calls.total_of(2) == 0
+/// Fills the table, in which each pool has its part of the sum then, and the first endpoint all
+/// legs.
+fn fill_and_sum(calls: &mut Calls) -> Result<(), Fail> {
+    fill(calls)?;
+    ensure(
+        calls.total() == u64::from(UNITS + REST),
+        "the units of both are in use",
+    )?;
+    ensure(
+        calls.total_of(0) == u64::from(UNITS),
+        "the first call's are of the first pool",
+    )?;
+    ensure(
+        calls.total_of(1) == u64::from(REST),
+        "the second call's are of the second pool",
+    )?;
+    ensure(calls.total_of(2) == 0, "none are of a third pool")?;
+    ensure(
+        calls.legs_of(&endpoint(FIRST)) == 2,
+        "the first endpoint has two legs",
+    )?;
+    ensure(
+        calls.legs_of(&endpoint(SECOND)) == 0,
+        "the second endpoint has none",
+    )
 }
 
 #[test]
 fn each_pool_has_its_part_of_the_sum(rt: HostRuntime) -> Result<(), Fail> {
     let mut calls = Calls::new(rt.alloc(), 2);
-    let is_filled = is_filled(&mut calls);
-    let has_parts = has_parts(&calls);
-    let first = calls.legs_of(&endpoint(FIRST));
-    let second = calls.legs_of(&endpoint(SECOND));
+    let ended = fill_and_sum(&mut calls);
     drop(calls);
-    assert!(rt; is_filled);
-    assert!(rt; has_parts);
-    assert_eq!(rt; first, 2);
-    assert_eq!(rt; second, 0);
+    ended
+}
+
+/// Opens a call with each of these keys.
+fn open_all(calls: &mut Calls, octets: &[u8]) -> Result<(), Fail> {
+    for octet in octets {
+        let opened = open(calls, key(*octet), 0, u32::from(*octet), leg(FIRST));
+        ensure(opened == DONE, "each call is opened")?;
+    }
     Ok(())
 }
 
-/// Whether a call is opened with each of these keys.
-fn are_opened(calls: &mut Calls, octets: &[u8]) -> bool {
-    for octet in octets {
-        if open(calls, key(*octet), 0, u32::from(*octet), leg(FIRST)) != DONE {
-            return false;
-        }
-    }
-    true
-}
-
-/// Whether these are calls with these keys, each with as many units as its key's octets say.
-fn are_calls(list: &CallList, octets: &[u8]) -> bool {
-    let calls = list.as_slice();
+/// Compares calls with those of these keys, each with as many units as its key's octets say.
+fn compare_calls(calls: &[(CallKey, Call)], octets: &[u8]) -> Result<(), Fail> {
     for (entry, octet) in calls.iter().zip(octets) {
-        if entry.0 != key(*octet) || entry.1.units != u32::from(*octet) {
-            return false;
-        }
+        ensure(entry.0 == key(*octet), "the keys rise")?;
+        ensure(
+            entry.1.units == u32::from(*octet),
+            "each call has its units",
+        )?;
     }
-    calls.len() == octets.len()
+    ensure(calls.len() == octets.len(), "each call comes once")
 }
 
-/// Whether the calls are listed with these keys, in this order.
-fn are_listed(calls: &Calls, octets: &[u8]) -> Result<bool, AllocError> {
+/// Lists the calls, which have to have these keys, in this order.
+fn list_all(calls: &Calls, octets: &[u8]) -> Result<(), Fail> {
     let list = CallList::from_vec(calls.list()?.into_vec());
-    Ok(are_calls(&list, octets))
+    compare_calls(list.as_slice(), octets)
+}
+
+/// Opens calls in any order, and lists them.
+fn open_and_list(calls: &mut Calls) -> Result<(), Fail> {
+    open_all(calls, &[7, 3, 200, 1, 9])?;
+    list_all(calls, &[1, 3, 7, 9, 200])
 }
 
 #[test]
 fn a_list_is_by_rising_key(rt: HostRuntime) -> Result<(), Fail> {
     let mut calls = Calls::new(rt.alloc(), 20_000);
-    let are_opened = are_opened(&mut calls, &[7, 3, 200, 1, 9]);
-    let are_listed = are_listed(&calls, &[1, 3, 7, 9, 200]);
+    let ended = open_and_list(&mut calls);
     drop(calls);
-    assert!(rt; are_opened);
-    assert!(rt; are_listed?);
-    Ok(())
+    ended
 }
 
 fn call(pool: usize, units: u32, last: u8) -> Call {
@@ -223,11 +307,11 @@ fn call(pool: usize, units: u32, last: u8) -> Call {
 
 #[test]
 fn calls_are_equal_by_all_that_they_have(rt: HostRuntime) -> Result<(), Fail> {
-    let one = call(1, 1280, FIRST);
+    let one = call(1, UNITS, FIRST);
     assert!(rt; one == one.copy());
-    assert!(rt; one != call(2, 1280, FIRST));
-    assert!(rt; one != call(1, 1281, FIRST));
-    assert!(rt; one != call(1, 1280, SECOND));
+    assert!(rt; one != call(2, UNITS, FIRST));
+    assert!(rt; one != call(1, UNITS + 1, FIRST));
+    assert!(rt; one != call(1, UNITS, SECOND));
     Ok(())
 }
 
@@ -242,50 +326,57 @@ fn legs_are_equal_by_endpoint_and_address(rt: HostRuntime) -> Result<(), Fail> {
     Ok(())
 }
 
-/// Whether a list equals itself read again, and no list of no call.
-fn is_compared(calls: &Calls, none: &CallList) -> Result<bool, AllocError> {
+/// Opens a call, whose list equals itself read again, and no list of no call.
+fn compare_lists(calls: &mut Calls, none: &CallList) -> Result<(), Fail> {
+    let opened = open(calls, key(1), 1, UNITS, leg(FIRST));
+    ensure(opened == DONE, "the call is opened")?;
     let one = calls.list()?;
     let again = calls.list()?;
-    Ok(one == again && one != *none)
+    let is_same = one == again;
+    let is_other = one != *none;
+    drop(again);
+    drop(one);
+    ensure(is_same, "a list equals itself read again")?;
+    ensure(is_other, "it equals no list of no call")
 }
 
 #[test]
 fn lists_are_equal_by_their_calls(rt: HostRuntime) -> Result<(), Fail> {
     let none = CallList::from_vec(Vec::new(rt.alloc()));
     let mut calls = Calls::new(rt.alloc(), 10);
-    let is_open = open(&mut calls, key(1), 1, 1280, leg(FIRST)) == DONE;
-    let is_compared = is_compared(&calls, &none);
+    let ended = compare_lists(&mut calls, &none);
     drop(calls);
     drop(none);
-    assert!(rt; is_open);
-    assert!(rt; is_compared?);
-    Ok(())
+    ended
 }
 
-/// Whether a call is open at last: if a request for memory is refused, nothing has changed, and
-/// the same call is opened with memory.
-fn is_open_at_last(calls: &mut Calls, key: CallKey) -> bool {
+/// Opens a call at last: if a request for memory is refused, nothing has changed, and the same call
+/// is opened with memory.
+fn open_at_last(calls: &mut Calls, key: CallKey) -> Result<(), Fail> {
     let before = calls.len();
-    let answer = open(calls, key, 0, 10, leg(FIRST));
+    let answer = open(calls, key, 0, FEW_UNITS, leg(FIRST));
     if answer == DONE {
-        return true;
+        return Ok(());
     }
-    answer == refused(CallFault::Memory)
-        && calls.len() == before
-        && open(calls, key, 0, 10, leg(FIRST)) == DONE
+    ensure(
+        answer == refused(CallFault::Memory),
+        "memory alone is wanting",
+    )?;
+    ensure(calls.len() == before, "a refused call changes nothing")?;
+    let again = open(calls, key, 0, FEW_UNITS, leg(FIRST));
+    ensure(again == DONE, "the same call is opened with memory")
 }
 
-fn are_open_at_last(calls: &mut Calls) -> bool {
-    for octet in 0..20u8 {
-        if !is_open_at_last(calls, key(octet)) {
-            return false;
-        }
+/// Makes room for further calls at last.
+fn reserve_at_last(calls: &mut Calls) -> Result<(), Fail> {
+    if calls.reserve(50).is_err() {
+        ensure(
+            calls.len() == usize::from(MANY),
+            "room that is refused changes nothing",
+        )?;
+        calls.reserve(50)?;
     }
-    true
-}
-
-fn is_room_made_at_last(calls: &mut Calls) -> bool {
-    calls.reserve(50).is_ok() || calls.len() == 20 && calls.reserve(50).is_ok()
+    Ok(())
 }
 
 /// How many calls are listed at last.
@@ -297,17 +388,24 @@ fn listed_at_last(calls: &Calls) -> Result<usize, AllocError> {
     Ok(list.as_slice().len())
 }
 
+/// Opens calls, makes room and lists the calls, each at last.
+fn fill_at_last(calls: &mut Calls) -> Result<(), Fail> {
+    for octet in 0..MANY {
+        open_at_last(calls, key(octet))?;
+    }
+    reserve_at_last(calls)?;
+    ensure(
+        listed_at_last(calls)? == usize::from(MANY),
+        "each call is listed",
+    )?;
+    let units = u64::from(FEW_UNITS) * u64::from(MANY);
+    ensure(calls.total() == units, "the units of each call are in use")
+}
+
 #[test]
 fn a_refusal_of_memory_changes_nothing(rt: HostRuntime) -> Result<(), Fail> {
     let mut calls = Calls::new(rt.alloc(), 100);
-    let are_open = are_open_at_last(&mut calls);
-    let is_room_made = is_room_made_at_last(&mut calls);
-    let listed = listed_at_last(&calls);
-    let total = calls.total();
+    let ended = fill_at_last(&mut calls);
     drop(calls);
-    assert!(rt; are_open);
-    assert!(rt; is_room_made);
-    assert_eq!(rt; listed?, 20);
-    assert_eq!(rt; total, 200);
-    Ok(())
+    ended
 }

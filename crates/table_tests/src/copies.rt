@@ -3,6 +3,7 @@
 
 use crate::fixtures::{address, endpoint, is_confirmed, kept_reply, no_alias, request_octets, seq};
 use admission::{Calls, Leg};
+use facts::ensure;
 use kept_replies::{Kept, KeptKey};
 use ras_module::{Address, CallKey, Reply};
 use registrations::{Registration, Registrations};
@@ -25,22 +26,18 @@ fn registration(alloc: Global, last: u8) -> Option<Registration> {
 }
 
 /// Registers three endpoints, with room that is made at last.
-fn register(table: &mut Registrations, alloc: Global) -> bool {
-    if table.reserve(3).is_err() && table.reserve(3).is_err() {
-        return false;
+fn register(table: &mut Registrations, alloc: Global) -> Result<(), Fail> {
+    if table.reserve(3).is_err() {
+        table.reserve(3)?;
     }
     for last in ENDPOINTS {
-        let Some(new) = registration(alloc, last) else {
-            return false;
-        };
+        let new = registration(alloc, last).ok_or("memory for a registration")?;
         if table.get(&new.identifier).is_some() || table.by_address(new.call_signal).is_some() {
-            return false;
+            return Err(Fail::from("the endpoint is registered"));
         }
-        if table.insert(new).is_err() {
-            return false;
-        }
+        table.insert(new)?;
     }
-    true
+    Ok(())
 }
 
 /// Whether exactly the three endpoints are registered.
@@ -61,23 +58,33 @@ fn registrations_at_last(table: &Registrations) -> Result<Registrations, AllocEr
     }
 }
 
-fn are_registrations_copied(table: &Registrations) -> Result<bool, AllocError> {
+/// Registers endpoints, and copies their table. A change of the copy leaves the table.
+fn copy_registrations(table: &mut Registrations, alloc: Global) -> Result<(), Fail> {
+    register(table, alloc)?;
     let mut copy = registrations_at_last(table)?;
     let is_same = are_registered(&copy);
     let is_removed = copy.remove(&endpoint(b'2')).is_some();
-    Ok(is_same && is_removed && copy.len() == 2 && are_registered(table))
+    let is_less = copy.len() == 2;
+    drop(copy);
+    ensure(is_same, "the copy has the three endpoints")?;
+    ensure(is_removed, "an endpoint is removed from the copy")?;
+    ensure(is_less, "the copy has two endpoints then")?;
+    ensure(
+        are_registered(table),
+        "the table has the three endpoints still",
+    )
 }
 
 #[test]
 fn a_copy_of_registrations_is_apart(rt: HostRuntime) -> Result<(), Fail> {
     let mut table = Registrations::new(rt.alloc(), 3);
-    let is_filled = register(&mut table, rt.alloc());
-    let are_copied = are_registrations_copied(&table);
+    let ended = copy_registrations(&mut table, rt.alloc());
     drop(table);
-    assert!(rt; is_filled);
-    assert!(rt; are_copied?);
-    Ok(())
+    ended
 }
+
+/// The units of each call.
+const UNITS: u32 = 640;
 
 const fn call_key(octet: u8) -> CallKey {
     CallKey {
@@ -86,9 +93,9 @@ const fn call_key(octet: u8) -> CallKey {
 }
 
 /// Opens two calls, of pools 1 and 2, with room that is made at last.
-fn open(calls: &mut Calls) -> bool {
-    if calls.reserve(2).is_err() && calls.reserve(2).is_err() {
-        return false;
+fn open(calls: &mut Calls) -> Result<(), Fail> {
+    if calls.reserve(2).is_err() {
+        calls.reserve(2)?;
     }
     for octet in [1u8, 2] {
         let leg = Leg {
@@ -96,16 +103,19 @@ fn open(calls: &mut Calls) -> bool {
             told: address(octet),
         };
         let key = call_key(octet);
-        if calls.get(&key).is_some() || calls.open(key, usize::from(octet), 640, leg).is_err() {
-            return false;
+        if calls.get(&key).is_some() {
+            return Err(Fail::from("a call has that key"));
         }
+        calls.open(key, usize::from(octet), UNITS, leg)?;
     }
-    true
+    Ok(())
 }
 
 /// Whether exactly the two calls are open, each with its bandwidth.
 fn are_open(calls: &Calls) -> bool {
-    let has_sums = calls.total() == 1280 && calls.total_of(1) == 640 && calls.total_of(2) == 640;
+    let units = u64::from(UNITS);
+    let has_parts = calls.total_of(1) == units && calls.total_of(2) == units;
+    let has_sums = has_parts && calls.total() == 2 * units;
     let has_legs = calls.leg(&call_key(1), &endpoint(b'1')).is_some()
         && calls.leg(&call_key(2), &endpoint(b'1')).is_some();
     has_sums && has_legs && calls.len() == 2
@@ -118,22 +128,26 @@ fn calls_at_last(calls: &Calls) -> Result<Calls, AllocError> {
     }
 }
 
-fn are_calls_copied(calls: &Calls) -> Result<bool, AllocError> {
+/// Opens calls, and copies their table. A change of the copy leaves the table.
+fn copy_calls(calls: &mut Calls) -> Result<(), Fail> {
+    open(calls)?;
     let mut copy = calls_at_last(calls)?;
     let is_same = are_open(&copy);
     let has_left = copy.leave(&call_key(1), &endpoint(b'1')).is_ok();
-    Ok(is_same && has_left && copy.total() == 640 && are_open(calls))
+    let is_less = copy.total() == u64::from(UNITS);
+    drop(copy);
+    ensure(is_same, "the copy has the two calls")?;
+    ensure(has_left, "the endpoint leaves a call of the copy")?;
+    ensure(is_less, "the copy has the units of the other call then")?;
+    ensure(are_open(calls), "the table has the two calls still")
 }
 
 #[test]
 fn a_copy_of_calls_is_apart(rt: HostRuntime) -> Result<(), Fail> {
     let mut calls = Calls::new(rt.alloc(), 2);
-    let is_filled = open(&mut calls);
-    let are_copied = are_calls_copied(&calls);
+    let ended = copy_calls(&mut calls);
     drop(calls);
-    assert!(rt; is_filled);
-    assert!(rt; are_copied?);
-    Ok(())
+    ended
 }
 
 /// The datagram of one octet.
@@ -159,20 +173,20 @@ fn confirm(number: u8) -> Reply {
 }
 
 /// Keeps replies 1 and 2, born in steps 1 and 2, with room that is made at last.
-fn keep(kept: &mut Kept, alloc: Global) -> Result<bool, Fail> {
+fn keep(kept: &mut Kept, alloc: Global) -> Result<(), Fail> {
     for number in [1u8, 2] {
         let key = datagram(alloc, number)?;
         let born = u64::from(number);
         if kept.is_full() || !kept.is_free(&key, born) {
-            return Ok(false);
+            return Err(Fail::from("it can't be kept"));
         }
-        if kept.reserve(0).is_err() && kept.reserve(0).is_err() {
-            return Ok(false);
+        if kept.reserve(0).is_err() {
+            kept.reserve(0)?;
         }
         let reply = kept_reply(alloc, &confirm(number))?;
         kept.keep(key, born, reply, 1000);
     }
-    Ok(true)
+    Ok(())
 }
 
 /// Whether exactly the two replies are kept.
@@ -195,20 +209,23 @@ fn kept_at_last(kept: &Kept) -> Result<Kept, AllocError> {
     }
 }
 
-fn are_replies_copied(kept: &Kept) -> Result<bool, AllocError> {
+/// Keeps replies, and copies their table. A change of the copy leaves the table.
+fn copy_replies(kept: &mut Kept, alloc: Global) -> Result<(), Fail> {
+    keep(kept, alloc)?;
     let mut copy = kept_at_last(kept)?;
     let is_same = are_kept(&copy);
     copy.drop_born(1);
-    Ok(is_same && copy.len() == 1 && copy.by_born(1).is_none() && are_kept(kept))
+    let is_less = copy.len() == 1 && copy.by_born(1).is_none();
+    drop(copy);
+    ensure(is_same, "the copy has the two replies")?;
+    ensure(is_less, "the copy has the second reply alone then")?;
+    ensure(are_kept(kept), "the table has the two replies still")
 }
 
 #[test]
 fn a_copy_of_kept_replies_is_apart(rt: HostRuntime) -> Result<(), Fail> {
     let mut kept = Kept::new(rt.alloc(), 2);
-    let is_filled = keep(&mut kept, rt.alloc());
-    let are_copied = are_replies_copied(&kept);
+    let ended = copy_replies(&mut kept, rt.alloc());
     drop(kept);
-    assert!(rt; is_filled?);
-    assert!(rt; are_copied?);
-    Ok(())
+    ended
 }

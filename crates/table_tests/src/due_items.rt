@@ -3,6 +3,7 @@
 use crate::fixtures::{address, endpoint, kept_reply, no_alias, request_octets, seq};
 use admission::{Calls, Leg};
 use expiry::{DueItem, Times, due};
+use facts::ensure_of;
 use kept_replies::{InProgress, Kept, KeptKey};
 use ras_module::{Boxed, CallKey, Delay, DisengageRequest, EndpointId, Reply, Request};
 use registrations::{Registration, Registrations};
@@ -70,7 +71,19 @@ fn datagram(alloc: Global) -> Result<KeptKey, Fail> {
     })
 }
 
-/// Lets a request wait, which is served again from the moment 1500 on.
+/// When a request that waits is served again.
+const RETRY: u64 = 1_500;
+
+/// When a kept reply is over.
+const OVER: u64 = 10_000;
+
+/// When the pools' turn is due.
+const TURN: u64 = 1_400;
+
+/// When a registration is over.
+const END: u64 = 60_000;
+
+/// Lets a request wait.
 fn pend(alloc: Global, kept: &mut Kept) -> Result<(), Fail> {
     let key = datagram(alloc)?;
     if kept.is_full() || !kept.is_free(&key, 3) {
@@ -84,11 +97,11 @@ fn pend(alloc: Global, kept: &mut Kept) -> Result<(), Fail> {
     let request = Request::Drq(Boxed::new(alloc, request)?);
     kept.reserve(0)?;
     let reply = InProgress::new(seq(7), Delay::new(1500).unwrap());
-    kept.pend(key, 3, request, reply, 1500, 3);
+    kept.pend(key, 3, request, reply, RETRY, 3);
     Ok(())
 }
 
-/// Keeps a reply until the moment 10,000.
+/// Keeps a reply until it is over.
 fn keep(alloc: Global, kept: &mut Kept) -> Result<(), Fail> {
     let key = datagram(alloc)?;
     if kept.is_full() || !kept.is_free(&key, 5) {
@@ -96,40 +109,46 @@ fn keep(alloc: Global, kept: &mut Kept) -> Result<(), Fail> {
     }
     kept.reserve(0)?;
     let reply = kept_reply(alloc, &Reply::Dcf { seq: seq(7) })?;
-    kept.keep(key, 5, reply, 10_000);
+    kept.keep(key, 5, reply, OVER);
     Ok(())
 }
 
-/// Whether nothing is due a moment before, and then this.
-fn is_due_from(
+/// Looks what is due: nothing a moment before, and then this.
+fn look(
     table: &Registrations,
     calls: &Calls,
     kept: &Kept,
+    row: &str,
     moment: u64,
     item: DueItem,
-) -> bool {
-    due(table, calls, kept, moment.saturating_sub(1), NEVER, &TIMES).is_none()
-        && due(table, calls, kept, moment, NEVER, &TIMES) == Some(item)
+) -> Result<(), Fail> {
+    let before = due(table, calls, kept, moment.saturating_sub(1), NEVER, &TIMES);
+    let then = due(table, calls, kept, moment, NEVER, &TIMES);
+    ensure_of(row, before.is_none(), "nothing is due a moment before")?;
+    ensure_of(row, then == Some(item), "it is due at its moment")
 }
 
-/// Whether an endpoint in a call, silent from the start, is asked after 30 seconds, and twice more
-/// in steps of 5 seconds, and counts as silent 5 seconds after the last question.
-fn is_asked_three_times(
+/// Asks an endpoint in a call, silent from the start, after 30 seconds, and twice more in steps of
+/// 5 seconds. It counts as silent 5 seconds after the last question.
+fn ask_three_times(
     alloc: Global,
     table: &mut Registrations,
     calls: &mut Calls,
     kept: &Kept,
-) -> Result<bool, Fail> {
+) -> Result<(), Fail> {
     register(alloc, table, NEVER)?;
     open(calls)?;
     let id = endpoint(FIRST);
-    for now in [30_000, 35_000, 40_000] {
-        if !is_due_from(table, calls, kept, now, DueItem::Interrogate(id)) {
-            return Ok(false);
-        }
+    let questions = [
+        ("first question", 30_000),
+        ("second question", 35_000),
+        ("third question", 40_000),
+    ];
+    for (name, now) in questions {
+        look(table, calls, kept, name, now, DueItem::Interrogate(id))?;
         ask(table, &id, now)?;
     }
-    Ok(is_due_from(table, calls, kept, 45_000, DueItem::Silent(id)))
+    look(table, calls, kept, "silence", 45_000, DueItem::Silent(id))
 }
 
 #[test]
@@ -137,24 +156,23 @@ fn a_silent_endpoint_in_a_call(rt: HostRuntime) -> Result<(), Fail> {
     let mut table = Registrations::new(rt.alloc(), 4);
     let mut calls = Calls::new(rt.alloc(), 4);
     let kept = Kept::new(rt.alloc(), 4);
-    let is_asked = is_asked_three_times(rt.alloc(), &mut table, &mut calls, &kept);
+    let ended = ask_three_times(rt.alloc(), &mut table, &mut calls, &kept);
     drop(kept);
     drop(calls);
     drop(table);
-    assert!(rt; is_asked?);
-    Ok(())
+    ended
 }
 
-/// Whether an endpoint that takes part in no call isn't asked until its registration is over.
-fn is_over_unasked(
+/// Leaves an endpoint that takes part in no call unasked until its registration is over.
+fn leave_unasked(
     alloc: Global,
     table: &mut Registrations,
     calls: &Calls,
     kept: &Kept,
-) -> Result<bool, Fail> {
-    register(alloc, table, 60_000)?;
+) -> Result<(), Fail> {
+    register(alloc, table, END)?;
     let item = DueItem::RegistrationOver(endpoint(FIRST));
-    Ok(is_due_from(table, calls, kept, 60_000, item))
+    look(table, calls, kept, "end of the registration", END, item)
 }
 
 #[test]
@@ -162,12 +180,17 @@ fn a_silent_endpoint_in_no_call(rt: HostRuntime) -> Result<(), Fail> {
     let mut table = Registrations::new(rt.alloc(), 4);
     let calls = Calls::new(rt.alloc(), 4);
     let kept = Kept::new(rt.alloc(), 4);
-    let is_over = is_over_unasked(rt.alloc(), &mut table, &calls, &kept);
+    let ended = leave_unasked(rt.alloc(), &mut table, &calls, &kept);
     drop(kept);
     drop(calls);
     drop(table);
-    assert!(rt; is_over?);
-    Ok(())
+    ended
+}
+
+/// Lets a request wait, whose retry is due then.
+fn wait(alloc: Global, table: &Registrations, calls: &Calls, kept: &mut Kept) -> Result<(), Fail> {
+    pend(alloc, kept)?;
+    look(table, calls, kept, "retry", RETRY, DueItem::Retry(3))
 }
 
 #[test]
@@ -175,14 +198,29 @@ fn a_request_that_waits(rt: HostRuntime) -> Result<(), Fail> {
     let table = Registrations::new(rt.alloc(), 4);
     let calls = Calls::new(rt.alloc(), 4);
     let mut kept = Kept::new(rt.alloc(), 4);
-    let is_pending = pend(rt.alloc(), &mut kept);
-    let is_due = is_due_from(&table, &calls, &kept, 1500, DueItem::Retry(3));
+    let ended = wait(rt.alloc(), &table, &calls, &mut kept);
     drop(kept);
     drop(calls);
     drop(table);
-    is_pending?;
-    assert!(rt; is_due);
-    Ok(())
+    ended
+}
+
+/// Keeps a reply, which is due to go when it is over.
+fn keep_until_over(
+    alloc: Global,
+    table: &Registrations,
+    calls: &Calls,
+    kept: &mut Kept,
+) -> Result<(), Fail> {
+    keep(alloc, kept)?;
+    look(
+        table,
+        calls,
+        kept,
+        "end of the reply",
+        OVER,
+        DueItem::KeptOver(5),
+    )
 }
 
 #[test]
@@ -190,18 +228,15 @@ fn a_reply_that_is_over(rt: HostRuntime) -> Result<(), Fail> {
     let table = Registrations::new(rt.alloc(), 4);
     let calls = Calls::new(rt.alloc(), 4);
     let mut kept = Kept::new(rt.alloc(), 4);
-    let is_kept = keep(rt.alloc(), &mut kept);
-    let is_due = is_due_from(&table, &calls, &kept, 10_000, DueItem::KeptOver(5));
+    let ended = keep_until_over(rt.alloc(), &table, &calls, &mut kept);
     drop(kept);
     drop(calls);
     drop(table);
-    is_kept?;
-    assert!(rt; is_due);
-    Ok(())
+    ended
 }
 
 fn is_turn_due(table: &Registrations, calls: &Calls, kept: &Kept, now: u64) -> bool {
-    due(table, calls, kept, now, 1400, &TIMES) == Some(DueItem::PoolTurn)
+    due(table, calls, kept, now, TURN, &TIMES) == Some(DueItem::PoolTurn)
 }
 
 #[test]
@@ -209,11 +244,11 @@ fn the_turn_of_the_pools(rt: HostRuntime) {
     let table = Registrations::new(rt.alloc(), 4);
     let calls = Calls::new(rt.alloc(), 4);
     let kept = Kept::new(rt.alloc(), 4);
-    let is_early = is_turn_due(&table, &calls, &kept, 1399);
-    let is_due = is_turn_due(&table, &calls, &kept, 1400);
+    let is_early = is_turn_due(&table, &calls, &kept, TURN - 1);
+    let is_due = is_turn_due(&table, &calls, &kept, TURN);
     drop(kept);
     drop(calls);
     drop(table);
-    assert!(rt; !is_early);
-    assert!(rt; is_due);
+    assert!(rt; !is_early, "no turn is due a moment before");
+    assert!(rt; is_due, "the turn is due at its moment");
 }

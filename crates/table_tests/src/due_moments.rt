@@ -99,7 +99,11 @@ fn agrees_with_a_plain_list(rt: HostRuntime) -> Result<(), Fail> {
     assert!(rt; held > PLACES / 2, "{held}");
     let copy = deadlines.copy()?;
     assert!(rt; copy.room() == PLACES);
-    assert!(rt; are_same(&copy, &plain) && is_first(&copy, &plain));
+    assert!(rt; are_same(&copy, &plain), "the copy has the same moments");
+    assert!(rt;
+        is_first(&copy, &plain),
+        "the copy has the same first moment"
+    );
     Ok(())
 }
 

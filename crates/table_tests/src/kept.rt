@@ -1,6 +1,7 @@
 //! Replies that are kept, and requests that wait.
 
 use crate::fixtures::{endpoint, is_confirmed, kept_reply, no_alias, request_octets, seq};
+use facts::{ensure, ensure_of};
 use kept_replies::{
     InProgress, Kept, KeptEntry, KeptKey, KeptList, KeptReply, KeptState, ReserveFault,
 };
@@ -127,7 +128,7 @@ fn answer(alloc: Global, kept: &mut Kept, key: &KeptKey, until: u64) -> Result<(
     Ok(())
 }
 
-// A reply to the datagram of one octet is kept.
+/// Keeps a reply to the datagram of one octet.
 fn keep_confirm(
     alloc: Global,
     kept: &mut Kept,
@@ -163,11 +164,15 @@ fn is_kept(alloc: Global, kept: &Kept, octet: u8) -> Result<bool, Fail> {
     Ok(kept.find(&datagram).is_some())
 }
 
-// The reply that is kept is this confirm, and equals its copy.
-fn is_confirm(kept: &Kept, born: u64, number: u16) -> Result<bool, Fail> {
+/// Finds this confirm as the reply that is kept, which equals its copy.
+fn find_confirm(kept: &Kept, born: u64, number: u16) -> Result<(), Fail> {
     let (_datagram, entry) = kept.by_born(born).ok_or("it is kept")?;
-    let copy = entry.copy()?;
-    Ok(is_confirmed(entry, number) && copy == *entry)
+    let is_same = entry.copy()? == *entry;
+    ensure(
+        is_confirmed(entry, number),
+        "the confirm with this number is kept",
+    )?;
+    ensure(is_same, "it equals its copy")
 }
 
 fn left_of(kept: &Kept, born: u64) -> u64 {
@@ -185,52 +190,76 @@ fn left_of(kept: &Kept, born: u64) -> u64 {
     }
 }
 
-// The one place is taken until a moment.
-fn is_taken_until(kept: &Kept, moment: u64) -> bool {
-    kept.is_full()
-        && kept.is_busy(moment.saturating_sub(1))
-        && !kept.is_busy(moment)
-        && kept.over(moment.saturating_sub(1)).is_none()
-        && kept.over(moment) == Some(0)
+/// The moment at which the one reply is over.
+const OVER: u64 = 10_000;
+
+/// Finds the one place taken until that moment.
+fn find_place_taken(kept: &Kept) -> Result<(), Fail> {
+    ensure(kept.is_full(), "the one place is taken")?;
+    ensure(kept.is_busy(OVER - 1), "nothing is over a moment before")?;
+    ensure(!kept.is_busy(OVER), "the reply is over at its moment")?;
+    ensure(
+        kept.over(OVER - 1).is_none(),
+        "no entry is over a moment before",
+    )?;
+    ensure(
+        kept.over(OVER) == Some(0),
+        "the entry that is over is that of the reply",
+    )
 }
 
-// One reply may be kept, for 10,000 milliseconds. A second datagram comes a millisecond after the
-// first, and again when the first reply is over.
-fn becomes_free(alloc: Global, kept: &mut Kept) -> Result<bool, Fail> {
-    keep_confirm(alloc, kept, 1, 0, 10_000)?;
-    let is_taken = is_taken_until(kept, 10_000);
-    let is_busy = kept.reserve(1) == Err(ReserveFault::Busy);
-    let is_left = kept.drop_one_expired(9999).is_none();
-    kept.reserve(10_000)?;
-    let is_dropped = kept.drop_one_expired(10_000) == Some(0);
-    Ok(is_taken && is_busy && is_left && is_dropped && kept.len() == 0)
+// One reply may be kept, for 10,000 milliseconds.
+/// Offers a second datagram a millisecond behind the first, and again when the first reply is over.
+fn offer_twice(alloc: Global, kept: &mut Kept) -> Result<(), Fail> {
+    keep_confirm(alloc, kept, 1, 0, OVER)?;
+    find_place_taken(kept)?;
+    ensure(
+        kept.reserve(1) == Err(ReserveFault::Busy),
+        "there is no room",
+    )?;
+    ensure(
+        kept.drop_one_expired(OVER - 1).is_none(),
+        "nothing is dropped a moment before",
+    )?;
+    kept.reserve(OVER)?;
+    ensure(
+        kept.drop_one_expired(OVER) == Some(0),
+        "the reply that is over is dropped",
+    )?;
+    ensure(kept.len() == 0, "nothing is kept")
 }
 
 #[test]
 fn a_place_becomes_free_when_its_time_is_over(rt: HostRuntime) -> Result<(), Fail> {
     let mut kept = Kept::new(rt.alloc(), 1);
-    let becomes_free = becomes_free(rt.alloc(), &mut kept);
+    let ended = offer_twice(rt.alloc(), &mut kept);
     drop(kept);
-    assert!(rt; becomes_free?);
-    Ok(())
+    ended
 }
 
-fn is_found_until_dropped(alloc: Global, kept: &mut Kept) -> Result<bool, Fail> {
+/// Keeps a reply, which is found until it is dropped, and not if another is.
+fn find_until_dropped(alloc: Global, kept: &mut Kept) -> Result<(), Fail> {
     keep_confirm(alloc, kept, 2, 3, 20_000)?;
-    let is_found = is_kept(alloc, kept, 2)? && is_confirm(kept, 3, 2)?;
+    ensure(
+        is_kept(alloc, kept, 2)?,
+        "the reply is found by its datagram",
+    )?;
+    find_confirm(kept, 3, 2)?;
     kept.drop_born(4);
-    let is_still_found = is_kept(alloc, kept, 2)?;
+    ensure(
+        is_kept(alloc, kept, 2)?,
+        "it stays if another birth is dropped",
+    )?;
     kept.drop_born(3);
-    Ok(is_found && is_still_found && !is_kept(alloc, kept, 2)?)
+    ensure(!is_kept(alloc, kept, 2)?, "it goes with its birth")
 }
 
 #[test]
 fn a_reply_is_found_until_it_is_dropped(rt: HostRuntime) -> Result<(), Fail> {
     let mut kept = Kept::new(rt.alloc(), 1);
-    let is_found = is_found_until_dropped(rt.alloc(), &mut kept);
+    let ended = find_until_dropped(rt.alloc(), &mut kept);
     drop(kept);
-    assert!(rt; is_found?);
-    Ok(())
+    ended
 }
 
 #[test]
@@ -239,154 +268,191 @@ fn faults_have_their_numbers(rt: HostRuntime) {
     assert_eq!(rt; ReserveFault::Memory.number(), 2);
 }
 
-// A reply in place of another needs no further place, and the birth of the other is free again.
-fn takes_the_place(alloc: Global, kept: &mut Kept) -> Result<bool, Fail> {
+/// Keeps a reply in place of another, which needs no further place. The birth of the other is free
+/// again.
+fn take_the_place(alloc: Global, kept: &mut Kept) -> Result<(), Fail> {
     keep_confirm(alloc, kept, 2, 3, 10)?;
     keep_confirm(alloc, kept, 2, 4, 20)?;
-    Ok(kept.len() == 1 && kept.by_born(3).is_none() && is_confirm(kept, 4, 2)?)
+    ensure(kept.len() == 1, "one reply is kept")?;
+    ensure(
+        kept.by_born(3).is_none(),
+        "the birth of the first one is free",
+    )?;
+    find_confirm(kept, 4, 2)
 }
 
 #[test]
 fn a_reply_in_place_of_another(rt: HostRuntime) -> Result<(), Fail> {
     let mut kept = Kept::new(rt.alloc(), 1);
-    let takes_the_place = takes_the_place(rt.alloc(), &mut kept);
+    let ended = take_the_place(rt.alloc(), &mut kept);
     drop(kept);
-    assert!(rt; takes_the_place?);
-    Ok(())
+    ended
 }
 
-// Its request waits, and is served again from this moment on, at most `left` times.
-fn is_waiting_until(kept: &Kept, moment: u64, left: u64) -> bool {
-    kept.retry(moment.saturating_sub(1)).is_none()
-        && kept.retry(moment) == Some(3)
-        && kept.over(u64::MAX).is_none()
-        && left_of(kept, 3) == left
+/// Finds a request that waits, and is served again from this moment on, at most `left` times.
+fn find_waiting(kept: &Kept, row: &str, moment: u64, left: u64) -> Result<(), Fail> {
+    let before = kept.retry(moment.saturating_sub(1));
+    ensure_of(row, before.is_none(), "it isn't served a moment before")?;
+    ensure_of(
+        row,
+        kept.retry(moment) == Some(3),
+        "it is served again at its moment",
+    )?;
+    ensure_of(
+        row,
+        kept.over(u64::MAX).is_none(),
+        "what waits is never over",
+    )?;
+    ensure_of(
+        row,
+        left_of(kept, 3) == left,
+        "it is served as often as is left",
+    )
 }
 
-// A request waits twice.
-fn waits_twice(alloc: Global, kept: &mut Kept, waiting: &KeptKey) -> Result<bool, Fail> {
+/// Lets a request wait twice.
+fn wait_twice(alloc: Global, kept: &mut Kept, waiting: &KeptKey) -> Result<(), Fail> {
     pend(kept, waiting.copy()?, 3, request(alloc)?, 1500, 3)?;
-    let is_waiting = is_waiting_until(kept, 1500, 3);
+    find_waiting(kept, "first wait", 1500, 3)?;
     postpone(kept, waiting, 3000)?;
-    Ok(is_waiting && is_waiting_until(kept, 3000, 2))
+    find_waiting(kept, "second wait", 3000, 2)
 }
 
-// It is then answered: its entry keeps its birth.
-fn is_answered(alloc: Global, kept: &mut Kept, waiting: &KeptKey) -> Result<bool, Fail> {
+/// Answers it then: its entry keeps its birth.
+fn answer_at_last(alloc: Global, kept: &mut Kept, waiting: &KeptKey) -> Result<(), Fail> {
     answer(alloc, kept, waiting, 13_000)?;
-    let waits_no_more = kept.retry(u64::MAX).is_none();
-    Ok(waits_no_more && kept.over(13_000) == Some(3) && is_confirm(kept, 3, 7)?)
+    ensure(kept.retry(u64::MAX).is_none(), "it waits no more")?;
+    ensure(kept.over(13_000) == Some(3), "its entry keeps its birth")?;
+    find_confirm(kept, 3, 7)
 }
 
-fn waits_and_is_answered(alloc: Global, kept: &mut Kept) -> Result<bool, Fail> {
+/// Lets a request wait, and answers it.
+fn wait_and_answer(alloc: Global, kept: &mut Kept) -> Result<(), Fail> {
     let waiting = key(alloc, 1)?;
-    Ok(waits_twice(alloc, kept, &waiting)? && is_answered(alloc, kept, &waiting)?)
+    wait_twice(alloc, kept, &waiting)?;
+    answer_at_last(alloc, kept, &waiting)
 }
 
 #[test]
 fn a_request_waits_and_is_answered(rt: HostRuntime) -> Result<(), Fail> {
     let mut kept = Kept::new(rt.alloc(), 8);
-    let is_answered = waits_and_is_answered(rt.alloc(), &mut kept);
+    let ended = wait_and_answer(rt.alloc(), &mut kept);
     drop(kept);
-    assert!(rt; is_answered?);
-    Ok(())
+    ended
 }
 
-fn is_free_for_another_birth(alloc: Global, kept: &mut Kept) -> Result<bool, Fail> {
+/// Keeps a reply, whose birth is no other datagram's.
+fn keep_a_birth(alloc: Global, kept: &mut Kept) -> Result<(), Fail> {
     keep_confirm(alloc, kept, 1, 3, 10)?;
     let other = key(alloc, 2)?;
-    Ok(!kept.is_free(&other, 3) && kept.is_free(&other, 4))
+    let is_own = !kept.is_free(&other, 3);
+    let is_next_free = kept.is_free(&other, 4);
+    drop(other);
+    ensure(is_own, "the birth isn't free for another datagram")?;
+    ensure(is_next_free, "the next birth is free for it")
 }
 
 #[test]
 fn a_birth_belongs_to_one_datagram(rt: HostRuntime) -> Result<(), Fail> {
     let mut kept = Kept::new(rt.alloc(), 8);
-    let is_free = is_free_for_another_birth(rt.alloc(), &mut kept);
+    let ended = keep_a_birth(rt.alloc(), &mut kept);
     drop(kept);
-    assert!(rt; is_free?);
-    Ok(())
+    ended
 }
 
-fn are_told(alloc: Global, kept: &mut Kept) -> Result<bool, Fail> {
+/// Keeps confirms, of which those of registrations tell identifiers: one that is over, too.
+fn tell_identifiers(alloc: Global, kept: &mut Kept) -> Result<(), Fail> {
     keep_registered(alloc, kept, 1, b'1', 0)?;
     keep_confirm(alloc, kept, 2, 2, 10_000)?;
     keep_registered(alloc, kept, 3, b'2', 10_000)?;
-    let are_named = kept.is_named(&endpoint(b'1')) && kept.is_named(&endpoint(b'2'));
-    let is_unnamed = !kept.is_named(&endpoint(b'3'));
+    ensure(
+        kept.is_named(&endpoint(b'1')),
+        "0001 is told by a reply that is over",
+    )?;
+    ensure(kept.is_named(&endpoint(b'2')), "0002 is told")?;
+    ensure(!kept.is_named(&endpoint(b'3')), "0003 isn't told")?;
     let ids = kept.identifiers()?;
     let are_listed = ids.as_slice() == [endpoint(b'1'), endpoint(b'2')].as_slice();
-    Ok(are_named && is_unnamed && are_listed)
+    drop(ids);
+    ensure(are_listed, "0001 and 0002 are listed")
 }
 
 #[test]
 fn identifiers_that_confirms_tell(rt: HostRuntime) -> Result<(), Fail> {
     let mut kept = Kept::new(rt.alloc(), 8);
-    let are_told = are_told(rt.alloc(), &mut kept);
+    let ended = tell_identifiers(rt.alloc(), &mut kept);
     drop(kept);
-    assert!(rt; are_told?);
-    Ok(())
+    ended
 }
 
-// The list has entries of these births, in this order, and each is found.
-fn are_listed(kept: &Kept, births: &[u64]) -> Result<bool, AllocError> {
-    let list = KeptList::from_vec(kept.list()?.into_vec());
-    let rows = list.as_slice();
+/// Compares a list with the entries of these births, in this order, of which each is found.
+fn compare_births(kept: &Kept, rows: &[(KeptKey, KeptEntry)], births: &[u64]) -> Result<(), Fail> {
     for (row, born) in rows.iter().zip(births) {
-        if row.1.born != *born || kept.find(&row.0).is_none() {
-            return Ok(false);
-        }
+        ensure(row.1.born == *born, "the births rise")?;
+        ensure(
+            kept.find(&row.0).is_some(),
+            "each entry is found by its datagram",
+        )?;
     }
-    Ok(rows.len() == births.len())
+    ensure(rows.len() == births.len(), "each entry comes once")
 }
 
-fn is_by_rising_birth(alloc: Global, kept: &mut Kept) -> Result<bool, Fail> {
+/// Keeps replies in any order of their births, one in place of an earlier one with another birth,
+/// and lists them.
+fn keep_and_list(alloc: Global, kept: &mut Kept) -> Result<(), Fail> {
     for born in [7u8, 3, 200, 1, 9] {
         keep_confirm(alloc, kept, 255 - born, u64::from(born), 10)?;
     }
-    // in place of an earlier one, with another birth
     keep_confirm(alloc, kept, 248, 8, 10)?;
-    Ok(are_listed(kept, &[1, 3, 8, 9, 200])?)
+    let list = KeptList::from_vec(kept.list()?.into_vec());
+    compare_births(kept, list.as_slice(), &[1, 3, 8, 9, 200])
 }
 
 #[test]
 fn a_list_is_by_rising_birth(rt: HostRuntime) -> Result<(), Fail> {
     let mut kept = Kept::new(rt.alloc(), 65_536);
-    let is_rising = is_by_rising_birth(rt.alloc(), &mut kept);
+    let ended = keep_and_list(rt.alloc(), &mut kept);
     drop(kept);
-    assert!(rt; is_rising?);
-    Ok(())
+    ended
 }
 
-// If a request for memory is refused, nothing has changed, and the same call is done with
-// memory.
-fn is_kept_at_last(alloc: Global, kept: &mut Kept, octet: u8) -> Result<bool, Fail> {
+/// How many replies are kept where memory is refused.
+const MANY: u8 = 12;
+
+/// Keeps a reply at last: if a request for memory is refused, nothing has changed, and the same
+/// call is done with memory.
+fn keep_at_last(alloc: Global, kept: &mut Kept, octet: u8) -> Result<(), Fail> {
     if let Err(fault) = kept.reserve(0) {
-        if fault != ReserveFault::Memory || kept.len() != usize::from(octet) {
-            return Ok(false);
-        }
+        ensure(fault == ReserveFault::Memory, "memory alone is wanting")?;
+        ensure(
+            kept.len() == usize::from(octet),
+            "room that is refused changes nothing",
+        )?;
         kept.reserve(0)?;
     }
-    insist(alloc, kept, octet)?;
-    Ok(true)
+    insist(alloc, kept, octet)
 }
 
-fn are_kept_at_last(alloc: Global, kept: &mut Kept) -> Result<bool, Fail> {
-    for octet in 0..12u8 {
-        if !is_kept_at_last(alloc, kept, octet)? {
-            return Ok(false);
-        }
+/// Keeps replies, and lists them and their identifiers, each at last.
+fn fill_at_last(alloc: Global, kept: &mut Kept) -> Result<(), Fail> {
+    for octet in 0..MANY {
+        keep_at_last(alloc, kept, octet)?;
     }
-    let identifiers = count_of_identifiers(kept)?;
-    Ok(kept.len() == 12 && identifiers == 12 && count_of_list(kept)? == 12)
+    let many = usize::from(MANY);
+    ensure(kept.len() == many, "each reply is kept")?;
+    ensure(
+        count_of_identifiers(kept)? == many,
+        "each identifier is told",
+    )?;
+    ensure(count_of_list(kept)? == many, "each reply is listed")
 }
 
 #[test]
 fn a_refusal_of_memory_changes_nothing(rt: HostRuntime) -> Result<(), Fail> {
     let mut kept = Kept::new(rt.alloc(), 100);
-    let are_kept = are_kept_at_last(rt.alloc(), &mut kept);
+    let ended = fill_at_last(rt.alloc(), &mut kept);
     drop(kept);
-    assert!(rt; are_kept?);
-    Ok(())
+    ended
 }
 
 fn insist(alloc: Global, kept: &mut Kept, octet: u8) -> Result<(), Fail> {
@@ -434,12 +500,12 @@ fn datagrams_of_one_source_are_hashed_apart(rt: HostRuntime) -> Result<(), Fail>
     let first = hash_of(&key(rt.alloc(), 1)?);
     let second = hash_of(&key(rt.alloc(), 2)?);
     let first_again = hash_of(&key(rt.alloc(), 1)?);
-    assert!(rt; first != second);
-    assert_eq!(rt; first, first_again);
+    assert!(rt; first != second, "two datagrams are hashed apart");
+    assert_eq!(rt; first, first_again, "one datagram is hashed alike");
     Ok(())
 }
 
-// A reply to the datagram of one octet is entered without a search, if nothing is kept for it.
+/// Enters a reply to the datagram of one octet without a search, if nothing is kept for it.
 fn add(alloc: Global, kept: &mut Kept, octet: u8, until: u64) -> Result<(), Fail> {
     let datagram = key(alloc, octet)?;
     let reply = kept_reply(alloc, &confirm(u16::from(octet)))?;
@@ -453,20 +519,24 @@ fn add(alloc: Global, kept: &mut Kept, octet: u8, until: u64) -> Result<(), Fail
     Ok(())
 }
 
-// Two entries are added, and there is room for a third one whether one is over or not.
-fn are_added(alloc: Global, kept: &mut Kept) -> Result<bool, Fail> {
+/// Adds two entries. There is room for a third one whether one is over or not.
+fn add_two(alloc: Global, kept: &mut Kept) -> Result<(), Fail> {
     add(alloc, kept, 1, 10)?;
     add(alloc, kept, 2, 20)?;
-    let has_room = kept.make_room() == Ok(());
-    let are_found = is_confirm(kept, 1, 1)? && is_confirm(kept, 2, 2)?;
-    Ok(has_room && are_found && kept.is_busy(9) && kept.over(10) == Some(1))
+    ensure(kept.make_room() == Ok(()), "there is room for a third one")?;
+    find_confirm(kept, 1, 1)?;
+    find_confirm(kept, 2, 2)?;
+    ensure(kept.is_busy(9), "no place is free before one is over")?;
+    ensure(
+        kept.over(10) == Some(1),
+        "the first one is over at its moment",
+    )
 }
 
 #[test]
 fn entries_are_added_without_a_search(rt: HostRuntime) -> Result<(), Fail> {
     let mut kept = Kept::new(rt.alloc(), 2);
-    let are_added = are_added(rt.alloc(), &mut kept);
+    let ended = add_two(rt.alloc(), &mut kept);
     drop(kept);
-    assert!(rt; are_added?);
-    Ok(())
+    ended
 }

@@ -2,6 +2,7 @@
 
 use crate::fixtures::{endpoint, kept_reply, no_alias, request_octets, seq};
 use admission::{CallFault, Calls, Leg};
+use facts::ensure;
 use kept_replies::{Kept, KeptKey, ReserveFault};
 use ras_module::{Address, CallKey, EndpointId, Reply};
 use registrations::{AddFault, Registration, Registrations};
@@ -10,6 +11,12 @@ use std::test::Fail;
 
 /// The most endpoints, and the most calls, that a zone may have.
 const MOST: u32 = 20_000;
+
+/// The units of each call.
+const UNITS: u32 = 1_280;
+
+/// When the first kept reply is over.
+const OVER: u64 = 10_000;
 
 /// The most replies that may be kept.
 const MOST_KEPT: u32 = 65_536;
@@ -46,26 +53,29 @@ fn register(
     Some(table.add(registration, &[]))
 }
 
-/// Whether this many endpoints are registered, one after the other.
-fn are_registered(table: &mut Registrations, alloc: Global, most: u32) -> bool {
-    for number in 0..most {
-        if !matches!(register(table, alloc, number), Some(Ok(_))) {
-            return false;
-        }
+/// Registers as many endpoints as there may be, one after the other, and one more in vain.
+fn register_all(table: &mut Registrations, alloc: Global) -> Result<(), Fail> {
+    for number in 0..MOST {
+        let is_added = matches!(register(table, alloc, number), Some(Ok(_)));
+        ensure(is_added, "each endpoint is registered")?;
     }
-    true
+    let one_more = register(table, alloc, MOST);
+    ensure(
+        matches!(one_more, Some(Err(AddFault::Full))),
+        "there is no place for one more",
+    )?;
+    ensure(
+        table.len() == MOST as usize,
+        "as many endpoints are registered as there may be",
+    )
 }
 
 #[test]
-fn a_zone_has_20_000_endpoints_and_no_more(rt: HostRuntime) {
-    let mut table = Registrations::new(rt.alloc(), 20_000);
-    let are_registered = are_registered(&mut table, rt.alloc(), MOST);
-    let one_more = register(&mut table, rt.alloc(), MOST);
-    let len = table.len();
+fn a_zone_has_20_000_endpoints_and_no_more(rt: HostRuntime) -> Result<(), Fail> {
+    let mut table = Registrations::new(rt.alloc(), MOST as usize);
+    let ended = register_all(&mut table, rt.alloc());
     drop(table);
-    assert!(rt; are_registered);
-    assert!(rt; matches!(one_more, Some(Err(AddFault::Full))));
-    assert_eq!(rt; len, 20_000);
+    ended
 }
 
 /// Opens a call with the key of this number; None if one has it.
@@ -83,30 +93,33 @@ fn open(calls: &mut Calls, number: u32) -> Option<Result<(), CallFault>> {
         endpoint: endpoint(b'1'),
         told: numbered_address(number),
     };
-    Some(calls.open(key, 0, 1280, leg))
+    Some(calls.open(key, 0, UNITS, leg))
 }
 
-/// Whether this many calls are opened, one after the other.
-fn are_opened(calls: &mut Calls, most: u32) -> bool {
-    for number in 0..most {
-        if open(calls, number) != Some(Ok(())) {
-            return false;
-        }
+/// Opens as many calls as there may be, one after the other, and one more in vain.
+fn open_all(calls: &mut Calls) -> Result<(), Fail> {
+    for number in 0..MOST {
+        ensure(open(calls, number) == Some(Ok(())), "each call is opened")?;
     }
-    true
+    let one_more = open(calls, MOST);
+    ensure(
+        one_more == Some(Err(CallFault::Full)),
+        "there is no place for one more",
+    )?;
+    ensure(
+        calls.len() == MOST as usize,
+        "as many calls are open as there may be",
+    )?;
+    let units = u64::from(MOST) * u64::from(UNITS);
+    ensure(calls.total() == units, "the units of each call are in use")
 }
 
 #[test]
-fn a_zone_has_20_000_calls_and_no_more(rt: HostRuntime) {
-    let mut calls = Calls::new(rt.alloc(), 20_000);
-    let are_opened = are_opened(&mut calls, MOST);
-    let one_more = open(&mut calls, MOST);
-    let (len, total) = (calls.len(), calls.total());
+fn a_zone_has_20_000_calls_and_no_more(rt: HostRuntime) -> Result<(), Fail> {
+    let mut calls = Calls::new(rt.alloc(), MOST as usize);
+    let ended = open_all(&mut calls);
     drop(calls);
-    assert!(rt; are_opened);
-    assert!(rt; one_more == Some(Err(CallFault::Full)));
-    assert_eq!(rt; len, 20_000);
-    assert_eq!(rt; total, 20_000 * 1280);
+    ended
 }
 
 fn numbered_key(alloc: Global, number: u32) -> Result<KeptKey, Fail> {
@@ -133,30 +146,44 @@ fn keep(alloc: Global, kept: &mut Kept, number: u32, until: u64) -> Result<(), F
 /// Keeps this many replies, each for a millisecond more than the one before.
 fn keep_all(alloc: Global, kept: &mut Kept, most: u32) -> Result<(), Fail> {
     for number in 0..most {
-        keep(alloc, kept, number, 10_000 + u64::from(number))?;
+        keep(alloc, kept, number, OVER + u64::from(number))?;
     }
     Ok(())
 }
 
-/// Whether it is busy until the first reply is over, which is then dropped for one more.
-fn takes_one_more(alloc: Global, kept: &mut Kept) -> Result<bool, Fail> {
-    let is_busy = kept.is_busy(9999) && kept.reserve(9999) == Err(ReserveFault::Busy);
-    let is_dropped = kept.drop_one_expired(10_000) == Some(0) && !kept.is_full();
-    keep(alloc, kept, MOST_KEPT, 20_000)?;
-    Ok(is_busy && is_dropped && kept.is_full() && kept.is_busy(10_000))
+/// Keeps one more reply once the first one is over, which is dropped for it.
+fn keep_one_more(alloc: Global, kept: &mut Kept) -> Result<(), Fail> {
+    ensure(kept.is_busy(OVER - 1), "nothing is over a moment before")?;
+    let reserved = kept.reserve(OVER - 1);
+    ensure(
+        reserved == Err(ReserveFault::Busy),
+        "there is no room a moment before",
+    )?;
+    ensure(
+        kept.drop_one_expired(OVER) == Some(0),
+        "the first reply is dropped",
+    )?;
+    ensure(!kept.is_full(), "a place is free")?;
+    keep(alloc, kept, MOST_KEPT, 2 * OVER)?;
+    ensure(kept.is_full(), "the place is taken")?;
+    ensure(kept.is_busy(OVER), "no other reply is over")
 }
 
-fn is_filled(alloc: Global, kept: &mut Kept) -> Result<bool, Fail> {
+/// Fills the table, in which one reply takes the place of another then.
+fn fill(alloc: Global, kept: &mut Kept) -> Result<(), Fail> {
     keep_all(alloc, kept, MOST_KEPT)?;
-    let is_filled = kept.is_full() && kept.len() == 65_536;
-    Ok(is_filled && takes_one_more(alloc, kept)?)
+    ensure(kept.is_full(), "the table is full")?;
+    ensure(
+        kept.len() == MOST_KEPT as usize,
+        "as many replies are kept as there may be",
+    )?;
+    keep_one_more(alloc, kept)
 }
 
 #[test]
 fn as_many_as_65_536_replies_are_kept(rt: HostRuntime) -> Result<(), Fail> {
-    let mut kept = Kept::new(rt.alloc(), 65_536);
-    let is_filled = is_filled(rt.alloc(), &mut kept);
+    let mut kept = Kept::new(rt.alloc(), MOST_KEPT as usize);
+    let ended = fill(rt.alloc(), &mut kept);
     drop(kept);
-    assert!(rt; is_filled?);
-    Ok(())
+    ended
 }

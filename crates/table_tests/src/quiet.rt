@@ -2,8 +2,9 @@
 //! counts what is asked for between them.
 
 use crate::fixtures::{address, endpoint, kept_reply, no_alias, request_octets, seq};
-use admission::{CallFault, Calls, Leg};
+use admission::{Calls, Leg};
 use deadlines::Deadlines;
+use facts::ensure;
 use kept_replies::{Kept, KeptKey, KeptReply};
 use ras_module::{CallKey, EndpointId, Reply};
 use registrations::{Registration, Registrations};
@@ -18,30 +19,33 @@ fn mark(alloc: Global) -> Result<Vec<u8>, AllocError> {
     Vec::with_capacity(alloc, 77_777)
 }
 
-/// Whether the moments of 64 places change, go and move.
-fn moments_change(deadlines: &mut Deadlines) -> bool {
+/// How many places have moments.
+const PLACES: u64 = 64;
+
+/// Changes, clears and moves the moments of all places.
+fn change_moments(deadlines: &mut Deadlines) -> Result<(), Fail> {
     for time in 0..TIMES {
-        let place = (time % 64) as usize;
-        let other = (time * 7 % 64) as usize;
+        let place = (time % PLACES) as usize;
+        let other = (time * 7 % PLACES) as usize;
         if place >= deadlines.room() || other >= deadlines.room() {
-            return false;
+            return Err(Fail::from("there is room for each place"));
         }
         deadlines.set(place, time * 31 % 1_009);
         deadlines.clear(other);
         deadlines.rename(place, other);
     }
-    true
+    Ok(())
 }
 
 #[test]
 fn changes_of_moments_ask_for_no_memory(rt: HostRuntime) -> Result<(), Fail> {
     let mut deadlines = Deadlines::new(rt.alloc());
-    deadlines.reserve(64)?;
+    deadlines.reserve(PLACES as usize)?;
     let first = mark(rt.alloc());
-    let change = moments_change(&mut deadlines);
+    let ended = change_moments(&mut deadlines);
     let second = mark(rt.alloc());
     drop(deadlines);
-    assert!(rt; change);
+    ended?;
     assert_eq!(rt; first?.capacity(), second?.capacity());
     Ok(())
 }
@@ -65,45 +69,60 @@ fn register(table: &mut Registrations, alloc: Global, last: u8) -> Option<Endpoi
     table.add(registration, &[]).ok()
 }
 
-/// Whether a registered endpoint is heard, asked for a sign of life and granted new times to live.
-fn endpoint_lives(table: &mut Registrations, id: &EndpointId) -> bool {
+/// Hears a registered endpoint, asks it for a sign of life and grants it new times to live.
+fn live(table: &mut Registrations, id: &EndpointId) -> Result<(), Fail> {
     for time in 0..TIMES {
         if table.get(id).is_none() {
-            return false;
+            return Err(Fail::from("the endpoint is heard"));
         }
         table.hear(id, time);
         if table.get(id).is_none() {
-            return false;
+            return Err(Fail::from("the endpoint is renewed"));
         }
         table.renew(id, 10_000 + time);
         if table.get(id).is_none() {
-            return false;
+            return Err(Fail::from("the endpoint is calm"));
         }
         table.calm(id);
         match table.get(id) {
             Some(r) if r.tries < 16 => {}
-            _ => return false,
+            _ => return Err(Fail::from("the endpoint is asked")),
         }
         table.asked(id, time);
     }
-    true
+    Ok(())
 }
 
-/// Whether a registered endpoint takes part in calls and leaves them.
-fn endpoint_calls(table: &mut Registrations, id: &EndpointId) -> bool {
+/// Lets a registered endpoint take part in calls and leave them.
+fn take_part(table: &mut Registrations, id: &EndpointId) -> Result<(), Fail> {
     for _time in 0..TIMES {
         match table.legs(id) {
             Some(legs) if legs <= 20_000 => {}
-            _ => return false,
+            _ => return Err(Fail::from("the endpoint takes part in a call")),
         }
         table.leg_comes(id);
         match table.legs(id) {
             Some(legs) if legs >= 1 => {}
-            _ => return false,
+            _ => return Err(Fail::from("the endpoint leaves a call")),
         }
         table.leg_goes(id);
     }
-    true
+    Ok(())
+}
+
+/// Changes two registered endpoints, of which the second one goes.
+fn change_two(
+    table: &mut Registrations,
+    first: Option<EndpointId>,
+    second: Option<EndpointId>,
+) -> Result<(), Fail> {
+    let (first, second) = (
+        first.ok_or("the first one")?,
+        second.ok_or("the second one")?,
+    );
+    live(table, &first)?;
+    take_part(table, &second)?;
+    ensure(table.remove(&second).is_some(), "the second endpoint goes")
 }
 
 #[test]
@@ -112,33 +131,33 @@ fn changes_of_an_endpoint_ask_for_no_memory(rt: HostRuntime) -> Result<(), Fail>
     let first_id = register(&mut table, rt.alloc(), b'1');
     let second_id = register(&mut table, rt.alloc(), b'2');
     let first = mark(rt.alloc());
-    let lives = first_id.is_some_and(|id| endpoint_lives(&mut table, &id));
-    let calls = second_id.is_some_and(|id| endpoint_calls(&mut table, &id));
-    let left = second_id.is_some_and(|id| table.remove(&id).is_some());
+    let ended = change_two(&mut table, first_id, second_id);
     let second = mark(rt.alloc());
     drop(table);
-    assert!(rt; lives && calls && left);
+    ended?;
     assert_eq!(rt; first?.capacity(), second?.capacity());
     Ok(())
 }
 
-/// Whether a second endpoint joins a call, which gets other units, and leaves it.
-fn call_changes(calls: &mut Calls, key: &CallKey) -> Result<bool, CallFault> {
+/// Lets a second endpoint join a call, which gets other units, and leave it.
+fn change_call(calls: &mut Calls, key: &CallKey) -> Result<(), Fail> {
     for time in 0..TIMES {
         let leg = Leg {
             endpoint: endpoint(b'2'),
             told: address(b'1'),
         };
         if calls.leg(key, &leg.endpoint).is_some() {
-            return Ok(false);
+            return Err(Fail::from("the second endpoint isn't in the call"));
         }
         calls.join(*key, leg)?;
         calls.set_units(key, time as u32)?;
-        if calls.leave(key, &endpoint(b'2'))?.ended.is_some() {
-            return Ok(false);
-        }
+        let left = calls.leave(key, &endpoint(b'2'))?;
+        ensure(
+            left.ended.is_none(),
+            "the call goes on without the second endpoint",
+        )?;
     }
-    Ok(true)
+    Ok(())
 }
 
 fn open(calls: &mut Calls, key: CallKey) -> Result<(), Fail> {
@@ -159,11 +178,13 @@ fn changes_of_a_call_ask_for_no_memory(rt: HostRuntime) -> Result<(), Fail> {
     let key = CallKey { octets: [7; 16] };
     let opened = open(&mut calls, key);
     let first = mark(rt.alloc());
-    let change = call_changes(&mut calls, &key);
+    let ended = match opened {
+        Ok(()) => change_call(&mut calls, &key),
+        Err(fail) => Err(fail),
+    };
     let second = mark(rt.alloc());
     drop(calls);
-    opened?;
-    assert!(rt; change?);
+    ended?;
     assert_eq!(rt; first?.capacity(), second?.capacity());
     Ok(())
 }
@@ -177,16 +198,24 @@ fn key(alloc: Global, octet: u8) -> Result<KeptKey, Fail> {
     })
 }
 
-/// Whether this reply is kept in an entry of its own, and goes again when it is over.
-fn comes_and_goes(kept: &mut Kept, key: KeptKey, reply: KeptReply, until: u64) -> bool {
+/// Keeps this reply in an entry of its own, which goes again when it is over. Returns what failed.
+fn keep_and_drop(
+    kept: &mut Kept,
+    key: KeptKey,
+    reply: KeptReply,
+    until: u64,
+) -> Result<(), &'static str> {
     if kept.is_full() && kept.find(&key).is_none() {
-        return false;
+        return Err("there is no place");
     }
     if !kept.is_free(&key, 1) || kept.reserve(0).is_err() {
-        return false;
+        return Err("it can't be kept");
     }
     kept.keep(key, 1, reply, until);
-    kept.drop_one_expired(until) == Some(1)
+    match kept.drop_one_expired(until) {
+        Some(1) => Ok(()),
+        _ => Err("the reply doesn't go when it is over"),
+    }
 }
 
 #[test]
@@ -196,12 +225,13 @@ fn a_reply_is_kept_and_goes_without_memory(rt: HostRuntime) -> Result<(), Fail> 
     let first_reply = kept_reply(rt.alloc(), &Reply::Dcf { seq: seq(1) })?;
     let second_key = key(rt.alloc(), 2)?;
     let second_reply = kept_reply(rt.alloc(), &Reply::Dcf { seq: seq(2) })?;
-    let was_kept = comes_and_goes(&mut kept, first_key, first_reply, 10);
+    let began = keep_and_drop(&mut kept, first_key, first_reply, 10);
     let first = mark(rt.alloc());
-    let is_kept = comes_and_goes(&mut kept, second_key, second_reply, 20);
+    let ended = keep_and_drop(&mut kept, second_key, second_reply, 20);
     let second = mark(rt.alloc());
     drop(kept);
-    assert!(rt; was_kept && is_kept);
+    began?;
+    ended?;
     assert_eq!(rt; first?.capacity(), second?.capacity());
     Ok(())
 }

@@ -1,6 +1,7 @@
 //! The rows of some endpoints: the number of their legs, and when their silence ends.
 
 use crate::fixtures::{address, endpoint, no_alias};
+use facts::ensure;
 use registrations::{Registration, Registrations, Times};
 use std::alloc::Global;
 use std::test::Fail;
@@ -14,6 +15,14 @@ const TIMES: Times = Times {
 const FIRST: u8 = b'1';
 
 const SECOND: u8 = b'2';
+
+/// When the silence of each ends, the first one heard at 20, and the second one at 10.
+const FIRST_SILENT: u64 = 50;
+
+const SECOND_SILENT: u64 = 40;
+
+/// A moment behind all others.
+const LATE: u64 = 999;
 
 /// Registers an endpoint that was heard at this moment; once more if memory for it was refused.
 fn register(table: &mut Registrations, alloc: Global, last: u8, heard: u64) -> Result<(), Fail> {
@@ -65,48 +74,75 @@ fn is_silent_from(table: &Registrations, moment: u64, last: u8) -> bool {
     is_silent && table.silent(moment.saturating_sub(1)).is_none()
 }
 
-/// Whether an endpoint is silent only while it has a leg.
-fn is_silent_in_calls(table: &mut Registrations) -> bool {
-    let in_no_call = table.silent(999).is_none();
+/// Counts legs of two endpoints, which are silent only while they have one.
+fn be_silent_in_calls(table: &mut Registrations) -> Result<(), Fail> {
+    ensure(table.silent(LATE).is_none(), "nobody in no call is silent")?;
     comes(table, FIRST);
     comes(table, FIRST);
     goes(table, FIRST);
-    let in_one_call = table.legs(&endpoint(FIRST)) == Some(1) && is_silent_from(table, 50, FIRST);
+    ensure(
+        table.legs(&endpoint(FIRST)) == Some(1),
+        "the first endpoint has one leg",
+    )?;
+    ensure(
+        is_silent_from(table, FIRST_SILENT, FIRST),
+        "its silence ends",
+    )?;
     comes(table, SECOND);
-    let is_next = is_silent_from(table, 40, SECOND);
-    in_no_call && in_one_call && is_next
+    ensure(
+        is_silent_from(table, SECOND_SILENT, SECOND),
+        "the second one's ends before it",
+    )
 }
 
-/// Whether the other's silence still ends if an endpoint goes, whose place it takes.
-fn is_left(table: &mut Registrations) -> bool {
-    let is_gone = table.remove(&endpoint(FIRST)).is_some();
-    is_gone && table.legs(&endpoint(FIRST)).is_none() && is_silent_from(table, 40, SECOND)
+/// Removes an endpoint, whose place the other one takes: its silence still ends.
+fn remove_first(table: &mut Registrations) -> Result<(), Fail> {
+    ensure(
+        table.remove(&endpoint(FIRST)).is_some(),
+        "the first endpoint goes",
+    )?;
+    ensure(table.legs(&endpoint(FIRST)).is_none(), "it has no legs")?;
+    ensure(
+        is_silent_from(table, SECOND_SILENT, SECOND),
+        "the second one's silence ends",
+    )
 }
 
-/// Whether nobody is silent if no leg is left.
-fn is_calm_without_legs(table: &mut Registrations) -> bool {
+/// Takes the last legs, after which nobody is silent.
+fn take_legs(table: &mut Registrations) -> Result<(), Fail> {
     let id = endpoint(SECOND);
     if table.get(&id).is_some() {
         table.no_legs(&id);
     }
-    table.legs(&id) == Some(0) && table.silent(999).is_none()
+    ensure(table.legs(&id) == Some(0), "the second endpoint has no leg")?;
+    ensure(table.silent(LATE).is_none(), "nobody is silent")
+}
+
+/// Removes an endpoint from a table, whose copy keeps both with their legs and their silences.
+fn remove_beside_a_copy(table: &mut Registrations) -> Result<(), Fail> {
+    let copy = table.copy().or_else(|_| table.copy())?;
+    let removed = remove_first(table);
+    let has_leg = copy.legs(&endpoint(FIRST)) == Some(1);
+    let has_silence = is_silent_from(&copy, SECOND_SILENT, SECOND);
+    drop(copy);
+    removed?;
+    ensure(has_leg, "the first endpoint has its leg in the copy")?;
+    ensure(has_silence, "the second one's silence ends in the copy")
+}
+
+/// Registers two endpoints, and changes their legs and their silences.
+fn change_rows(table: &mut Registrations, alloc: Global) -> Result<(), Fail> {
+    register(table, alloc, FIRST, 20)?;
+    register(table, alloc, SECOND, 10)?;
+    be_silent_in_calls(table)?;
+    remove_beside_a_copy(table)?;
+    take_legs(table)
 }
 
 #[test]
 fn a_row_has_its_legs_and_its_silence(rt: HostRuntime) -> Result<(), Fail> {
     let mut table = Registrations::with_times(rt.alloc(), 4, TIMES);
-    register(&mut table, rt.alloc(), FIRST, 20)?;
-    register(&mut table, rt.alloc(), SECOND, 10)?;
-    let in_calls = is_silent_in_calls(&mut table);
-    let copy = table.copy().or_else(|_| table.copy())?;
-    let left = is_left(&mut table);
-    let copied = copy.legs(&endpoint(FIRST)) == Some(1) && is_silent_from(&copy, 40, SECOND);
-    let is_calm = is_calm_without_legs(&mut table);
-    drop(copy);
+    let ended = change_rows(&mut table, rt.alloc());
     drop(table);
-    assert!(rt; in_calls);
-    assert!(rt; left);
-    assert!(rt; copied);
-    assert!(rt; is_calm);
-    Ok(())
+    ended
 }

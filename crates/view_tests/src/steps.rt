@@ -23,9 +23,9 @@ fn sending(alloc: Global, octets: &[u8]) -> Result<StepCounts, AllocError> {
     Ok(StepCounts::of(None, &outcome))
 }
 
-/// Says so if these octets aren't counted as this message, which rejects for this reason, if it
-/// does.
-fn is_counted(
+/// Counts a step that sends these octets: as this message, which rejects for this reason, if it
+/// does. Fails with the message's name otherwise.
+fn count(
     alloc: Global,
     octets: &[u8],
     reply: ReplyKind,
@@ -41,47 +41,47 @@ fn is_counted(
 #[test]
 fn each_confirm_is_counted_as_its_message(rt: HostRuntime) -> Result<(), Fail> {
     let alloc = rt.alloc();
-    is_counted(alloc, &GCF, ReplyKind::Gcf, None)?;
-    is_counted(alloc, &RCF_0001, ReplyKind::Rcf, None)?;
-    is_counted(alloc, &RCF_0002, ReplyKind::Rcf, None)?;
-    is_counted(alloc, &UCF, ReplyKind::Ucf, None)?;
-    is_counted(alloc, &ACF_900, ReplyKind::Acf, None)?;
-    is_counted(alloc, &ACF_1220, ReplyKind::Acf, None)?;
-    is_counted(alloc, &ACF_1280, ReplyKind::Acf, None)?;
-    is_counted(alloc, &BCF, ReplyKind::Bcf, None)?;
-    is_counted(alloc, &DCF, ReplyKind::Dcf, None)?;
-    is_counted(alloc, &IRQ, ReplyKind::Irq, None)?;
-    is_counted(alloc, &RIP, ReplyKind::Rip, None)
+    count(alloc, &GCF, ReplyKind::Gcf, None)?;
+    count(alloc, &RCF_0001, ReplyKind::Rcf, None)?;
+    count(alloc, &RCF_0002, ReplyKind::Rcf, None)?;
+    count(alloc, &UCF, ReplyKind::Ucf, None)?;
+    count(alloc, &ACF_900, ReplyKind::Acf, None)?;
+    count(alloc, &ACF_1220, ReplyKind::Acf, None)?;
+    count(alloc, &ACF_1280, ReplyKind::Acf, None)?;
+    count(alloc, &BCF, ReplyKind::Bcf, None)?;
+    count(alloc, &DCF, ReplyKind::Dcf, None)?;
+    count(alloc, &IRQ, ReplyKind::Irq, None)?;
+    count(alloc, &RIP, ReplyKind::Rip, None)
 }
 
 #[test]
 fn each_reject_is_counted_by_its_reason(rt: HostRuntime) -> Result<(), Fail> {
     let alloc = rt.alloc();
-    is_counted(
+    count(
         alloc,
         &GRJ,
         ReplyKind::Grj,
         Some(Reject::DiscoveryTerminalExcluded),
     )?;
     let full = Reject::RegistrationFullRegistrationRequired;
-    is_counted(alloc, &RRJ_FULL, ReplyKind::Rrj, Some(full))?;
+    count(alloc, &RRJ_FULL, ReplyKind::Rrj, Some(full))?;
     let duplicate = Reject::RegistrationDuplicateAlias;
-    is_counted(alloc, &RRJ_DUPLICATE, ReplyKind::Rrj, Some(duplicate))?;
-    is_counted(
+    count(alloc, &RRJ_DUPLICATE, ReplyKind::Rrj, Some(duplicate))?;
+    count(
         alloc,
         &URJ,
         ReplyKind::Urj,
         Some(Reject::UnregistrationCallInProgress),
     )?;
-    is_counted(
+    count(
         alloc,
         &ARJ,
         ReplyKind::Arj,
         Some(Reject::AdmissionRequestDenied),
     )?;
     let resources = Reject::BandwidthInsufficientResources;
-    is_counted(alloc, &BRJ, ReplyKind::Brj, Some(resources))?;
-    is_counted(
+    count(alloc, &BRJ, ReplyKind::Brj, Some(resources))?;
+    count(
         alloc,
         &DRJ,
         ReplyKind::Drj,

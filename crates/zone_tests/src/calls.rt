@@ -1,122 +1,139 @@
 //! Calls of a zone, from admission to disengaging.
 
-use crate::fixtures::{event_from, zone};
+use crate::fixtures::{CALL, CALL_LIMIT, POOL, REST, event_from, source, zone};
+use admission::Call;
+use facts::{ensure, ensure_of};
 use pools::{FixedPool, Lend, Pool};
-use ras_core::{Datagram, Zone};
-use ras_module::{Address, Octets, Source};
+use ras_core::Zone;
+use ras_module::CallKey;
 use std::alloc::Global;
 use std::test::Fail;
 use vectors::replies::{ACF_900, ACF_1280, ARJ, BCF, DCF, URJ};
 use vectors::requests::{ARQ, ARQ_ANSWER, ARQ_OF_A_SECOND_CALL, BRQ, DRQ, RRQ_101, RRQ_102, URQ};
 
-/// Whether the request of 10.0.0.LAST is answered so, the pool is or isn't asked, and this many
-/// units are in use afterwards.
-fn is_served(
-    alloc: Global,
-    zone: &mut Zone<FixedPool>,
-    last: u8,
-    request: &[u8],
-    reply: &[u8],
-    answer: Option<Lend>,
-    in_use: u64,
-) -> Result<bool, Fail> {
-    let source: Source = Address {
-        ip: [10, 0, 0, last],
-        port: 1719,
-    };
-    let outcome = zone.step(event_from(alloc, source, request, 2_000)?)?;
-    let sent = Datagram {
-        to: source,
-        bytes: Octets::from_vec(reply.to_vec(alloc)?),
-    };
-    let is_sent = outcome.output == Some(sent);
-    Ok(is_sent && outcome.answer == answer && zone.in_use() == in_use)
+/// A request of 10.0.0.LAST, by its name, with its reply, the pool's answer, if that is asked, and
+/// the units that are in use afterwards.
+type Row<'a> = (&'a str, u8, &'a [u8], &'a [u8], Option<Lend>, u64);
+
+/// Sends these requests, which have to be served so.
+fn send_all(alloc: Global, zone: &mut Zone<FixedPool>, rows: &[Row<'_>]) -> Result<(), Fail> {
+    for (name, last, request, reply, answer, in_use) in rows {
+        let from = source(*last);
+        let outcome = zone.step(event_from(alloc, from, request, 2_000)?)?;
+        let is_sent = match &outcome.output {
+            Some(sent) => sent.to == from && sent.bytes.as_slice() == *reply,
+            None => false,
+        };
+        let is_answered = outcome.answer == *answer;
+        drop(outcome);
+        ensure_of(name, is_sent, "its reply is sent to it")?;
+        ensure_of(name, is_answered, "the pool answers so, if it is asked")?;
+        ensure_of(
+            name,
+            zone.in_use() == *in_use,
+            "as many units are in use as it says",
+        )?;
+    }
+    Ok(())
 }
 
-/// Whether 0001 and 0002 register.
-fn are_two(alloc: Global, zone: &mut Zone<FixedPool>) -> Result<bool, Fail> {
-    let first = Address {
-        ip: [10, 0, 0, 5],
-        port: 1719,
-    };
-    let second = Address {
-        ip: [10, 0, 0, 6],
-        port: 1719,
-    };
-    zone.step(event_from(alloc, first, &RRQ_101, 1_000)?)?;
-    zone.step(event_from(alloc, second, &RRQ_102, 1_000)?)?;
-    Ok(zone.endpoints()?.as_slice().len() == 2)
-}
-
-/// Whether a call opens with 1,280 units, is told again, is joined, grows to 2,000 units, keeps its
-/// first endpoint in the zone, and goes on when it leaves.
-fn is_lived(alloc: Global, zone: &mut Zone<FixedPool>) -> Result<bool, Fail> {
-    let lent = Some(Lend::Lent(1_280));
-    let more = Some(Lend::Lent(720));
-    Ok(
-        are_two(alloc, zone)?
-            && is_served(alloc, zone, 5, &ARQ, &ACF_1280, lent, 1_280)?
-            && is_served(alloc, zone, 5, &ARQ, &ACF_1280, None, 1_280)?
-            && is_served(alloc, zone, 6, &ARQ_ANSWER, &ACF_900, None, 1_280)?
-            && is_served(alloc, zone, 5, &BRQ, &BCF, more, 2_000)?
-            && is_served(alloc, zone, 5, &URQ, &URJ, None, 2_000)?
-            && is_served(alloc, zone, 5, &DRQ, &DCF, None, 2_000)?
-            && is_one_left(zone)?,
+/// Registers 0001 and 0002.
+fn register_two(alloc: Global, zone: &mut Zone<FixedPool>) -> Result<(), Fail> {
+    zone.step(event_from(alloc, source(5), &RRQ_101, 1_000)?)?;
+    zone.step(event_from(alloc, source(6), &RRQ_102, 1_000)?)?;
+    ensure(
+        zone.endpoints()?.as_slice().len() == 2,
+        "0001 and 0002 are registered",
     )
 }
 
-/// Whether there is one call, of 2,000 units of pool 0, with the leg of 0002 alone.
-fn is_one_left(zone: &Zone<FixedPool>) -> Result<bool, Fail> {
+/// Opens a call with its units, which is told again, is joined, grows to the most that a call may
+/// have, keeps its first endpoint in the zone, and goes on when it leaves.
+fn live_a_call(alloc: Global, zone: &mut Zone<FixedPool>) -> Result<(), Fail> {
+    let lent = Some(Lend::Lent(CALL));
+    let more = Some(Lend::Lent(REST));
+    let rows: [Row<'_>; 6] = [
+        ("call", 5, &ARQ, &ACF_1280, lent, CALL),
+        ("repeat", 5, &ARQ, &ACF_1280, None, CALL),
+        ("second leg", 6, &ARQ_ANSWER, &ACF_900, None, CALL),
+        ("more bandwidth", 5, &BRQ, &BCF, more, CALL_LIMIT),
+        ("end of the registration", 5, &URQ, &URJ, None, CALL_LIMIT),
+        ("end of the first leg", 5, &DRQ, &DCF, None, CALL_LIMIT),
+    ];
+    register_two(alloc, zone)?;
+    send_all(alloc, zone, &rows)?;
     let calls = zone.calls()?;
-    let [(key, call)] = calls.as_slice() else {
-        return Ok(false);
+    compare_one_left(calls.as_slice())
+}
+
+/// Compares calls with one of all the units that a call may have, of the first pool, with the leg
+/// of 0002 alone.
+fn compare_one_left(calls: &[(CallKey, Call)]) -> Result<(), Fail> {
+    let [(key, call)] = calls else {
+        return Err(Fail::from("one call is open"));
     };
     let [leg] = call.legs.as_slice() else {
-        return Ok(false);
+        return Err(Fail::from("the call has one leg"));
     };
-    let is_second = leg.endpoint.as_slice() == [48, 48, 48, 50].as_slice();
-    let is_told = leg.told.ip == [10, 0, 0, 6];
-    let is_call = key.octets == [0x11; 16] && call.pool == 0 && call.units == 2_000;
-    Ok(is_call && is_second && is_told)
+    let digits = [48, 48, 48, 50];
+    ensure(key.octets == [0x11; 16], "it is the first call")?;
+    ensure(call.pool == 0, "it has its units of the first pool")?;
+    ensure(
+        u64::from(call.units) == CALL_LIMIT,
+        "it has the most units that a call may have",
+    )?;
+    ensure(
+        leg.endpoint.as_slice() == digits.as_slice(),
+        "the leg is that of 0002",
+    )?;
+    ensure(
+        leg.told.ip == [10, 0, 0, 6],
+        "0002 was told its own address",
+    )
 }
 
 #[test]
 fn a_call_opens_grows_and_ends(rt: HostRuntime) -> Result<(), Fail> {
     let mut zone = zone(rt.alloc())?;
-    let passed = is_lived(rt.alloc(), &mut zone);
+    let ended = live_a_call(rt.alloc(), &mut zone);
     drop(zone);
-    assert!(rt; passed?);
-    Ok(())
+    ended
 }
 
-/// Whether a second call is refused, for which the pool has too little left.
-fn is_refused(alloc: Global, zone: &mut Zone<FixedPool>) -> Result<bool, Fail> {
-    let lent = Some(Lend::Lent(1_280));
+/// Asks for a second call, for which the pool has too little left, and which is refused.
+fn ask_for_too_much(alloc: Global, zone: &mut Zone<FixedPool>) -> Result<(), Fail> {
+    let lent = Some(Lend::Lent(CALL));
     let refused = Some(Lend::Refused);
-    Ok(
-        are_two(alloc, zone)?
-            && is_served(alloc, zone, 5, &ARQ, &ACF_1280, lent, 1_280)?
-            && is_served(alloc, zone, 5, &ARQ_OF_A_SECOND_CALL, &ARJ, refused, 1_280)?
-            && zone.calls()?.as_slice().len() == 1,
-    )
+    let rows: [Row<'_>; 2] = [
+        ("first call", 5, &ARQ, &ACF_1280, lent, CALL),
+        ("second call", 5, &ARQ_OF_A_SECOND_CALL, &ARJ, refused, CALL),
+    ];
+    register_two(alloc, zone)?;
+    send_all(alloc, zone, &rows)?;
+    ensure(zone.calls()?.as_slice().len() == 1, "one call is open")
 }
 
-/// Whether this is the pool of 2,500 units that refused 1,280, with nothing lent.
-fn is_back(pools: &[FixedPool]) -> bool {
+/// Compares the pools of a zone that is closed with its pool, which refused a call, with nothing
+/// lent.
+fn compare_refusing_pool(pools: &[FixedPool]) -> Result<(), Fail> {
     let [pool] = pools else {
-        return false;
+        return Err(Fail::from("one pool comes back"));
     };
-    let is_free = pool.limit() == 2_500 && pool.lent() == 0;
-    let is_counted = pool.refusals() == 1 && pool.waits() == 0;
-    is_free && is_counted && pool.last() == Some((1_280, Lend::Refused))
+    ensure(pool.limit() == POOL, "the pool has its units")?;
+    ensure(pool.lent() == 0, "nothing is lent")?;
+    ensure(pool.refusals() == 1, "it refused once")?;
+    ensure(pool.waits() == 0, "nobody had to wait")?;
+    ensure(
+        pool.last() == Some((CALL, Lend::Refused)),
+        "it refused the second call at last",
+    )
 }
 
 #[test]
 fn a_refused_call_leaves_the_pool_as_it_was(rt: HostRuntime) -> Result<(), Fail> {
     let mut zone = zone(rt.alloc())?;
-    let passed = is_refused(rt.alloc(), &mut zone);
+    let ended = ask_for_too_much(rt.alloc(), &mut zone);
     let pools = zone.close();
-    assert!(rt; is_back(&pools));
-    assert!(rt; passed?);
-    Ok(())
+    ended?;
+    compare_refusing_pool(&pools)
 }

@@ -2,10 +2,10 @@
 //! contracts say it of what the set of pools counts: how often a zone asks its pools, and how often
 //! they have their turn.
 
-use crate::fixtures::{event_from, zone_over};
+use crate::fixtures::{CALL, POOL, event_from, source, zone_over};
+use facts::ensure_of;
 use pools::{FixedPool, Lend, PacedPool, Pool};
 use ras_core::{ConfigParts, DueItem, Event, Moment, Network, Networks, Note, Zone};
-use ras_module::Address;
 use std::alloc::Global;
 use std::sync::Arc;
 use std::sync::atomic::{AtomicU64, Ordering};
@@ -136,37 +136,38 @@ pub fn fixed_zone(
     counted_zone(alloc, parts, first, second)
 }
 
-/// Such a zone over pools of 2,500 units that lend 1,280 between two turns.
+/// Such a zone over pools that lend what the worked call uses between two turns.
 pub fn paced_zone(
     alloc: Global,
     parts: ConfigParts,
     first: &Arc<Met>,
     second: &Arc<Met>,
 ) -> Result<Zone<CountingPool<PacedPool>>, Fail> {
-    let first = CountingPool::new(PacedPool::new(2_500, 1_280), first)?;
-    let second = CountingPool::new(PacedPool::new(2_500, 1_280), second)?;
+    let first = CountingPool::new(PacedPool::new(POOL, CALL), first)?;
+    let second = CountingPool::new(PacedPool::new(POOL, CALL), second)?;
     counted_zone(alloc, parts, first, second)
 }
 
-/// Whether the datagram of 10.0.0.LAST gets this reply, or none if it is empty, and is noted so.
-pub fn is_told<P: Pool>(
+/// Sends the datagram of 10.0.0.LAST, which has to get this reply, or none if it is empty, and to
+/// be noted so.
+pub fn send<P: Pool>(
     alloc: Global,
     zone: &mut Zone<CountingPool<P>>,
+    row: &str,
     last: u8,
     datagram: &[u8],
     reply: &[u8],
     note: Note,
-) -> Result<bool, Fail> {
-    let source = Address {
-        ip: [10, 0, 0, last],
-        port: 1719,
-    };
-    let outcome = zone.step(event_from(alloc, source, datagram, 0)?)?;
+) -> Result<(), Fail> {
+    let outcome = zone.step(event_from(alloc, source(last), datagram, 0)?)?;
     let is_sent = match &outcome.output {
         Some(sent) => sent.bytes.as_slice() == reply,
         None => reply.is_empty(),
     };
-    Ok(is_sent && outcome.note == note)
+    let is_noted = outcome.note == note;
+    drop(outcome);
+    ensure_of(row, is_sent, "it gets its reply")?;
+    ensure_of(row, is_noted, "it is noted as it should be")
 }
 
 /// What is noted of a turn.
@@ -195,21 +196,34 @@ fn kind_of(note: Note) -> Option<Kind> {
     }
 }
 
-/// Whether this is noted of a turn at each of these moments, and by then the second pool was asked
-/// this many times, the first never, and each has had this many turns.
-pub fn are_turned<P: Pool>(
+/// A turn by its name: its moment and what is noted of it. By then the second pool was asked this
+/// many times, and each pool has had this many turns.
+pub type TurnRow<'a> = (&'a str, u64, Kind, u64, u64);
+
+/// Makes these turns, of which each is noted as its row says, with pools that met what it says. The
+/// first pool is never asked.
+pub fn make_turns<P: Pool>(
     zone: &mut Zone<CountingPool<P>>,
     first: &Met,
     second: &Met,
-    lines: &[(u64, Kind, u64, u64)],
-) -> Result<bool, Fail> {
-    for (milliseconds, kind, lends, turns) in lines {
+    rows: &[TurnRow<'_>],
+) -> Result<(), Fail> {
+    for (name, milliseconds, kind, lends, turns) in rows {
         let turn = Event::Turn(Moment::new(*milliseconds).ok_or("a moment")?);
-        let outcome = zone.step(turn)?;
-        let is_noted = kind_of(outcome.note) == Some(*kind);
-        if !is_noted || !first.is(0, *turns) || !second.is(*lends, *turns) {
-            return Ok(false);
-        }
+        let note = zone.step(turn)?.note;
+        let is_noted = kind_of(note) == Some(*kind);
+        ensure_of(name, is_noted, "the turn is noted as its row says")?;
+        ensure_of(
+            name,
+            first.is(0, *turns),
+            "the first pool has had its turns alone",
+        )?;
+        let has_met = second.is(*lends, *turns);
+        ensure_of(
+            name,
+            has_met,
+            "the second pool was asked and had its turns as the row says",
+        )?;
     }
-    Ok(true)
+    Ok(())
 }

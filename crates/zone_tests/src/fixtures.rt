@@ -1,66 +1,49 @@
 //! The zone of the worked examples, and what comes to it.
 
-use pools::{FixedPool, Pool, PoolSet};
-use ras_core::{Config, ConfigParts, Datagram, Event, Moment, Networks, Note, Outcome, Zone};
-use ras_module::{Address, Name, Octets, Source};
+use facts::ensure_of;
+use pools::{FixedPool, Pool};
+use ras_core::{ConfigParts, Datagram, Event, Moment, Note, Outcome, Zone};
+use ras_module::{Address, Octets, Source};
 use std::alloc::Global;
 use std::test::Fail;
+pub use worked_zone::{CALL_LIMIT, ENDPOINT, LIMIT, POOL};
 
-pub const GATEKEEPER: Address = Address {
-    ip: [10, 0, 0, 1],
-    port: 1719,
-};
+/// The units of the worked call that opens first.
+pub const CALL: u64 = 1_280;
 
-pub const ENDPOINT: Source = Address {
-    ip: [10, 0, 0, 5],
-    port: 1719,
-};
+/// What is left for the first call until it has all that a call may have.
+pub const REST: u64 = CALL_LIMIT - CALL;
 
-/// The settings of a zone with one pool, which serves every address.
-pub fn parts(alloc: Global) -> Result<ConfigParts, Fail> {
-    let identifier = Name::new(&[103, 107]).ok_or("a name")?;
-    let mut networks = Vec::new(alloc);
-    networks.push(None)?;
-    Ok(ConfigParts::new(identifier, GATEKEEPER, Networks::from_vec(networks)))
-}
+/// A day, in milliseconds.
+pub const DAY: u64 = 86_400_000;
 
-pub fn config(parts: ConfigParts) -> Result<Config, Fail> {
-    match Config::new(parts) {
-        Ok(config) => Ok(config),
-        Err(_) => Err(Fail::from("the settings are in their ranges")),
+/// The RAS address 10.0.0.LAST.
+pub const fn source(last: u8) -> Source {
+    Address {
+        ip: [10, 0, 0, last],
+        port: 1719,
     }
 }
 
-/// A zone of 3,000 units, of which a call may have 2,000, over a pool of 2,500.
-pub fn zone(alloc: Global) -> Result<Zone<FixedPool>, Fail> {
-    let mut pools = Vec::new(alloc);
-    pools.push(FixedPool::new(2_500))?;
-    zone_over(alloc, parts(alloc)?, pools)
+/// The settings of the worked zone.
+pub fn parts(alloc: Global) -> Result<ConfigParts, Fail> {
+    Ok(worked_zone::parts(alloc).ok_or("memory for settings")?)
 }
 
-/// A zone of 3,000 units, of which a call may have 2,000, over these pools.
-pub fn zone_over<P: Pool>(
-    alloc: Global,
-    mut parts: ConfigParts,
-    pools: Vec<P>,
-) -> Result<Zone<P>, Fail> {
-    parts.limit = 3_000;
-    parts.call_limit = 2_000;
-    zone_with(alloc, parts, pools)
+/// The worked zone.
+pub fn zone(alloc: Global) -> Result<Zone<FixedPool>, Fail> {
+    Ok(worked_zone::zone(alloc).ok_or("memory for a zone")?)
 }
 
 /// A zone with these settings over these pools.
-pub fn zone_with<P: Pool>(
+pub fn zone_over<P: Pool>(
     alloc: Global,
     parts: ConfigParts,
     pools: Vec<P>,
 ) -> Result<Zone<P>, Fail> {
-    let Ok(set) = PoolSet::new(pools) else {
-        return Err(Fail::from("1 to 16 idle pools"));
-    };
-    match Zone::new(alloc, config(parts)?, set) {
-        Ok(zone) => Ok(zone),
-        Err(_) => Err(Fail::from("as many pools as networks")),
+    match worked_zone::zone_over(alloc, parts, pools) {
+        Some(zone) => Ok(zone),
+        None => Err(Fail::from("a zone with these settings over these pools")),
     }
 }
 
@@ -95,13 +78,18 @@ pub fn sent(alloc: Global, bytes: &[u8]) -> Result<Outcome, Fail> {
 // A zone that is dropped at each of many exits makes a test costly to prove, so what is asked of a
 // zone stands in functions that borrow it.
 
-/// Whether the datagram is answered with these octets.
-pub fn is_told(
+/// Sends the datagram to the zone, which has to answer it with these octets and nothing else.
+pub fn ask(
     alloc: Global,
     zone: &mut Zone<FixedPool>,
+    row: &str,
     bytes: &[u8],
     reply: &[u8],
-) -> Result<bool, Fail> {
+) -> Result<(), Fail> {
     let outcome = zone.step(event(alloc, bytes, 0)?)?;
-    Ok(outcome == sent(alloc, reply)?)
+    ensure_of(
+        row,
+        outcome == sent(alloc, reply)?,
+        "it is served with this reply alone",
+    )
 }

@@ -2,18 +2,18 @@
 //! goes back in the step that took it, and the request is rejected.
 
 use crate::counting::{CountingPool, Met};
-use crate::fixtures::{event, event_from, parts, sent, zone_with};
+use crate::fixtures::{CALL, LIMIT, POOL, event, event_from, parts, sent, source, zone_over};
 use crate::messages::{ACF_720, ACF_OF_900, ARQ_OF_100, ARQ_OF_900, BCF_1900, RIP_OF_100};
+use facts::{ensure, ensure_of};
 use pools::{Figures, FixedPool, Lend, PacedPool, Pool};
 use ras_core::Zone;
-use ras_module::Address;
 use std::alloc::Global;
 use std::sync::Arc;
 use std::test::Fail;
 use vectors::replies::{ACF_1280, ARJ, BRJ};
 use vectors::requests::{ARQ, ARQ_OF_A_SECOND_CALL, BRQ, RRQ_101, RRQ_102};
 
-/// A zone of `limit` units, of which a call may have 2,000, with this least grant, over one pool.
+/// A zone of `limit` units with this least grant, over one pool.
 fn zone_of<P: Pool>(
     alloc: Global,
     limit: u64,
@@ -22,15 +22,14 @@ fn zone_of<P: Pool>(
 ) -> Result<Zone<CountingPool<P>>, Fail> {
     let mut parts = parts(alloc)?;
     parts.limit = limit;
-    parts.call_limit = 2_000;
     parts.least_grant = least_grant;
     let mut pools = Vec::new(alloc);
     pools.push(pool)?;
-    zone_with(alloc, parts, pools)
+    zone_over(alloc, parts, pools)
 }
 
-/// What is seen of the pool of 2,500 units behind a request: how often it was asked, how often
-/// units came back to it, how many it has lent, and how often it asked to wait.
+/// What is seen of the pool behind a request: how often it was asked, how often units came back to
+/// it, how many it has lent, and how often it asked to wait.
 #[derive(Clone, Copy)]
 struct Seen {
     lends: u64,
@@ -39,94 +38,155 @@ struct Seen {
     waits: u64,
 }
 
-/// Whether the pool is seen so, by itself and by the zone, of which the same units are in use.
-fn is_seen<P: Pool>(zone: &Zone<CountingPool<P>>, met: &Met, seen: Seen) -> bool {
+/// What is seen of a pool that wasn't asked.
+const UNTOUCHED: Seen = Seen {
+    lends: 0,
+    returns: 0,
+    lent: 0,
+    waits: 0,
+};
+
+/// The first call has opened with its units.
+const OPENED: Seen = Seen {
+    lends: 1,
+    returns: 0,
+    lent: CALL,
+    waits: 0,
+};
+
+/// The loan to a request behind it went back.
+const RETURNED: Seen = Seen {
+    lends: 2,
+    returns: 1,
+    lent: CALL,
+    waits: 0,
+};
+
+/// Looks at the pool, which has to be seen so by itself and by the zone, of which the same units
+/// are in use.
+fn look<P: Pool>(
+    zone: &Zone<CountingPool<P>>,
+    met: &Met,
+    row: &str,
+    seen: Seen,
+) -> Result<(), Fail> {
     let pools = zone.machine().pools();
     let figures = Figures {
-        limit: 2_500,
+        limit: POOL,
         lent: seen.lent,
         refusals: 0,
         waits: seen.waits,
     };
-    let is_counted = met.is(seen.lends, 0) && met.got_back(seen.returns) && met.has_lent(seen.lent);
-    pools.len() == 1 && pools.get(0) == figures && is_counted && zone.in_use() == seen.lent
+    if pools.len() != 1 {
+        return Err(Fail::from("there is one pool"));
+    }
+    ensure_of(
+        row,
+        pools.get(0) == figures,
+        "the zone shows the figures of the pool",
+    )?;
+    ensure_of(
+        row,
+        met.is(seen.lends, 0),
+        "the pool was asked as often as it says",
+    )?;
+    ensure_of(
+        row,
+        met.got_back(seen.returns),
+        "units came back as often as it says",
+    )?;
+    ensure_of(
+        row,
+        met.has_lent(seen.lent),
+        "the pool has lent what it says",
+    )?;
+    ensure_of(
+        row,
+        zone.in_use() == seen.lent,
+        "what the pool has lent is in use",
+    )
 }
 
-/// Whether a request of 0001 is served with this answer of the pool and this reply, and the pool is
-/// then seen so.
-fn is_told<P: Pool>(
-    alloc: Global,
-    zone: &mut Zone<CountingPool<P>>,
-    met: &Met,
-    request: &[u8],
+/// A request of 0001, by its name, with the answer of the pool, its reply, and what is seen of the
+/// pool then.
+#[derive(Clone, Copy)]
+struct Asked<'a> {
+    name: &'a str,
+    request: &'a [u8],
     answer: Lend,
-    reply: &[u8],
+    reply: &'a [u8],
     seen: Seen,
-) -> Result<bool, Fail> {
-    let outcome = zone.step(event(alloc, request, 0)?)?;
-    let mut told = sent(alloc, reply)?;
-    told.answer = Some(answer);
-    Ok(outcome == told && is_seen(zone, met, seen))
 }
 
-/// Whether 0001 and 0002 register, and no pool is asked.
-fn are_two<P: Pool>(
+/// The first call opens with all that it wants.
+const FIRST_CALL: Asked<'static> = Asked {
+    name: "first call",
+    request: &ARQ,
+    answer: Lend::Lent(CALL),
+    reply: &ACF_1280,
+    seen: OPENED,
+};
+
+/// Sends the request, which has to be served so.
+fn ask<P: Pool>(
     alloc: Global,
     zone: &mut Zone<CountingPool<P>>,
     met: &Met,
-) -> Result<bool, Fail> {
+    asked: &Asked<'_>,
+) -> Result<(), Fail> {
+    let outcome = zone.step(event(alloc, asked.request, 0)?)?;
+    let mut told = sent(alloc, asked.reply)?;
+    told.answer = Some(asked.answer);
+    let is_served = outcome == told;
+    drop(told);
+    drop(outcome);
+    ensure_of(asked.name, is_served, "the pool and the zone answer so")?;
+    look(zone, met, asked.name, asked.seen)
+}
+
+/// Registers 0001 and 0002, for which no pool is asked.
+fn register_two<P: Pool>(
+    alloc: Global,
+    zone: &mut Zone<CountingPool<P>>,
+    met: &Met,
+) -> Result<(), Fail> {
     let requests: [(u8, &[u8]); 2] = [(5, &RRQ_101), (6, &RRQ_102)];
     for (last, request) in requests {
-        let source = Address {
-            ip: [10, 0, 0, last],
-            port: 1719,
-        };
-        zone.step(event_from(alloc, source, request, 0)?)?;
+        zone.step(event_from(alloc, source(last), request, 0)?)?;
     }
-    let untouched = Seen {
-        lends: 0,
-        returns: 0,
-        lent: 0,
-        waits: 0,
-    };
-    Ok(zone.endpoints()?.as_slice().len() == 2 && is_seen(zone, met, untouched))
+    ensure(
+        zone.endpoints()?.as_slice().len() == 2,
+        "0001 and 0002 are registered",
+    )?;
+    look(zone, met, "registrations", UNTOUCHED)
 }
 
 /// The units of the calls, by rising key: of the first one, and of the second one if there are two.
-fn units_of<P: Pool>(zone: &Zone<CountingPool<P>>) -> Result<Option<(u32, Option<u32>)>, Fail> {
+fn units_of<P: Pool>(zone: &Zone<CountingPool<P>>) -> Result<Option<(u64, Option<u64>)>, Fail> {
     let calls = zone.calls()?;
     Ok(match calls.as_slice() {
-        [(_, one)] => Some((one.units, None)),
-        [(_, one), (_, two)] => Some((one.units, Some(two.units))),
+        [(_, one)] => Some((u64::from(one.units), None)),
+        [(_, one), (_, two)] => Some((u64::from(one.units), Some(u64::from(two.units)))),
         _ => None,
     })
 }
 
-/// Whether the first call opens with 1,280 units, which is all that it wants, and a request behind
-/// it gets this answer of the pool and this reply. The pool is then seen so, and these are the
-/// units of the first call, and of the second one if there are two.
-fn is_second_told(
+/// Opens the first call, and sends a request behind it. These have to be the units of the first
+/// call then, and of the second one if there are two.
+fn ask_behind_a_call(
     alloc: Global,
     zone: &mut Zone<CountingPool<FixedPool>>,
     met: &Met,
-    request: &[u8],
-    answer: Lend,
-    reply: &[u8],
-    seen: Seen,
-    units: (u32, Option<u32>),
-) -> Result<bool, Fail> {
-    let first = Seen {
-        lends: 1,
-        returns: 0,
-        lent: 1_280,
-        waits: 0,
-    };
-    let opened = Lend::Lent(1_280);
-    Ok(
-        are_two(alloc, zone, met)?
-            && is_told(alloc, zone, met, &ARQ, opened, &ACF_1280, first)?
-            && is_told(alloc, zone, met, request, answer, reply, seen)?
-            && units_of(zone)? == Some(units),
+    asked: &Asked<'_>,
+    units: (u64, Option<u64>),
+) -> Result<(), Fail> {
+    register_two(alloc, zone, met)?;
+    ask(alloc, zone, met, &FIRST_CALL)?;
+    ask(alloc, zone, met, asked)?;
+    ensure_of(
+        asked.name,
+        units_of(zone)? == Some(units),
+        "the calls have their units",
     )
 }
 
@@ -138,179 +198,208 @@ fn last_of<P: Pool>(pools: &[CountingPool<P>]) -> Option<(u64, Lend)> {
     }
 }
 
+/// A zone of so many units and with this least grant: a request for a second call behind the first
+/// one, or for more bandwidth for that. The units that the pool lends for it, and the units of the
+/// calls then.
+#[derive(Clone, Copy)]
+struct Case<'a> {
+    limit: u64,
+    least_grant: u64,
+    asked: Asked<'a>,
+    lent: u64,
+    units: (u64, Option<u64>),
+}
+
+/// Makes the case's zone over a pool that counts, and asks it so. The pool's last request was for
+/// what it lent.
+fn try_case(alloc: Global, case: &Case<'_>) -> Result<(), Fail> {
+    let met = Arc::new(alloc, Met::new())?;
+    let pool = CountingPool::new(FixedPool::new(POOL), &met)?;
+    let mut zone = zone_of(alloc, case.limit, case.least_grant, pool)?;
+    let ended = ask_behind_a_call(alloc, &mut zone, &met, &case.asked, case.units);
+    let last = last_of(&zone.close());
+    drop(met);
+    ended?;
+    let asked = Some((case.lent, Lend::Lent(case.lent)));
+    ensure(last == asked, "the pool was asked for what it lent at last")
+}
+
+/// The units of a zone that has this left behind the first call, in which a second one wants more.
+const TIGHT: u64 = CALL + LEFT;
+
+const LEFT: u64 = 720;
+
+/// The units of a zone in which the first call can be raised to these, and wants more.
+const RAISED: u64 = 1_900;
+
 #[test]
 fn a_call_that_would_get_less_is_denied_and_its_loan_goes_back(
     rt: HostRuntime,
 ) -> Result<(), Fail> {
-    let met = Arc::new(rt.alloc(), Met::new())?;
-    let pool = CountingPool::new(FixedPool::new(2_500), &met)?;
-    let mut zone = zone_of(rt.alloc(), 2_000, 1_000, pool)?;
-    let lent = Lend::Lent(720);
-    let seen = Seen {
-        lends: 2,
-        returns: 1,
-        lent: 1_280,
-        waits: 0,
+    let asked = Asked {
+        name: "second call",
+        request: &ARQ_OF_A_SECOND_CALL,
+        answer: Lend::Lent(LEFT),
+        reply: &ARJ,
+        seen: RETURNED,
     };
-    let units = (1_280, None);
-    let passed = is_second_told(
-        rt.alloc(),
-        &mut zone,
-        &met,
-        &ARQ_OF_A_SECOND_CALL,
-        lent,
-        &ARJ,
-        seen,
-        units,
-    );
-    let last = last_of(&zone.close());
-    drop(met);
-    assert!(rt; passed?);
-    assert!(rt; last == Some((720, lent)));
-    Ok(())
+    let case = Case {
+        limit: TIGHT,
+        least_grant: LEFT + 280,
+        asked,
+        lent: LEFT,
+        units: (CALL, None),
+    };
+    try_case(rt.alloc(), &case)
 }
 
 #[test]
 fn a_call_that_gets_the_least_grant_is_admitted(rt: HostRuntime) -> Result<(), Fail> {
-    let met = Arc::new(rt.alloc(), Met::new())?;
-    let pool = CountingPool::new(FixedPool::new(2_500), &met)?;
-    let mut zone = zone_of(rt.alloc(), 2_000, 720, pool)?;
-    let lent = Lend::Lent(720);
     let seen = Seen {
         lends: 2,
-        returns: 0,
-        lent: 2_000,
-        waits: 0,
+        lent: TIGHT,
+        ..OPENED
     };
-    let units = (1_280, Some(720));
-    let passed = is_second_told(
-        rt.alloc(),
-        &mut zone,
-        &met,
-        &ARQ_OF_A_SECOND_CALL,
-        lent,
-        &ACF_720,
+    let asked = Asked {
+        name: "second call",
+        request: &ARQ_OF_A_SECOND_CALL,
+        answer: Lend::Lent(LEFT),
+        reply: &ACF_720,
         seen,
-        units,
-    );
-    let last = last_of(&zone.close());
-    drop(met);
-    assert!(rt; passed?);
-    assert!(rt; last == Some((720, lent)));
-    Ok(())
+    };
+    let case = Case {
+        limit: TIGHT,
+        least_grant: LEFT,
+        asked,
+        lent: LEFT,
+        units: (CALL, Some(LEFT)),
+    };
+    try_case(rt.alloc(), &case)
 }
 
 #[test]
 fn a_call_that_would_be_raised_to_less_keeps_its_units(rt: HostRuntime) -> Result<(), Fail> {
-    let met = Arc::new(rt.alloc(), Met::new())?;
-    let pool = CountingPool::new(FixedPool::new(2_500), &met)?;
-    let mut zone = zone_of(rt.alloc(), 1_900, 2_000, pool)?;
-    let lent = Lend::Lent(620);
-    let seen = Seen {
-        lends: 2,
-        returns: 1,
-        lent: 1_280,
-        waits: 0,
+    let asked = Asked {
+        name: "more bandwidth",
+        request: &BRQ,
+        answer: Lend::Lent(RAISED - CALL),
+        reply: &BRJ,
+        seen: RETURNED,
     };
-    let units = (1_280, None);
-    let passed = is_second_told(rt.alloc(), &mut zone, &met, &BRQ, lent, &BRJ, seen, units);
-    let last = last_of(&zone.close());
-    drop(met);
-    assert!(rt; passed?);
-    assert!(rt; last == Some((620, lent)));
-    Ok(())
+    let case = Case {
+        limit: RAISED,
+        least_grant: RAISED + 100,
+        asked,
+        lent: RAISED - CALL,
+        units: (CALL, None),
+    };
+    try_case(rt.alloc(), &case)
 }
 
 #[test]
 fn a_call_that_is_raised_to_the_least_grant_gets_it(rt: HostRuntime) -> Result<(), Fail> {
-    let met = Arc::new(rt.alloc(), Met::new())?;
-    let pool = CountingPool::new(FixedPool::new(2_500), &met)?;
-    let mut zone = zone_of(rt.alloc(), 1_900, 1_900, pool)?;
-    let lent = Lend::Lent(620);
     let seen = Seen {
         lends: 2,
-        returns: 0,
-        lent: 1_900,
-        waits: 0,
+        lent: RAISED,
+        ..OPENED
     };
-    let units = (1_900, None);
-    let passed = is_second_told(
-        rt.alloc(),
-        &mut zone,
-        &met,
-        &BRQ,
-        lent,
-        &BCF_1900,
+    let asked = Asked {
+        name: "more bandwidth",
+        request: &BRQ,
+        answer: Lend::Lent(RAISED - CALL),
+        reply: &BCF_1900,
         seen,
-        units,
-    );
-    let last = last_of(&zone.close());
-    drop(met);
-    assert!(rt; passed?);
-    assert!(rt; last == Some((620, lent)));
-    Ok(())
+    };
+    let case = Case {
+        limit: RAISED,
+        least_grant: RAISED,
+        asked,
+        lent: RAISED - CALL,
+        units: (RAISED, None),
+    };
+    try_case(rt.alloc(), &case)
 }
 
-// The pool lends 1,280 units between two turns: 900 to the first call, and the other 380 to the
-// second one, from which they go back.
-/// Whether the burst is over then, so that a third call of 100 units has to wait.
-fn is_burst_over(
+/// The units of a smaller call, and what is left of the burst behind it.
+const SMALL: u64 = 900;
+
+const BURST_LEFT: u64 = 380;
+
+/// The units of a third call.
+const THIRD: u64 = 100;
+
+/// What is seen of the pool behind the smaller call, behind the second call, whose loan went back,
+/// and behind the third one.
+const SMALL_OPENED: Seen = Seen {
+    lends: 1,
+    returns: 0,
+    lent: SMALL,
+    waits: 0,
+};
+
+const SMALL_RETURNED: Seen = Seen {
+    lends: 2,
+    returns: 1,
+    lent: SMALL,
+    waits: 0,
+};
+
+const SMALL_WAITING: Seen = Seen {
+    lends: 3,
+    returns: 1,
+    lent: SMALL,
+    waits: 1,
+};
+
+/// Uses up the burst of a pool, which lends as many units between two turns as one call wants: a
+/// part to the first call, and the rest to the second one, from which they go back. A third call
+/// has to wait then.
+fn use_up_the_burst(
     alloc: Global,
     zone: &mut Zone<CountingPool<PacedPool>>,
     met: &Met,
-) -> Result<bool, Fail> {
-    let opened = Seen {
-        lends: 1,
-        returns: 0,
-        lent: 900,
-        waits: 0,
-    };
-    let returned = Seen {
-        lends: 2,
-        returns: 1,
-        lent: 900,
-        waits: 0,
-    };
-    let waiting = Seen {
-        lends: 3,
-        returns: 1,
-        lent: 900,
-        waits: 1,
-    };
-    let request = &ARQ_OF_A_SECOND_CALL;
-    Ok(
-        are_two(alloc, zone, met)?
-            && is_told(
-                alloc,
-                zone,
-                met,
-                &ARQ_OF_900,
-                Lend::Lent(900),
-                &ACF_OF_900,
-                opened,
-            )?
-            && is_told(alloc, zone, met, request, Lend::Lent(380), &ARJ, returned)?
-            && is_told(
-                alloc,
-                zone,
-                met,
-                &ARQ_OF_100,
-                Lend::Wait,
-                &RIP_OF_100,
-                waiting,
-            )?,
-    )
+) -> Result<(), Fail> {
+    let requests = [
+        Asked {
+            name: "first call",
+            request: &ARQ_OF_900,
+            answer: Lend::Lent(SMALL),
+            reply: &ACF_OF_900,
+            seen: SMALL_OPENED,
+        },
+        Asked {
+            name: "second call",
+            request: &ARQ_OF_A_SECOND_CALL,
+            answer: Lend::Lent(BURST_LEFT),
+            reply: &ARJ,
+            seen: SMALL_RETURNED,
+        },
+        Asked {
+            name: "third call",
+            request: &ARQ_OF_100,
+            answer: Lend::Wait,
+            reply: &RIP_OF_100,
+            seen: SMALL_WAITING,
+        },
+    ];
+    register_two(alloc, zone, met)?;
+    for asked in &requests {
+        ask(alloc, zone, met, asked)?;
+    }
+    Ok(())
 }
 
 #[test]
 fn a_loan_that_went_back_counts_against_the_burst(rt: HostRuntime) -> Result<(), Fail> {
     let met = Arc::new(rt.alloc(), Met::new())?;
-    let pool = CountingPool::new(PacedPool::new(2_500, 1_280), &met)?;
-    let mut zone = zone_of(rt.alloc(), 3_000, 1_000, pool)?;
-    let passed = is_burst_over(rt.alloc(), &mut zone, &met);
+    let pool = CountingPool::new(PacedPool::new(POOL, SMALL + BURST_LEFT), &met)?;
+    let mut zone = zone_of(rt.alloc(), LIMIT, 1_000, pool)?;
+    let ended = use_up_the_burst(rt.alloc(), &mut zone, &met);
     let last = last_of(&zone.close());
     drop(met);
-    assert!(rt; passed?);
-    assert!(rt; last == Some((100, Lend::Wait)));
-    Ok(())
+    ended?;
+    ensure(
+        last == Some((THIRD, Lend::Wait)),
+        "the pool was asked for the third call at last",
+    )
 }

@@ -1,131 +1,160 @@
 //! A pool of a zone is replaced while a call lives.
 
-use crate::fixtures::{event, event_from, zone};
+use crate::fixtures::{CALL, CALL_LIMIT, POOL, REST, event, event_from, source, zone};
+use facts::{ensure, ensure_of};
 use pools::{FixedPool, Lend, Pool, ReplaceFault};
-use ras_core::{Moment, Note, Zone};
-use ras_module::{Address, Source};
+use ras_core::{Moment, Note, Outcome, Zone};
 use std::alloc::Global;
 use std::test::Fail;
 use vectors::replies::{ARJ, BCF};
 use vectors::requests::{ARQ, ARQ_OF_A_SECOND_CALL, BRQ, RRQ_101, RRQ_102};
 
-/// The endpoint that is called.
-const CALLED: Source = Address {
-    ip: [10, 0, 0, 6],
-    port: 1719,
-};
+/// The units of the fresh pool.
+const FRESH: u64 = CALL_LIMIT;
 
-/// Two endpoints register, and a call of theirs gets 1,280 units.
+/// Registers two endpoints, and opens a call of theirs.
 fn open_call(alloc: Global, zone: &mut Zone<FixedPool>) -> Result<(), Fail> {
     drop(zone.step(event(alloc, &RRQ_101, 0)?)?);
-    drop(zone.step(event_from(alloc, CALLED, &RRQ_102, 0)?)?);
+    drop(zone.step(event_from(alloc, source(6), &RRQ_102, 0)?)?);
     drop(zone.step(event(alloc, &ARQ, 0)?)?);
     Ok(())
 }
 
-/// Whether the request is answered by this pool's answer and with these octets.
-fn is_answered(
+/// Sends the request, which has to be answered by this answer of the pool and with these octets.
+fn ask(
     alloc: Global,
     zone: &mut Zone<FixedPool>,
+    row: &str,
     request: &[u8],
     answer: Lend,
     reply: &[u8],
-) -> Result<bool, Fail> {
+) -> Result<(), Fail> {
     let outcome = zone.step(event(alloc, request, 0)?)?;
     let is_sent = match &outcome.output {
         Some(output) => output.bytes.as_slice() == reply,
         None => false,
     };
-    Ok(is_sent && outcome.answer == Some(answer))
+    let is_answered = outcome.answer == Some(answer);
+    drop(outcome);
+    ensure_of(row, is_sent, "it gets its reply")?;
+    ensure_of(row, is_answered, "the pool answers so")
 }
 
-/// Whether a pool of 2,000 units takes the place of the one of 2,500: that one comes back with
-/// nothing lent, and the outcome tells which it was and nothing else.
-fn is_replaced(zone: &mut Zone<FixedPool>) -> bool {
-    let Ok((outcome, old)) = zone.replace(0, FixedPool::new(2_000), Moment::START) else {
-        return false;
+/// Compares an outcome with that of a replacement of the first pool, which tells nothing else.
+fn compare_replacement(outcome: &Outcome) -> Result<(), Fail> {
+    ensure(
+        outcome.note == Note::Replaced(0),
+        "the replacement is noted",
+    )?;
+    ensure(outcome.answer.is_none(), "no pool is asked in it")?;
+    ensure(outcome.output.is_none(), "nothing is sent for it")?;
+    ensure(outcome.dropped.is_none(), "nothing is dropped for it")?;
+    ensure(outcome.given.is_none(), "no identifier is given in it")
+}
+
+/// Puts a fresh pool in the place of the zone's, which comes back with nothing lent. The outcome
+/// tells which it was and nothing else.
+fn replace(zone: &mut Zone<FixedPool>) -> Result<(), Fail> {
+    let Ok((outcome, old)) = zone.replace(0, FixedPool::new(FRESH), Moment::START) else {
+        return Err(Fail::from("the pool is replaced"));
     };
-    let is_noted = outcome.note == Note::Replaced(0)
-        && outcome.answer.is_none()
-        && outcome.output.is_none()
-        && outcome.dropped.is_none()
-        && outcome.given.is_none();
-    is_noted && old.limit() == 2_500 && old.lent() == 0 && old.refusals() == 0
+    let is_back = old.limit() == POOL && old.lent() == 0 && old.refusals() == 0;
+    drop(old);
+    compare_replacement(&outcome)?;
+    ensure(is_back, "the pool of before comes back with nothing lent")
 }
 
-/// Whether the call keeps its 1,280 units over the fresh pool, which then lends it the 720 that are
-/// left, and refuses a second call.
-fn goes_on(alloc: Global, zone: &mut Zone<FixedPool>) -> Result<bool, Fail> {
+/// Replaces the pool while a call lives, which keeps its units over the fresh pool. That then lends
+/// it those that are left, and refuses a second call.
+fn go_on_over_a_fresh_pool(alloc: Global, zone: &mut Zone<FixedPool>) -> Result<(), Fail> {
     open_call(alloc, zone)?;
-    let is_replaced = is_replaced(zone);
-    let keeps = zone.in_use() == 1_280 && zone.steps() == 4;
-    let gets_more = is_answered(alloc, zone, &BRQ, Lend::Lent(720), &BCF)?;
-    let is_full = is_answered(alloc, zone, &ARQ_OF_A_SECOND_CALL, Lend::Refused, &ARJ)?;
-    Ok(is_replaced && keeps && gets_more && is_full)
+    replace(zone)?;
+    ensure(zone.in_use() == CALL, "the call keeps its units")?;
+    ensure(zone.steps() == 4, "the replacement was a step")?;
+    let second = &ARQ_OF_A_SECOND_CALL;
+    ask(alloc, zone, "more bandwidth", &BRQ, Lend::Lent(REST), &BCF)?;
+    ask(alloc, zone, "second call", second, Lend::Refused, &ARJ)
 }
 
 #[test]
 fn a_call_goes_on_over_a_fresh_pool(rt: HostRuntime) -> Result<(), Fail> {
     let mut zone = zone(rt.alloc())?;
-    let passed = goes_on(rt.alloc(), &mut zone);
+    let ended = go_on_over_a_fresh_pool(rt.alloc(), &mut zone);
     drop(zone);
-    assert!(rt; passed?);
-    Ok(())
+    ended
 }
 
-/// Whether a pool of this limit doesn't take the place of that one, for this reason, and comes back
-/// with nothing lent.
-fn is_refused(
+/// Offers a pool of this limit in the place of that one, which is refused for this reason. It comes
+/// back with nothing lent.
+fn offer_in_vain(
     zone: &mut Zone<FixedPool>,
+    row: &str,
     pool: usize,
     limit: u64,
     fault: ReplaceFault,
     number: u8,
-) -> bool {
+) -> Result<(), Fail> {
     let Err((fresh, found)) = zone.replace(pool, FixedPool::new(limit), Moment::START) else {
-        return false;
+        return Err(Fail::from("the pool is refused"));
     };
-    found == fault && found.number() == number && fresh.limit() == limit && fresh.lent() == 0
+    let is_back = fresh.limit() == limit && fresh.lent() == 0;
+    drop(fresh);
+    ensure_of(row, found == fault, "it is refused for this reason")?;
+    ensure_of(row, found.number() == number, "the reason has its number")?;
+    ensure_of(row, is_back, "it comes back with nothing lent")
 }
 
-/// Whether a pool of a unit less than is lent is refused, and one for a pool that isn't there; and
-/// the call then gets 720 units more, from the pool that was there.
-fn stays(alloc: Global, zone: &mut Zone<FixedPool>) -> Result<bool, Fail> {
+/// Offers a pool of a unit less than is lent, and one for a pool that isn't there. The call then
+/// gets the units that are left from the pool that was there.
+fn stay_over_the_pool(alloc: Global, zone: &mut Zone<FixedPool>) -> Result<(), Fail> {
     open_call(alloc, zone)?;
-    let is_small = is_refused(zone, 0, 1_279, ReplaceFault::NotLent, 4);
-    let is_nowhere = is_refused(zone, 1, 2_000, ReplaceFault::NoPool, 2);
-    let is_unchanged = zone.in_use() == 1_280 && zone.steps() == 3;
-    let gets_more = is_answered(alloc, zone, &BRQ, Lend::Lent(720), &BCF)?;
-    Ok(is_small && is_nowhere && is_unchanged && gets_more)
+    offer_in_vain(
+        zone,
+        "a unit too small",
+        0,
+        CALL - 1,
+        ReplaceFault::NotLent,
+        4,
+    )?;
+    offer_in_vain(zone, "no such pool", 1, FRESH, ReplaceFault::NoPool, 2)?;
+    ensure(zone.in_use() == CALL, "the call keeps its units")?;
+    ensure(zone.steps() == 3, "what is refused is no step")?;
+    ask(alloc, zone, "more bandwidth", &BRQ, Lend::Lent(REST), &BCF)
 }
 
 #[test]
 fn a_zone_stays_as_it_was_if_no_pool_is_replaced(rt: HostRuntime) -> Result<(), Fail> {
     let mut zone = zone(rt.alloc())?;
-    let passed = stays(rt.alloc(), &mut zone);
+    let ended = stay_over_the_pool(rt.alloc(), &mut zone);
     drop(zone);
-    assert!(rt; passed?);
-    Ok(())
+    ended
 }
 
-/// Whether a pool of which a unit is lent is refused unasked, and is told so beforehand.
-fn is_refused_unasked(zone: &mut Zone<FixedPool>) -> bool {
-    let mut fresh = FixedPool::new(2_000);
-    let lends = fresh.lend(1) == Lend::Lent(1);
+/// Offers a pool of which a unit is lent, which is refused unasked, and is told so beforehand. It
+/// comes back with its loan.
+fn offer_with_a_loan(zone: &mut Zone<FixedPool>) -> Result<(), Fail> {
+    let one = Lend::Lent(1);
+    let mut fresh = FixedPool::new(FRESH);
+    ensure(fresh.lend(1) == one, "the pool lends a unit")?;
     let told = zone.fault_unasked(0, &fresh);
     let Err((back, fault)) = zone.replace(0, fresh, Moment::START) else {
-        return false;
+        return Err(Fail::from("the pool is refused"));
     };
-    let has_its_loan = back.lent() == 1 && back.last() == Some((1, Lend::Lent(1)));
-    let is_told = told == Some(ReplaceFault::NotIdle) && fault == ReplaceFault::NotIdle;
-    lends && has_its_loan && is_told && fault.number() == 3
+    let has_its_loan = back.lent() == 1 && back.last() == Some((1, one));
+    drop(back);
+    ensure(
+        told == Some(ReplaceFault::NotIdle),
+        "its fault is told beforehand",
+    )?;
+    ensure(fault == ReplaceFault::NotIdle, "it is refused for its loan")?;
+    ensure(fault.number() == 3, "the reason has its number")?;
+    ensure(has_its_loan, "it comes back with its loan")
 }
 
 #[test]
 fn a_pool_with_a_loan_is_refused_unasked(rt: HostRuntime) -> Result<(), Fail> {
     let mut zone = zone(rt.alloc())?;
-    let passed = is_refused_unasked(&mut zone);
+    let ended = offer_with_a_loan(&mut zone);
     drop(zone);
-    assert!(rt; passed);
-    Ok(())
+    ended
 }

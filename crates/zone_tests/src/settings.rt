@@ -1,6 +1,7 @@
 //! The settings of a zone, and its pools' networks.
 
-use crate::fixtures::{config, parts};
+use crate::fixtures::{DAY, POOL, parts};
+use facts::ensure;
 use pools::{FixedPool, PoolSet};
 use ras_core::{Config, ConfigFault, ConfigParts, Moment, Network, Networks, NewFault, Zone};
 use std::alloc::Global;
@@ -15,17 +16,23 @@ fn is_judged(parts: ConfigParts, key: &str) -> bool {
     }
 }
 
+/// The most units that a zone may have, and the most calls.
+const LIMIT_MOST: u64 = 1_000_000_000_000;
+
+const CALLS_MOST: u64 = 20_000;
+
 #[test]
 fn a_key_out_of_its_range_is_named(rt: HostRuntime) -> Result<(), Fail> {
+    let grant = u64::from(u32::MAX);
     let cases = [
         (1, 1, 1, 1, 0, ""),
-        (1_000_000_000_000, 20_000, 16, 86_400_000, 4_294_967_295, ""),
-        (1_000_000_000_001, 20_001, 17, 86_400_001, 0, "zone.limit"),
+        (LIMIT_MOST, CALLS_MOST, 16, DAY, grant, ""),
+        (LIMIT_MOST + 1, CALLS_MOST + 1, 17, DAY + 1, 0, "zone.limit"),
         (0, 1, 1, 1, 0, "zone.limit"),
-        (1, 20_001, 17, 86_400_001, 0, "zone.calls"),
+        (1, CALLS_MOST + 1, 17, DAY + 1, 0, "zone.calls"),
         (1, 1, 17, 0, 0, "zone.asks"),
-        (1, 1, 1, 0, 4_294_967_296, "zone.pool_turn"),
-        (1, 1, 1, 1, 4_294_967_296, "zone.least_grant"),
+        (1, 1, 1, 0, grant + 1, "zone.pool_turn"),
+        (1, 1, 1, 1, grant + 1, "zone.least_grant"),
     ];
     for (limit, calls, asks, pool_turn, least_grant, key) in cases {
         let mut parts = parts(rt.alloc())?;
@@ -45,31 +52,40 @@ fn a_key_out_of_its_range_is_named(rt: HostRuntime) -> Result<(), Fail> {
 
 #[test]
 fn moments_end_below_2_to_the_53(rt: HostRuntime) -> Result<(), Fail> {
-    let last = Moment::new(9_007_199_254_740_991).ok_or("the last moment")?;
-    assert_eq!(rt; last.milliseconds(), 9_007_199_254_740_991);
-    assert!(rt; Moment::new(9_007_199_254_740_992).is_none());
+    let end = 9_007_199_254_740_992;
+    let last = Moment::new(end - 1).ok_or("the last moment")?;
+    assert_eq!(rt; last.milliseconds(), end - 1);
+    assert!(rt; Moment::new(end).is_none());
     Ok(())
 }
 
-/// Whether a zone over one pool is made with these networks.
-fn is_made(alloc: Global, networks: &[Option<Network>]) -> Result<bool, Fail> {
+/// Makes a zone over one pool with these networks, which is refused unless they are one. The pool
+/// comes back then.
+fn make(alloc: Global, networks: &[Option<Network>]) -> Result<(), Fail> {
     let mut parts = parts(alloc)?;
     parts.networks = Networks::from_vec(networks.to_vec(alloc)?);
+    let Ok(config) = Config::new(parts) else {
+        return Err(Fail::from("the settings are in their ranges"));
+    };
     let mut pools = Vec::new(alloc);
-    pools.push(FixedPool::new(2_500))?;
+    pools.push(FixedPool::new(POOL))?;
     let Ok(set) = PoolSet::new(pools) else {
         return Err(Fail::from("one idle pool"));
     };
-    match Zone::new(alloc, config(parts)?, set) {
-        Ok(_) => Ok(true),
+    match Zone::new(alloc, config, set) {
+        Ok(_) => ensure(networks.len() == 1, "a zone over one pool has one network"),
         Err((set, fault)) => {
-            let is_back = set.len() == 1 && set.figures(0).limit == 2_500;
+            let is_back = set.len() == 1 && set.figures(0).limit == POOL;
             drop(set);
-            if is_back && fault == NewFault::WrongPools {
-                Ok(false)
-            } else {
-                Err(Fail::from("the pools come back, as WrongPools"))
-            }
+            ensure(is_back, "the pool comes back")?;
+            ensure(
+                fault == NewFault::WrongPools,
+                "the pools are named as the fault",
+            )?;
+            ensure(
+                networks.len() != 1,
+                "a zone with one network is made over one pool",
+            )
         }
     }
 }
@@ -81,8 +97,8 @@ fn a_zone_has_a_pool_for_each_network(rt: HostRuntime) -> Result<(), Fail> {
         ip: [10, 1, 0, 0],
         bits: 16,
     };
-    assert!(rt; is_made(alloc, &[None])?);
-    assert!(rt; !is_made(alloc, &[Some(office), None])?);
+    make(alloc, &[None])?;
+    make(alloc, &[Some(office), None])?;
     assert!(rt; office.holds([10, 1, 255, 1]));
     assert!(rt; !office.holds([10, 2, 0, 1]));
     let mut parts = parts(alloc)?;

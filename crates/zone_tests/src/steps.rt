@@ -1,6 +1,7 @@
 //! Steps and runs: discovery, repeats, turns.
 
-use crate::fixtures::{ENDPOINT, event, is_told, sent, zone};
+use crate::fixtures::{ENDPOINT, ask, event, sent, zone};
+use facts::{ensure, ensure_of};
 use pools::FixedPool;
 use ras_core::{
     DueItem, Event, IgnoredCause, Moment, NewFault, Note, Outcome, StepFault, Zone, prepare,
@@ -10,82 +11,85 @@ use std::test::Fail;
 use vectors::replies::{GCF, GRJ};
 use vectors::requests::{GRQ, GRQ_OF_XX};
 
-/// Whether the gatekeeper is told to who asks for none, and another one isn't it.
-fn is_discovered(alloc: Global, zone: &mut Zone<FixedPool>) -> Result<bool, Fail> {
-    Ok(is_told(alloc, zone, &GRQ, &GCF)? && is_told(alloc, zone, &GRQ_OF_XX, &GRJ)?)
+/// Asks for any gatekeeper, and for another one, which this isn't.
+fn discover(alloc: Global, zone: &mut Zone<FixedPool>) -> Result<(), Fail> {
+    ask(alloc, zone, "any gatekeeper", &GRQ, &GCF)?;
+    ask(alloc, zone, "another gatekeeper", &GRQ_OF_XX, &GRJ)
 }
 
 #[test]
 fn discovery_is_confirmed_or_rejected(rt: HostRuntime) -> Result<(), Fail> {
     let alloc = rt.alloc();
     let mut zone = zone(alloc)?;
-    let passed = is_discovered(alloc, &mut zone);
+    let ended = discover(alloc, &mut zone);
     drop(zone);
-    assert!(rt; passed?);
-    Ok(())
+    ended
 }
 
-/// Whether the request of this moment is answered so, and so noted.
-fn is_noted(
-    alloc: Global,
-    zone: &mut Zone<FixedPool>,
-    milliseconds: u64,
-    note: Note,
-) -> Result<bool, Fail> {
-    let outcome = zone.step(event(alloc, &GRQ, milliseconds)?)?;
-    Ok(outcome.output == sent(alloc, &GCF)?.output && outcome.note == note)
+/// Sends the same request at three moments. It is told the same for 10,000 milliseconds, and then
+/// served again.
+fn ask_thrice(alloc: Global, zone: &mut Zone<FixedPool>) -> Result<(), Fail> {
+    let rows = [
+        ("first", 0, Note::Served),
+        ("repeat", 9_999, Note::Kept),
+        ("anew", 10_000, Note::Served),
+    ];
+    for (name, milliseconds, note) in rows {
+        let outcome = zone.step(event(alloc, &GRQ, milliseconds)?)?;
+        let is_sent = is_sent(&outcome, &GCF);
+        let is_noted = outcome.note == note;
+        drop(outcome);
+        ensure_of(name, is_sent, "the gatekeeper is told")?;
+        ensure_of(name, is_noted, "it is noted as its row says")?;
+    }
+    ensure(zone.steps() == 3, "each request was a step")
 }
 
-/// Whether the same request is told the same for 10,000 milliseconds, and then served again.
-fn is_repeated(alloc: Global, zone: &mut Zone<FixedPool>) -> Result<bool, Fail> {
-    Ok(
-        is_noted(alloc, zone, 0, Note::Served)?
-            && is_noted(alloc, zone, 9_999, Note::Kept)?
-            && is_noted(alloc, zone, 10_000, Note::Served)?
-            && zone.steps() == 3,
-    )
+/// Whether these octets are sent to the endpoint.
+fn is_sent(outcome: &Outcome, bytes: &[u8]) -> bool {
+    match &outcome.output {
+        Some(sent) => sent.to == ENDPOINT && sent.bytes.as_slice() == bytes,
+        None => false,
+    }
 }
 
 #[test]
 fn a_repeat_gets_its_kept_reply(rt: HostRuntime) -> Result<(), Fail> {
     let mut zone = zone(rt.alloc())?;
-    let passed = is_repeated(rt.alloc(), &mut zone);
+    let ended = ask_thrice(rt.alloc(), &mut zone);
     drop(zone);
-    assert!(rt; passed?);
-    Ok(())
+    ended
 }
 
-/// Whether this is what is noted of a copy of a turn at this moment, and nothing is sent.
-fn is_turned(
-    alloc: Global,
-    zone: &mut Zone<FixedPool>,
-    milliseconds: u64,
-    note: Note,
-) -> Result<bool, Fail> {
-    let turn = Event::Turn(Moment::new(milliseconds).ok_or("a moment")?);
-    let outcome = zone.step(turn.copy()?)?;
-    Ok(outcome.output.is_none() && outcome.note == note)
-}
-
-/// Whether the pools make a turn each 1,000 milliseconds.
-fn are_turned(alloc: Global, zone: &mut Zone<FixedPool>) -> Result<bool, Fail> {
+/// Makes turns by copies of events. The pools have theirs each 1,000 milliseconds, and nothing is
+/// sent for any.
+fn make_turns(zone: &mut Zone<FixedPool>) -> Result<(), Fail> {
     let pools = Note::Done(DueItem::PoolTurn);
-    Ok(
-        is_turned(alloc, zone, 999, Note::Idle)?
-            && is_turned(alloc, zone, 1_000, pools)?
-            && is_turned(alloc, zone, 1_999, Note::Idle)?
-            && is_turned(alloc, zone, 2_500, pools)?
-            && is_turned(alloc, zone, 3_499, Note::Idle)?,
-    )
+    let rows = [
+        ("before the first turn", 999, Note::Idle),
+        ("first turn", 1_000, pools),
+        ("before the second turn", 1_999, Note::Idle),
+        ("second turn, late", 2_500, pools),
+        ("before the third turn", 3_499, Note::Idle),
+    ];
+    for (name, milliseconds, note) in rows {
+        let turn = Event::Turn(Moment::new(milliseconds).ok_or("a moment")?);
+        let outcome = zone.step(turn.copy()?)?;
+        let is_silent = outcome.output.is_none();
+        let is_noted = outcome.note == note;
+        drop(outcome);
+        ensure_of(name, is_silent, "nothing is sent")?;
+        ensure_of(name, is_noted, "it is noted as its row says")?;
+    }
+    Ok(())
 }
 
 #[test]
 fn the_pools_make_turns(rt: HostRuntime) -> Result<(), Fail> {
     let mut zone = zone(rt.alloc())?;
-    let passed = are_turned(rt.alloc(), &mut zone);
+    let ended = make_turns(&mut zone);
     drop(zone);
-    assert!(rt; passed?);
-    Ok(())
+    ended
 }
 
 /// A GatekeeperRequest, one that is cut short, a message that isn't served, and one that is too
@@ -104,37 +108,53 @@ fn is_ignored(outcome: &Outcome, cause: IgnoredCause) -> bool {
     outcome.output.is_none() && outcome.note == Note::Ignored(cause)
 }
 
-/// Whether these are the outcomes of the four events.
-fn are_four(alloc: Global, outcomes: &[Outcome]) -> Result<bool, Fail> {
+/// Compares outcomes with those of the four events.
+fn compare_four(alloc: Global, outcomes: &[Outcome]) -> Result<(), Fail> {
     let [first, cut, other, long] = outcomes else {
-        return Ok(false);
+        return Err(Fail::from("there are four outcomes"));
     };
-    Ok(
-        *first == sent(alloc, &GCF)?
-            && is_ignored(cut, IgnoredCause::Unreadable)
-            && is_ignored(other, IgnoredCause::NotServed)
-            && is_ignored(long, IgnoredCause::TooLong),
+    ensure(
+        *first == sent(alloc, &GCF)?,
+        "the first event is served with this reply alone",
+    )?;
+    ensure(
+        is_ignored(cut, IgnoredCause::Unreadable),
+        "the second one is unreadable",
+    )?;
+    ensure(
+        is_ignored(other, IgnoredCause::NotServed),
+        "the third one isn't served",
+    )?;
+    ensure(
+        is_ignored(long, IgnoredCause::TooLong),
+        "the fourth one is too long",
     )
 }
 
-/// Whether a run over the four events leaves the zone four steps on, at the latest moment.
-fn runs_on(alloc: Global, zone: &mut Zone<FixedPool>) -> Result<bool, Fail> {
+/// Runs over the four events, which leaves the zone four steps on, at the latest moment.
+fn run_on(alloc: Global, zone: &mut Zone<FixedPool>) -> Result<(), Fail> {
     let events = four_events(alloc)?;
     let mut outcomes = Vec::new(alloc);
     let is_run = zone.run(&events, &mut outcomes).is_ok();
-    let is_late = Some(zone.clock()) == Moment::new(40);
-    Ok(is_run && are_four(alloc, &outcomes)? && zone.steps() == 4 && is_late)
+    let compared = compare_four(alloc, &outcomes);
+    drop(outcomes);
+    drop(events);
+    compared?;
+    ensure(is_run, "the run is whole")?;
+    ensure(zone.steps() == 4, "it made four steps")?;
+    ensure(
+        Some(zone.clock()) == Moment::new(40),
+        "the clock is at the latest moment",
+    )?;
+    ensure(!zone.is_closed(), "the zone takes further events")
 }
 
 #[test]
 fn a_run_appends_an_outcome_for_each_event(rt: HostRuntime) -> Result<(), Fail> {
     let mut zone = zone(rt.alloc())?;
-    let passed = runs_on(rt.alloc(), &mut zone);
-    let is_closed = zone.is_closed();
+    let ended = run_on(rt.alloc(), &mut zone);
     drop(zone);
-    assert!(rt; passed?);
-    assert!(rt; !is_closed);
-    Ok(())
+    ended
 }
 
 /// Whether this is the GatekeeperRequest of the worked example, from the endpoint, at this moment.
@@ -149,25 +169,33 @@ fn is_grq_at(event: &Event, milliseconds: u64) -> bool {
     }
 }
 
-/// Whether a request whose datagram is read before its step gets the reply that it gets otherwise,
-/// and a datagram of one octet too many is read as too long. An event that was read is the same
-/// event still.
-fn is_prepared(alloc: Global, zone: &mut Zone<FixedPool>) -> Result<bool, Fail> {
+/// Reads datagrams before their steps: a request gets the reply that it gets otherwise, and one of
+/// one octet too many is read as too long. An event that was read is the same event still.
+fn step_what_was_read(alloc: Global, zone: &mut Zone<FixedPool>) -> Result<(), Fail> {
     let request = prepare(alloc, event(alloc, &GRQ, 5)?)?;
     let is_same = is_grq_at(&request.event()?, 5);
     let outcome = zone.step_prepared(request)?;
-    let is_told = outcome.output == sent(alloc, &GCF)?.output && outcome.note == Note::Served;
-    let long = zone.step_prepared(prepare(alloc, event(alloc, &[0; 4_097], 6)?)?)?;
-    Ok(is_same && is_told && long.note == Note::Ignored(IgnoredCause::TooLong))
+    let is_sent = is_sent(&outcome, &GCF);
+    let is_served = outcome.note == Note::Served;
+    drop(outcome);
+    let long = zone
+        .step_prepared(prepare(alloc, event(alloc, &[0; 4_097], 6)?)?)?
+        .note;
+    ensure(is_same, "what was read is the same event still")?;
+    ensure(is_sent, "the gatekeeper is told")?;
+    ensure(is_served, "the request is noted as served")?;
+    ensure(
+        long == Note::Ignored(IgnoredCause::TooLong),
+        "the long datagram is too long",
+    )
 }
 
 #[test]
 fn a_datagram_is_read_before_its_step(rt: HostRuntime) -> Result<(), Fail> {
     let mut zone = zone(rt.alloc())?;
-    let passed = is_prepared(rt.alloc(), &mut zone);
+    let ended = step_what_was_read(rt.alloc(), &mut zone);
     drop(zone);
-    assert!(rt; passed?);
-    Ok(())
+    ended
 }
 
 #[test]

@@ -2,6 +2,7 @@
 
 ghost use Rattle.std.specs.Prelude.{◌≡◌, ◌<◌};
 ghost use Rattle.zone_view.specs.Kinds.{answer_place, deed_place, reply_place, request_place};
+ghost use Rattle.zone_view.specs.Labels.{answer_label, deed_label, reply_label, request_label};
 
 /// The requests that are served (H.225.0, RasMessage).
 #[derive(Clone, Copy, Debug, PartialEq, Eq)]
@@ -43,7 +44,9 @@ impl RequestKind {
     }
 
     /// Its abbreviation in H.225.0.
-    pub fn label(self) -> &'static str {
+    pub fn label(self) -> &'static str
+        ensures { result.now ≡ request_label self }
+    {
         match self {
             RequestKind::Grq => "GRQ",
             RequestKind::Rrq => "RRQ",
@@ -117,7 +120,9 @@ impl ReplyKind {
     }
 
     /// Its abbreviation in H.225.0.
-    pub fn label(self) -> &'static str {
+    pub fn label(self) -> &'static str
+        ensures { result.now ≡ reply_label self }
+    {
         match self {
             ReplyKind::Gcf => "GCF",
             ReplyKind::Grj => "GRJ",
@@ -184,7 +189,9 @@ impl TurnDeed {
     }
 
     /// A word for it.
-    pub fn label(self) -> &'static str {
+    pub fn label(self) -> &'static str
+        ensures { result.now ≡ deed_label self }
+    {
         match self {
             TurnDeed::RegistrationOver => "registration_over",
             TurnDeed::Interrogation => "interrogation",
@@ -221,7 +228,9 @@ impl Answer {
     }
 
     /// A word for it.
-    pub fn label(self) -> &'static str {
+    pub fn label(self) -> &'static str
+        ensures { result.now ≡ answer_label self }
+    {
         match self {
             Answer::Lent => "lent",
             Answer::Refused => "refused",

@@ -2,6 +2,7 @@
 
 ghost use Rattle.std.specs.Prelude.{◌≡◌, ◌<◌};
 ghost use Rattle.zone_view.specs.Kinds.{reject_place};
+ghost use Rattle.zone_view.specs.Labels.{reject_label, reject_message};
 
 use crate::kinds::ReplyKind;
 
@@ -79,19 +80,36 @@ impl Reject {
     }
 
     /// The message that gives it.
-    pub fn message(self) -> ReplyKind {
-        match self.place() {
-            0 => ReplyKind::Grj,
-            1..=6 => ReplyKind::Rrj,
-            7 | 8 => ReplyKind::Urj,
-            9..=12 => ReplyKind::Arj,
-            13..=15 => ReplyKind::Brj,
-            _ => ReplyKind::Drj,
+    pub fn message(self) -> ReplyKind
+        ensures { result ≡ reject_message self }
+    {
+        match self {
+            Reject::DiscoveryTerminalExcluded => ReplyKind::Grj,
+            Reject::RegistrationDiscoveryRequired
+            | Reject::RegistrationInvalidCallSignalAddress
+            | Reject::RegistrationInvalidRasAddress
+            | Reject::RegistrationDuplicateAlias
+            | Reject::RegistrationResourceUnavailable
+            | Reject::RegistrationFullRegistrationRequired => ReplyKind::Rrj,
+            Reject::UnregistrationNotCurrentlyRegistered | Reject::UnregistrationCallInProgress =>
+                ReplyKind::Urj,
+            Reject::AdmissionCalledPartyNotRegistered
+            | Reject::AdmissionRequestDenied
+            | Reject::AdmissionInvalidEndpointIdentifier
+            | Reject::AdmissionResourceUnavailable => ReplyKind::Arj,
+            Reject::BandwidthNotBound
+            | Reject::BandwidthInvalidConferenceId
+            | Reject::BandwidthInsufficientResources => ReplyKind::Brj,
+            Reject::DisengageNotRegistered | Reject::DisengageRequestToDropOther => {
+                ReplyKind::Drj
+            }
         }
     }
 
     /// The reason's name in H.225.0.
-    pub fn label(self) -> &'static str {
+    pub fn label(self) -> &'static str
+        ensures { result.now ≡ reject_label self }
+    {
         match self {
             Reject::DiscoveryTerminalExcluded => "terminalExcluded",
             Reject::RegistrationDiscoveryRequired => "discoveryRequired",

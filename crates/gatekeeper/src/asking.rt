@@ -1,0 +1,67 @@
+//! Asking a gatekeeper, and telling what datagrams are.
+
+ghost use Rattle.std.specs.Prelude.{◌≡◌};
+ghost use Rattle.commands.specs.Inputs.{input_status};
+ghost use Rattle.probing.specs.Statuses.{probe_status};
+
+use crate::out_of_memory;
+use commands::{InputFault, explain};
+use probing::{Probe, ProbeFault, ask_gatekeeper};
+use script::Output;
+use std::alloc::Global;
+use std::io::{self, BufWriter};
+use std::net::Net;
+use std::rt::Clock;
+
+/// The exit status if a stream failed.
+const STREAM_FAILED: u8 = 4;
+
+/// Tells what the datagrams on standard input are.
+pub fn explain_input<R: Input + Print + Eprint>(rt: &R, alloc: Global) -> u8 {
+    let Ok(buffer) = BufWriter::new(alloc, io::writer(rt)) else {
+        return out_of_memory(rt);
+    };
+    let mut out = Output::new(buffer);
+    match explain(alloc, rt.reader(), &mut out) {
+        Ok(()) => 0,
+        Err(fault) => refuse_input(rt, &fault),
+    }
+}
+
+fn refuse_input(rt: &impl Eprint, fault: &InputFault) -> u8
+    ensures { result ≡ input_status fault.now }
+{
+    let _ = eprintln!(rt; "{fault}");
+    fault.status()
+}
+
+/// Asks a gatekeeper whether it is there. That it is is told on standard output, else why not on
+/// standard error.
+pub fn probe_gatekeeper<R: Net + Clock + Print + Eprint>(
+    rt: &R,
+    alloc: Global,
+    probe: Probe,
+) -> u8 {
+    let mut words = String::new(alloc);
+    match ask_gatekeeper(rt, alloc, probe, &mut words) {
+        Ok(true) => match print!(rt; "{words}") {
+            Ok(()) => 0,
+            Err(_) => {
+                let _ = rt.eprintln("stream failed");
+                STREAM_FAILED
+            }
+        },
+        Ok(false) => {
+            let _ = eprint!(rt; "{words}");
+            1
+        }
+        Err(fault) => refuse_probe(rt, &fault),
+    }
+}
+
+fn refuse_probe(rt: &impl Eprint, fault: &ProbeFault) -> u8
+    ensures { result ≡ probe_status fault.now }
+{
+    let _ = eprintln!(rt; "{fault}");
+    fault.status()
+}

@@ -1,0 +1,151 @@
+//! Asking over a socket.
+
+ghost use Rattle.std.specs.Prelude.{◌≡◌};
+ghost use Rattle.probing.specs.Statuses.{probe_status};
+
+use crate::request::discovery_request;
+use crate::told::push_told;
+use ras_module::Address;
+use std::alloc::{AllocError, Global};
+use std::io::{self, ErrorKind};
+use std::net::{IpAddr, Ipv4Addr, Net, SocketAddr, UdpSocket};
+use std::rt::Clock;
+use std::time::{Duration, Instant};
+use thiserror::Error;
+
+/// The octets that an answer has at most: a longer one is cut off, and isn't read.
+const MOST: usize = 4_096;
+
+/// Which gatekeeper is asked, from which address, if not from any, and for how many milliseconds it
+/// is waited for.
+#[derive(Clone, Copy)]
+pub struct Probe {
+    pub target: Address,
+    pub from: Option<Address>,
+    pub timeout: u64,
+}
+
+/// Why there is no answer.
+#[derive(Clone, Copy, Debug, PartialEq, Eq, Error)]
+pub enum ProbeFault {
+    /// None came in time.
+    #[error("no answer")]
+    NoAnswer,
+    /// The other machine says that nothing receives at this port.
+    #[error("no answer: nothing receives at this address")]
+    Refused,
+    /// The request can't be sent.
+    #[error("no answer: the request can't be sent")]
+    NotSent,
+    /// The address to ask from isn't bound.
+    #[error("bind failed")]
+    Bind,
+    /// Memory is refused.
+    #[error("out of memory")]
+    Memory,
+}
+
+impl ProbeFault {
+    /// The exit status: 1 if there is no answer, 3 if there is no memory, and 4 if the address
+    /// isn't bound.
+    pub fn status(&self) -> u8
+        ensures { result ≡ probe_status self.now }
+    {
+        match self {
+            ProbeFault::NoAnswer | ProbeFault::Refused | ProbeFault::NotSent => 1,
+            ProbeFault::Memory => 3,
+            ProbeFault::Bind => 4,
+        }
+    }
+
+    /// Why nothing was received.
+    fn of(kind: ErrorKind) -> ProbeFault {
+        match kind {
+            ErrorKind::ConnectionRefused => ProbeFault::Refused,
+            _ => ProbeFault::NoAnswer,
+        }
+    }
+}
+
+impl From<AllocError> for ProbeFault {
+    ghost use Rattle.std.specs.Prelude.{◌≡◌};
+    ghost use Rattle.probing.specs.declared.ask.ProbeFault.TheVariants.{Memory};
+
+    ghost from_gives = { λ _ fault. fault ≡ Memory };
+
+    fn from(_: AllocError) -> ProbeFault {
+        ProbeFault::Memory
+    }
+}
+
+fn system_address(address: Address) -> SocketAddr {
+    let [a, b, c, d] = address.ip;
+    SocketAddr::new(IpAddr::V4(Ipv4Addr::new(a, b, c, d)), address.port)
+}
+
+/// A socket over which is asked.
+fn bound<R: Net>(rt: &R, from: Option<Address>) -> io::Result<UdpSocket> {
+    let any = Address {
+        ip: [0; 4],
+        port: 0,
+    };
+    UdpSocket::bind(rt, system_address(from.unwrap_or(any)))
+}
+
+/// Lets only the gatekeeper be heard, and for so long.
+fn connect(socket: &UdpSocket, probe: Probe) -> io::Result<()> {
+    socket.connect(system_address(probe.target))?;
+    socket.set_read_timeout(Some(Duration::from_millis(probe.timeout)))
+}
+
+/// The address to which the gatekeeper is to answer.
+fn own_address(socket: &UdpSocket) -> Option<Address> {
+    match socket.local_addr().ok()? {
+        SocketAddr::V4(address) => Some(Address {
+            ip: address.ip().octets(),
+            port: address.port(),
+        }),
+        SocketAddr::V6(_) => None,
+    }
+}
+
+/// The whole microseconds since this moment; 0 if the clock can't be read.
+fn microseconds_since<R: Clock>(rt: &R, start: Option<Instant>) -> u64 {
+    match (start, Instant::now(rt).ok()) {
+        (Some(start), Some(now)) => {
+            u64::try_from(now.duration_since(start).as_micros()).unwrap_or(u64::MAX)
+        }
+        _ => 0,
+    }
+}
+
+/// Asks a gatekeeper whether it is there, and writes a line that tells its answer. Says whether it
+/// confirms that it is.
+pub fn ask_gatekeeper<R: Net + Clock>(
+    rt: &R,
+    alloc: Global,
+    probe: Probe,
+    out: &mut String,
+) -> Result<bool, ProbeFault> {
+    let Ok(socket) = bound(rt, probe.from) else {
+        return Err(ProbeFault::Bind);
+    };
+    if connect(&socket, probe).is_err() {
+        return Err(ProbeFault::NotSent);
+    }
+    let Some(own) = own_address(&socket) else {
+        return Err(ProbeFault::NotSent);
+    };
+    let start = Instant::now(rt).ok();
+    if socket.send(&discovery_request(own)).is_err() {
+        return Err(ProbeFault::NotSent);
+    }
+    let mut buffer = [0u8; MOST];
+    match socket.recv(&mut buffer) {
+        Ok(count) => {
+            let microseconds = microseconds_since(rt, start);
+            Ok(push_told(alloc, out, &buffer[..count], microseconds)?)
+        }
+        Err(error) => Err(ProbeFault::of(error.kind())),
+    }
+}

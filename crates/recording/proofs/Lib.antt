@@ -1,0 +1,7 @@
+mod FourNumbers
+mod LineWords
+mod LinesWritten
+mod MoreSteps
+mod NameTexts
+mod ReadLines
+mod WholeZones

@@ -1,0 +1,4 @@
+pub mod Zones
+pub mod Standings
+pub mod Records
+pub mod Again

@@ -1,0 +1,28 @@
+//! What holds of every record.
+
+ghost use Rattle.std.specs.Prelude.{ℕ, ◌+◌, ◌++◌, ◌∷◌, [], List, Option};
+ghost use Rattle.recording.specs.Records.{IsRecordOf, IsWritten, RecordedStep, step_lines};
+ghost use Rattle.recording.specs.Standings.{Standing};
+ghost use Rattle.recording.specs.Zones.{ZoneParts};
+ghost use Rattle.recording.specs.Again.{IsReadAgain, IsZone};
+
+/// The lines of a zone, read as a script, are this zone again: the same settings, networks and
+/// pools.
+///
+/// promise zone-lines-are-read-again: A zone's lines, read as a script, are that zone
+/// (`IsReadAgain`).
+pub fn zone_lines_are_read_again()
+    ensures { (zone : ZoneParts) → IsZone zone → IsReadAgain zone }
+{}
+
+/// The record of a zone and of some steps, behind which one more was written, is the record of this
+/// zone and of all these steps.
+///
+/// promise record-has-its-steps: A record is its zone's lines and then its steps', in order, each
+/// once (`IsRecordOf`).
+pub fn written_steps_are_the_record()
+    ensures { (before : Option (List ℕ)) (zone : ZoneParts) (steps : List RecordedStep) (step : RecordedStep)
+        (old new : Standing) → IsRecordOf before zone steps old
+        → IsWritten old (step_lines (old.steps + 1) step) new
+        → IsRecordOf before zone (steps ++ step ∷ []) new }
+{}

@@ -1,0 +1,16 @@
+//! Records of what a gatekeeper does, as text: step after step, within a bound.
+//!
+//! proved: a record is its zone's lines and then its steps', in order, each once, within its bound
+//! (`RecordWriter::write`); the zone's lines are read again as it
+//! tested: audits, failing streams
+#![tactic(auto)]
+
+mod laws;
+mod recorded_zone;
+mod writer;
+mod zone_lines;
+
+pub use laws::{written_steps_are_the_record, zone_lines_are_read_again};
+pub use recorded_zone::{RecordedZone, ZoneFault};
+pub use writer::{RecordWriter, Recorded};
+pub use zone_lines::write_zone_lines;

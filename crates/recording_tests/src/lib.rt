@@ -1,0 +1,11 @@
+//! Tests of records that are written: each is audited.
+#![tactic(auto)]
+
+#[cfg(test)]
+mod failing;
+#[cfg(test)]
+mod fixtures;
+#[cfg(test)]
+mod whole;
+#[cfg(test)]
+mod zones;

@@ -1,0 +1,17 @@
+use Rattle.std.specs.String.{string_bytes}
+use Rattle.status_page.specs.Home.{title_html, title_parts}
+use Rattle.status_page.proofs.Written.{glued}
+use Rattle.status_page.proofs.home_page.push_title.Goals as goal
+
+pub returns : goal.returns
+unfolding title_html
+returns c = rw (
+  c.in_ok-push_str-5.ensures.bytes,
+  c.in_ok-push_str-4.ensures.bytes,
+  c.in_ok-push_str-3.ensures.bytes,
+  c.in_ok-push_html.ensures,
+  c.as_slice.ensures.items,
+  c.in_ok-push_str-2.ensures.bytes,
+  c.in_ok-push_str.ensures.bytes,
+)
+    (glued (string_bytes c.args.out.now) (title_parts c.args.about.now))

@@ -1,0 +1,15 @@
+use denote.Shadow.{shadow}
+use denote.Text.{Utf8}
+use Rattle.std.proofs.Common.{◌≡◌, ◌++◌, [], drop, codes}
+use Rattle.std.specs.String.{string_bytes}
+use Rattle.status_page.specs.HomeRows.{alias_html}
+use Rattle.status_page.specs.Texts.{listed}
+use Rattle.status_page.proofs.home_rows.push_each_alias.Given as goal
+
+-- what was written, with what is left to be written, is the whole text
+abbrev pub invariant-loop-alias : goal.invariant-loop-alias
+invariant-loop-alias l = record {
+  text : string_bytes l.out ++ listed l.before (codes ", ") alias_html (drop l.alias-index l.aliases)
+      ≡ string_bytes l.initial.out ++ listed [] (codes ", ") alias_html l.aliases;
+  is_text : shadow (Utf8 l.before);
+}
