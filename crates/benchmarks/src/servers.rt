@@ -36,6 +36,7 @@ const PLAN: Plan = Plan {
     chapter: 4_096,
     latest: 0,
     receipts: false,
+    hands_out: false,
 };
 
 /// What the system tells of this program.

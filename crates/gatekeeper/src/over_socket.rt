@@ -72,8 +72,8 @@ fn ends_of<'a, S: Stop>(
     Ok(ends)
 }
 
-/// Serves a zone over a socket until its ends have stopped, or are told to. One who looks at it
-/// meanwhile is waited for at the end.
+/// Serves a zone over a socket until its ends have stopped, or are told to. Those who look at it
+/// meanwhile are waited for at the end.
 pub fn serve_socket<
     P: Pool + Send,
     R: Threads + Wait + Clock + Sync,
@@ -86,7 +86,7 @@ pub fn serve_socket<
     socket: &BoundSocket,
     service: Service,
     stop: &S,
-    watcher: Option<W>,
+    watchers: Vec<W>,
 ) -> Result<Report<P>, RunningFault>
     requires receivers { service.receivers ≤ 15 }
     requires plan { IsPlan service.plan }
@@ -109,7 +109,7 @@ pub fn serve_socket<
         clocks,
         orders,
         service.plan,
-        watcher,
+        watchers,
     )?;
     Ok(report)
 }

@@ -13,7 +13,7 @@ use std::net::{Net, TcpListener, TcpStream};
 use std::random::RandomSource;
 use std::rt::Clock;
 use std::sync::Wait;
-use udp_server::Watcher;
+use udp_server::{RunningHistory, Watcher};
 use zone_view::RunningZone;
 
 /// Serves the status page of a zone for as long as the zone is served.
@@ -64,7 +64,7 @@ pub fn watcher_of<'a, R>(
 }
 
 impl<R: Wait + Clock + Net + RandomSource + AllocGlobal + Log> Watcher for PageServer<'_, R> {
-    fn watch<Z: RunningZone>(self, zone: &Z) {
+    fn watch<Z: RunningZone + RunningHistory>(self, zone: &Z) {
         let PageServer {
             rt,
             listener,

@@ -77,8 +77,13 @@ fn serve_with_page<
     let listener = bind_page(rt, page)?;
     ask_for_buffer(rt, socket, service.buffer);
     tell_zone(rt, &about.name, about.address, service.receivers);
-    let watcher = watcher_of(rt, listener.as_ref(), about);
-    serve_socket(rt, alloc, zone, socket, service, stop, watcher)
+    let mut watchers = Vec::new(alloc);
+    if let Some(watcher) = watcher_of(rt, listener.as_ref(), about) {
+        if watchers.push(watcher).is_err() {
+            return Err(RunningFault::Memory);
+        }
+    }
+    serve_socket(rt, alloc, zone, socket, service, stop, watchers)
 }
 
 /// Serves the zone that is set with the pools that were made for it, once it is seen that they are

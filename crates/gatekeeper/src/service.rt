@@ -60,6 +60,7 @@ impl Service {
                 chapter: CHAPTER,
                 latest: 0,
                 receipts: false,
+                hands_out: false,
             },
         }
     }

@@ -27,6 +27,7 @@ const PLAN: Plan = Plan {
     chapter: 0,
     latest: usize::MAX,
     receipts: true,
+    hands_out: false,
 };
 
 /// Whether each datagram made a step but for one that was refused, and so did the turn at the end.

@@ -206,6 +206,7 @@ fn serve_unrecorded<R: Threads + Wait + Clock + Sync>(rt: &R, alloc: Global) -> 
         chapter: 4_096,
         latest: 0,
         receipts: false,
+        hands_out: false,
         ..PLAN
     };
     let report = report(rt, alloc, &room, plan).ok_or(NOT_SERVED)?;

@@ -28,6 +28,7 @@ pub const PLAN: Plan = Plan {
     chapter: 0,
     latest: usize::MAX,
     receipts: true,
+    hands_out: false,
 };
 
 /// A discovery whose number is told by the end that gives it and by how many are to come.

@@ -131,6 +131,7 @@ const UNRECORDED: Plan = Plan {
     chapter: 4_096,
     latest: 0,
     receipts: false,
+    hands_out: false,
     ..ROOMY
 };
 

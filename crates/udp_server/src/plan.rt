@@ -17,6 +17,10 @@ pub struct Plan {
     pub latest: usize,
     /// Whether the report has a receipt of each step.
     pub receipts: bool,
+    /// Whether steps are recorded for one who takes their entries while the server runs, though the
+    /// report has none of them. At most 65,536 entries wait to be taken; then no further step is
+    /// recorded.
+    pub hands_out: bool,
 }
 
 impl Plan {

@@ -80,7 +80,7 @@ pub fn serve<
         clocks,
         orders,
         plan,
-        None::<NoWatcher>,
+        Vec::<NoWatcher>::new(alloc),
     )
 }
 
@@ -88,8 +88,8 @@ pub fn serve<
 /// one for each receiving end, in order, and the last one for the turns of the timers; and a clock
 /// for each seat. The worker of the timers carries out the orders, each once its clock has reached
 /// the order's moment, in their order: a fresh pool takes the place of one of the zone's, or comes
-/// back. What is refused is let go. One who looks at the server does so in one more thread, and is
-/// waited for at the end.
+/// back. What is refused is let go. Each of those who look at the server does so in one more thread,
+/// and is waited for at the end.
 pub fn serve_watched<
     P: Pool + Send,
     D: Hall + Send + Sync,
@@ -112,7 +112,7 @@ pub fn serve_watched<
     clocks: Vec<C>,
     orders: Vec<PoolOrder<P>>,
     plan: Plan,
-    watcher: Option<W>,
+    watchers: Vec<W>,
 ) -> Result<Report<P>, ServeFault>
     requires seats { (vec_len seats ≡ D.all) × (vec_len seats ≤ 16) }
     requires plan { IsPlan plan }
@@ -131,11 +131,7 @@ pub fn serve_watched<
     let Ok(crew) = crew_of(alloc, seats, receivers, clocks, outlets, orders) else {
         return Err(ServeFault::Memory);
     };
-    if !plan.is_recorded() {
-        // Without the state in which the history begins no chapter can be cut, and so steps are
-        // made without a record.
-        drop(lock.discard(rt, Vec::new(alloc)));
-    }
+    begin_history(rt, alloc, &lock, plan);
     let Ok(tallies) = Tallies::new(alloc, count) else {
         return Err(ServeFault::Memory);
     };
@@ -149,9 +145,28 @@ pub fn serve_watched<
         tallies: &tallies,
         plan,
     };
-    match run(&shared, crew, inlets, sender, watcher) {
+    match run(&shared, crew, inlets, sender, watchers) {
         Ok(record) => report_of(alloc, lock, record),
         Err(AllocError) => Err(ServeFault::Memory),
+    }
+}
+
+/// Lets the state in which the history begins go, if the report has no part of the history. Without
+/// it no chapter can be cut, and so steps are made without a record, unless entries are handed out.
+fn begin_history<P: Pool, D: Hall, T: Ledger, U: Ledger, V: Ledger, R: Wait>(
+    rt: &R,
+    alloc: Global,
+    lock: &ZoneLock<P, D, T, U, V>,
+    plan: Plan,
+) {
+    if plan.is_recorded() {
+        return;
+    }
+    let room = Vec::new(alloc);
+    if plan.hands_out {
+        drop(lock.hand_out(rt, room));
+    } else {
+        drop(lock.discard(rt, room));
     }
 }
 
@@ -343,13 +358,13 @@ pub fn serve_zone<
         clocks,
         orders,
         plan,
-        None::<NoWatcher>,
+        Vec::<NoWatcher>::new(alloc),
     )
 }
 
 /// Puts a zone behind a lock and serves it: a seat for each receiving end, of which there are at
-/// most 15, and one for the turns of the timers. One who looks at the server does so in one more
-/// thread, and is waited for at the end.
+/// most 15, and one for the turns of the timers. Each of those who look at the server does so in one
+/// more thread, and is waited for at the end.
 pub fn serve_zone_watched<
     P: Pool + Send,
     R: Threads + Wait + Clock + Sync,
@@ -367,7 +382,7 @@ pub fn serve_zone_watched<
     clocks: Vec<C>,
     orders: Vec<PoolOrder<P>>,
     plan: Plan,
-    watcher: Option<W>,
+    watchers: Vec<W>,
 ) -> Result<Report<P>, ServeFault>
     requires plan { IsPlan plan }
     ensures served { IfOk result (λ r. IsServed zone.state r.finished r.datagrams r.turns
@@ -381,7 +396,7 @@ pub fn serve_zone_watched<
     let seats = receivers.len() + 1;
     let blanks = Blanks::new(seats);
     open_and_serve::<P, Brand, Brand, Brand, Brand, R, N, G, C, W>(
-        rt, alloc, zone, seats, blanks, receivers, sender, gate, clocks, orders, plan, watcher,
+        rt, alloc, zone, seats, blanks, receivers, sender, gate, clocks, orders, plan, watchers,
     )
 }
 
@@ -409,7 +424,7 @@ fn open_and_serve<
     clocks: Vec<C>,
     orders: Vec<PoolOrder<P>>,
     plan: Plan,
-    watcher: Option<W>,
+    watchers: Vec<W>,
 ) -> Result<Report<P>, ServeFault>
     requires datagrams { (blanks.datagrams.name ≡ D.name)
         × (blanks.datagrams.parts ≡ D.parts) × (D.parts ≡ seats) }
@@ -429,7 +444,7 @@ fn open_and_serve<
 {
     match ZoneLock::<P, D, T, U, V>::open(alloc, zone, seats, blanks) {
         Ok((lock, seats)) => serve_watched(
-            rt, alloc, lock, seats, receivers, sender, gate, clocks, orders, plan, watcher,
+            rt, alloc, lock, seats, receivers, sender, gate, clocks, orders, plan, watchers,
         ),
         Err((_, OpenFault::BadSeats)) => Err(ServeFault::WrongCounts),
         Err((_, OpenFault::Memory)) => Err(ServeFault::Memory),

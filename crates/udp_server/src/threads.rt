@@ -50,8 +50,7 @@ pub(crate) struct CrewRecord<P: Pool, D: Hall, T: Ledger, U: Ledger, V: Ledger> 
     pub(crate) sent: SendCounts,
 }
 
-/// Runs the threads, the sender in this one, and joins them; the one who looks at the server last,
-/// if there is one.
+/// Runs the threads, the sender in this one, and joins them; those who look at the server last.
 pub(crate) fn run<
     P: Pool + Send,
     D: Hall + Send + Sync,
@@ -68,7 +67,7 @@ pub(crate) fn run<
     crew: Crew<P, D, T, U, V, N, C>,
     inlets: Vec<Inlet>,
     sender: N,
-    watcher: Option<W>,
+    watchers: Vec<W>,
 ) -> Result<CrewRecord<P, D, T, U, V>, AllocError> {
     let record = thread::scope(
         thread::scope_env(),
@@ -76,7 +75,7 @@ pub(crate) fn run<
         |scope| -> Option<CrewRecord<P, D, T, U, V>>
             requires { IsSend P.row × IsSend D.row × IsSend T.row × IsSend U.row × IsSend N.row
                 × IsSend C.row × IsSend W.row }
-        { run_in(scope, shared, crew, inlets, sender, watcher) },
+        { run_in(scope, shared, crew, inlets, sender, watchers) },
     );
     record.ok_or(AllocError)
 }
@@ -102,7 +101,7 @@ fn run_in<
     crew: Crew<P, D, T, U, V, N, C>,
     inlets: Vec<Inlet>,
     sender: N,
-    watcher: Option<W>,
+    watchers: Vec<W>,
 ) -> Option<CrewRecord<P, D, T, U, V>> {
     let Crew {
         receivers,
@@ -126,7 +125,7 @@ fn run_in<
         return None;
     };
     let all = others.saturating_add(1);
-    let Ok(watching) = start_watcher(scope, shared, all, watcher) else {
+    let Some(watching) = start_watchers(scope, shared, all, watchers) else {
         shared.board.cancel(shared.rt);
         return None;
     };
@@ -135,7 +134,7 @@ fn run_in<
     let mut records = join_all(shared.rt, handles, records);
     let ExpiryRecord { worker, boxes } = last.join(shared.rt);
     records.push_reserved(worker);
-    if let Some(handle) = watching {
+    for handle in watching {
         handle.join(shared.rt);
     }
     Some(CrewRecord {
@@ -247,8 +246,35 @@ fn start_expiry<
         .ok()
 }
 
-/// Starts the thread of one who looks at the server until this many workers have ended, if there is
-/// one. An error if no thread can be made.
+/// Starts a thread for each of those who look at the server until this many workers have ended. None
+/// if one of them can't be made.
+fn start_watchers<
+    's,
+    E,
+    P: Pool + Send + 's,
+    D: Hall + Send + Sync + 's,
+    T: Ledger + Send + Sync + 's,
+    U: Ledger + Send + Sync + 's,
+    V: Ledger + Send + Sync + 's,
+    R: Threads + Wait + Clock + Sync + 's,
+    G: Gate + Sync + 's,
+    W: Watcher + Send + 's,
+>(
+    scope: &'s Scope<'s, E>,
+    shared: &'s Shared<'s, P, D, T, U, V, R, G>,
+    workers: usize,
+    watchers: Vec<W>,
+) -> Option<Vec<JoinHandle<()>>> {
+    let Ok(mut handles) = Vec::with_capacity(shared.alloc, watchers.len()) else {
+        return None;
+    };
+    for watcher in watchers {
+        handles.push_reserved(start_watcher(scope, shared, workers, watcher)?);
+    }
+    Some(handles)
+}
+
+/// Starts the thread of one who looks at the server. None if no thread can be made.
 fn start_watcher<
     's,
     E,
@@ -264,15 +290,9 @@ fn start_watcher<
     scope: &'s Scope<'s, E>,
     shared: &'s Shared<'s, P, D, T, U, V, R, G>,
     workers: usize,
-    watcher: Option<W>,
-) -> Result<Option<JoinHandle<()>>, AllocError> {
-    let Some(watcher) = watcher else {
-        return Ok(None);
-    };
-    match scope.spawn(move || look(shared, workers, watcher)) {
-        Ok(handle) => Ok(Some(handle)),
-        Err(_) => Err(AllocError),
-    }
+    watcher: W,
+) -> Option<JoinHandle<()>> {
+    scope.spawn(move || look(shared, workers, watcher)).ok()
 }
 
 /// Looks at the server until this many workers have ended.

@@ -3,11 +3,13 @@
 ghost use Rattle.std.specs.Prelude.{◌≡◌, All};
 
 use crate::board::Board;
+use crate::history::RunningHistory;
 use crate::tally::Tallies;
+use books::Entry;
 use pools::{Figures, Pool};
 use std::sync::Wait;
 use std::sync::ledger::Ledger;
-use zone_lock::{Hall, ZoneLock};
+use zone_lock::{HandedOut, Hall, ZoneLock};
 use zone_view::{CallRow, Counts, EndpointRow, RunningZone, ServerFigures, ZoneFigures};
 
 /// A server that runs: the lock of its zone, what its threads count, and whether they have ended.
@@ -18,6 +20,18 @@ pub(crate) struct View<'a, P: Pool, D: Hall, T: Ledger, U: Ledger, V: Ledger, R>
     pub(crate) tallies: &'a Tallies,
     pub(crate) board: &'a Board,
     pub(crate) workers: usize,
+}
+
+impl<P: Pool, D: Hall, T: Ledger, U: Ledger, V: Ledger, R: Wait> RunningHistory
+    for View<'_, P, D, T, U, V, R> {
+    ghost use Rattle.zone_lock.specs.Held.{IsHandedOutUnderLock};
+
+    ghost gives = { λ view first entries is_recorded.
+        IsHandedOutUnderLock D.opened first entries is_recorded };
+
+    fn hand_out(&self, room: Vec<Entry>) -> HandedOut {
+        self.lock.hand_out(self.rt, room)
+    }
 }
 
 impl<P: Pool, D: Hall, T: Ledger, U: Ledger, V: Ledger, R: Wait> RunningZone

@@ -1,6 +1,6 @@
 -- What stands behind a lock.
 use Rattle.std.specs.Prelude.{◌≡◌, ◌≢◌, ◌≤◌, ◌+◌, ◌*◌, ◌^◌, ◌++◌, ◌∷◌, ℕ, List, [], length, Option}
-use Rattle.std.specs.Prelude.{None, Some}
+use Rattle.std.specs.Prelude.{None, Some, Bool, true, false, ◌&&◌, ◌||◌, is_some, nat_lt}
 use Rattle.std.specs.Option.{ForSome}
 use Rattle.admission.specs.Calls.{in_use}
 use Rattle.pools.specs.Account.{Account}
@@ -27,12 +27,13 @@ abbrev pub idle_state : State
 idle_state = opening (default_parts [] (record { ip = []; port = 0 }) []) []
 
 -- The place of the book's first entry in the whole history, the totals of the entries before it,
--- the state in which the book begins, unless no copy of it is kept, its entries, and the zone as it
--- runs.
+-- the state in which the book begins, unless no copy of it is kept, whether steps are recorded, its
+-- entries, and the zone as it runs.
 pub record Held : Type 0 where
   pub first : ℕ
   pub carried : Totals
   pub base : Option State
+  pub is_recorded : Bool
   pub entries : List Entry
   pub zone : Running
 
@@ -52,8 +53,8 @@ pub record AreCarriedOn (before : Totals) (entries : List Entry) (after : Totals
 -- What holds whenever the lock is free. The steps before the book, kept or not, are a run from the
 -- state in which the zone was locked to the one in which the book began: as many as the place of
 -- its first entry says, with the totals that were carried. The book leads on from there to the
--- state of the zone; if a copy of the state in which it began is kept, it is that state. If there
--- was no step before the book, it began in the state in which the zone was locked; otherwise what
+-- state of the zone; if a copy of the state in which it began is kept, it is that state, and steps
+-- are recorded. If there was no step before the book, it began in the state in which the zone was locked; otherwise what
 -- was in use where it began follows from the totals before it, and the settings are the same.
 pub record IsKept (opened : State) (h : Held) : Type 0 where
   pub past : List Entry
@@ -62,6 +63,7 @@ pub record IsKept (opened : State) (h : Held) : Type 0 where
   pub places : length past ≡ h.first
   pub totals : AreCarriedOn no_totals past h.carried
   pub base : ForSome h.base (λ base. base ≡ began)
+  pub copied : ForSome h.base (λ base. h.is_recorded ≡ true)
   pub run : BookRun began h.entries h.zone.state
   pub first : h.carried.datagrams + h.carried.turns + h.carried.changes ≡ h.first
   pub opened_before : Sound opened
@@ -105,6 +107,14 @@ receipt_at place entry = record {
   outcome = entry.outcome;
 }
 
+-- as many entries wait at most to be taken, if no copy is kept of the state in which they begin
+abbrev pub most_waiting : ℕ
+most_waiting = 65536
+
+-- whether a step is recorded: steps are, and not too many entries wait to be taken
+abbrev pub goes_on : Held → Bool
+goes_on h = h.is_recorded && (is_some h.base || nat_lt (length h.entries) most_waiting)
+
 -- The entry of a step stands behind the others of the book.
 pub record IsRecorded (old : Held) (entry : Entry) (new : Held) : Type 0 where
   pub entries : new.entries ≡ old.entries ++ entry ∷ []
@@ -119,15 +129,16 @@ pub record IsUnrecorded (old : Held) (entry : Entry) (new : Held) : Type 0 where
   pub carried : AreCarriedOn old.carried (old.entries ++ entry ∷ []) new.carried
 
 -- A step was made whose entry this is. The whole history, kept or not, is what it was before, with
--- this entry behind it. The step is recorded if a copy is kept of the state in which the book
--- begins, and unrecorded if none is.
+-- this entry behind it. The step is recorded or not, as `goes_on` says. If it isn't, no further one
+-- is.
 pub record IsEntered (opened : State) (old : Held) (entry : Entry) (new : Held) : Type 0 where
   pub before : IsKept opened old
   pub after : IsKept opened new
   pub history : after.past ++ new.entries ≡ before.past ++ old.entries ++ entry ∷ []
   pub base : new.base ≡ old.base
-  pub recorded : old.base ≢ None → IsRecorded old entry new
-  pub unrecorded : old.base ≡ None → IsUnrecorded old entry new
+  pub recording : new.is_recorded ≡ goes_on old
+  pub recorded : new.is_recorded ≡ true → IsRecorded old entry new
+  pub unrecorded : new.is_recorded ≡ false → IsUnrecorded old entry new
 
 -- The records that follow say what was done by whoever waited for a lock, whose zone had the state
 -- `opened` when it was put behind it. What stands behind the lock at that moment isn't known
@@ -199,6 +210,16 @@ pub record IsBookUnderLock (opened : State) (base : Option State) (entries : Lis
   pub kept : IsKept opened held
   pub base_is : base ≡ held.base
   pub entries_are : entries ≡ held.entries
+
+-- entries that left the lock: the book that was there, with the place of its first entry, and whether
+-- further steps are recorded
+pub record IsHandedOutUnderLock (opened : State) (first : ℕ) (entries : List Entry)
+    (is_recorded : Bool) : Type 0 where
+  pub held : Held
+  pub kept : IsKept opened held
+  pub first_is : first ≡ held.first
+  pub entries_are : entries ≡ held.entries
+  pub recorded : is_recorded ≡ held.is_recorded
 
 -- What is left of what stood behind a lock. If a copy is kept of the state in which its entries
 -- begin, it is all of them, from that state on. Otherwise the entries have been let go: nothing is

@@ -1,7 +1,7 @@
 //! How a history is kept short: its entries so far are taken out, as a chapter or to be let go.
 
 ghost use Rattle.std.specs.Prelude.{◌≡◌, ◌≢◌, ◌+◌, ◌↔◌, [], length};
-ghost use Rattle.std.specs.Prelude.{IfOk, OnOk, OnErr, Err, None, Some};
+ghost use Rattle.std.specs.Prelude.{IfOk, OnOk, OnErr, Err, None, Some, false, true};
 ghost use Rattle.books.specs.Totals.{returned_by, totals_with};
 ghost use Rattle.zone_lock.specs.Held.{AreCarriedOn, IsKept, IsLedInUse};
 ghost use Rattle.zone_lock.specs.Faults.{cut_fault_number};
@@ -67,6 +67,7 @@ pub fn cut_locked<P: Pool, D: Hall, T: Ledger, U: Ledger, V: Ledger>(
         ≡ totals_with locked.old.carried locked.old.entries
         (returned_by chapter.base locked.old.entries locked.old.zone.state)) }
     ensures base { OnOk result (locked.new.base ≡ Some locked.old.zone.state) }
+    ensures recorded { OnOk result (locked.new.is_recorded ≡ true) }
     ensures entries { OnOk result (locked.new.entries ≡ []) }
     ensures zone { locked.new.zone ≡ locked.old.zone }
     ensures no_base { (result ≡ Err CutFault.NoBase) ↔ (locked.old.base ≡ None) }
@@ -83,6 +84,7 @@ pub fn cut_locked<P: Pool, D: Hall, T: Ledger, U: Ledger, V: Ledger>(
     let first = locked.first;
     let Discarded { base: _, entries } = discard_locked(locked, Vec::new(alloc));
     locked.base = Some(next);
+    locked.is_recorded = true;
     Ok(Chapter::new(first, base, entries, end))
 }
 
@@ -114,7 +116,8 @@ fn ends_of<P: Pool>(
 
 /// Takes the entries so far out, with the copy of the state in which they began, if there is one.
 /// The state to which they lead isn't copied: what comes next begins there, and no copy says so.
-/// The entries that come next stand in `room`, which has none yet. This takes no memory.
+/// Steps that come next aren't recorded; entries of pools that are replaced stand in `room`, which
+/// has none yet. This takes no memory.
 ///
 /// promise discarded-entries-are-carried: What goes on begins behind the discarded book, with the
 /// totals carried, and without memory (`AreCarriedOn`, `IsLedInUse`).
@@ -129,6 +132,7 @@ pub fn discard_locked<P: Pool, D: Hall, T: Ledger, U: Ledger, V: Ledger>(
     ensures in_use { IsLedInUse D.opened locked.old.zone.state
         locked.new.carried.lent locked.new.carried.returned }
     ensures base { locked.new.base ≡ None }
+    ensures recorded { locked.new.is_recorded ≡ false }
     ensures entries { locked.new.entries ≡ [] }
     ensures zone { locked.new.zone ≡ locked.old.zone }
     ensures before { IsKept D.opened locked.old }
@@ -140,6 +144,7 @@ pub fn discard_locked<P: Pool, D: Hall, T: Ledger, U: Ledger, V: Ledger>(
     locked.carried = locked.so_far;
     let entries = mem::replace(&mut locked.entries, room);
     let base = mem::replace(&mut locked.base, None);
+    locked.is_recorded = false;
     locked.first = first;
     Discarded { base, entries }
 }

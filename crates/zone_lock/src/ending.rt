@@ -50,6 +50,7 @@ pub fn finish_locked<P: Pool, D: Hall, T: Ledger, U: Ledger, V: Ledger>(
         so_far: _,
         opened_units: _,
         base,
+        is_recorded: _,
         entries,
         zone,
         ledgers: _,

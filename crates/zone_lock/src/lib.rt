@@ -10,6 +10,7 @@
 
 mod cutting;
 mod ending;
+mod handing;
 mod ledgers;
 mod listing;
 mod lock;
@@ -23,6 +24,7 @@ mod turns;
 
 pub use cutting::{CutFault, Discarded, cut_locked, discard_locked};
 pub use ending::finish_locked;
+pub use handing::{HandedOut, hand_out_locked};
 pub use listing::Listing;
 pub use lock::{Blanks, OpenFault, ZoneLock};
 pub use locked::{Locked, apply_locked, list_locked};

@@ -9,6 +9,7 @@ ghost use Rattle.books.specs.Books.{BookRun};
 ghost use Rattle.books.specs.Totals.{changes_of, datagrams_of, lent_of, returned_by, turns_of};
 ghost use Rattle.zone_lock.specs.Held.{IsBookUnderLock, IsChapterUnderLock, IsClosed};
 ghost use Rattle.zone_lock.specs.Held.{IsLedInUse, IsMadeUnderLock, IsOpen, IsStepUnderLock};
+ghost use Rattle.zone_lock.specs.Held.{IsHandedOutUnderLock};
 ghost use Rattle.zone_lock.specs.Held.{IsRefusedUnderLock, IsReplacedUnderLock, IsWholeHistory};
 ghost use Rattle.zone_lock.specs.Held.{IsWithoutBase, entry_by, receipt_at};
 ghost use Rattle.zone_lock.specs.Faults.{open_fault_number};
@@ -20,6 +21,7 @@ ghost use Rattle.zone_lock.specs.Views.{AreFiguresUnderLock, IsCallUnderLock, Is
 
 use crate::cutting::{CutFault, Discarded, cut_locked, discard_locked};
 use crate::ending::finish_locked;
+use crate::handing::{HandedOut, hand_out_locked};
 use crate::ledgers::Ledgers;
 use crate::listing::Listing;
 use crate::locked::{Locked, fault_without_order, list_locked, make_step};
@@ -150,6 +152,7 @@ impl<P: Pool, D: Hall, T: Ledger, U: Ledger, V: Ledger> ZoneLock<P, D, T, U, V> 
             so_far: Totals::none(),
             opened_units: zone.in_use(),
             base: Some(base),
+            is_recorded: true,
             entries: Vec::new(alloc),
             zone,
             ledgers,
@@ -194,9 +197,8 @@ impl<P: Pool, D: Hall, T: Ledger, U: Ledger, V: Ledger> ZoneLock<P, D, T, U, V> 
     }
 
     /// Waits for the lock and makes one step. Its outcome is made where the caller wants it.
-    /// Nothing else tells of the step, unless a chapter can be cut of the history: then it is
-    /// recorded, as `step_locked` does. After a refusal what stands in place of the outcome means
-    /// nothing.
+    /// Nothing else tells of the step, unless steps are recorded: then it is, as `step_locked` does.
+    /// After a refusal what stands in place of the outcome means nothing.
     ///
     /// promise waiting-unrecorded-step-is-one-step: The same by whoever waits for the lock
     /// (`IsMadeUnderLock`).
@@ -356,8 +358,8 @@ impl<P: Pool, D: Hall, T: Ledger, U: Ledger, V: Ledger> ZoneLock<P, D, T, U, V> 
     }
 
     /// Waits for the lock and takes the entries so far out of it. Letting them go is for the
-    /// caller, once the lock is free. Those that come next stand in `room`, which has none yet. No
-    /// chapter can be cut afterwards.
+    /// caller, once the lock is free. No chapter can be cut afterwards, and steps that come next
+    /// aren't recorded; entries of pools that are replaced stand in `room`, which has none yet.
     ///
     /// promise waiting-discard-is-a-book: It gives a book that stood behind this lock
     /// (`IsBookUnderLock`).
@@ -366,6 +368,18 @@ impl<P: Pool, D: Hall, T: Ledger, U: Ledger, V: Ledger> ZoneLock<P, D, T, U, V> 
         ensures { IsBookUnderLock D.opened result.base result.entries.items }
     {
         discard_locked(&mut *self.inner.lock(rt), room)
+    }
+
+    /// Waits for the lock and takes the entries so far out of it, as `hand_out_locked` does.
+    ///
+    /// promise waiting-hand-out-is-a-book: It gives the entries of a book that stood behind this
+    /// lock, with their place (`IsHandedOutUnderLock`).
+    pub fn hand_out<R: Wait>(&self, rt: &R, room: Vec<Entry>) -> HandedOut
+        requires { room.items ≡ [] }
+        ensures { IsHandedOutUnderLock D.opened result.first result.entries.items
+            result.is_recorded }
+    {
+        hand_out_locked(&mut *self.inner.lock(rt), room)
     }
 
     /// Takes the zone out, with its history since the last chapter. If entries were discarded, so

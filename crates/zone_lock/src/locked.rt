@@ -23,7 +23,8 @@ use std::sync::ledger::Ledger;
 /// A zone with the part of its history since the last chapter: the place of its first entry in the
 /// whole history, the totals of the entries before it, the totals so far (units that come back are
 /// counted when a chapter ends), the units that were in use when the zone was locked, the state in
-/// which it begins, if a copy of it is kept, its entries, the zone, and the ledgers.
+/// which it begins, if a copy of it is kept, whether steps are recorded, its entries, the zone, and
+/// the ledgers.
 ///
 /// promise lock-keeps-a-run: Whenever the lock is free, all steps since the zone was put there are
 /// a run to it; the book is its end, earlier totals are carried, and the ledgers have the history's
@@ -35,6 +36,7 @@ pub struct Locked<P: Pool, D: Hall, T: Ledger, U: Ledger, V: Ledger> {
     pub(crate) so_far: Totals,
     pub(crate) opened_units: u64,
     pub(crate) base: Option<SharedSnapshot>,
+    pub(crate) is_recorded: bool,
     pub(crate) entries: Vec<Entry>,
     pub(crate) zone: Zone<P>,
     pub(crate) ledgers: Ledgers<D, T, U, V>,
@@ -54,6 +56,7 @@ impl<P: Pool, D: Hall, T: Ledger, U: Ledger, V: Ledger> Model for Locked<P, D, T
       first = l.first;
       carried = l.carried;
       base = l.base;
+      is_recorded = l.is_recorded;
       entries = l.entries.items;
       zone = l.zone;
     } };
@@ -62,6 +65,7 @@ impl<P: Pool, D: Hall, T: Ledger, U: Ledger, V: Ledger> Model for Locked<P, D, T
       first = l.first;
       carried = l.carried;
       base = l.base;
+      is_recorded = l.is_recorded;
       entries = l.entries.items;
       zone = l.zone;
     }) l.so_far l.opened_units
@@ -92,6 +96,7 @@ pub fn apply_locked<P: Pool, D: Hall, T: Ledger, U: Ledger, V: Ledger>(
     ensures first { locked.new.first ≡ locked.old.first }
     ensures carried { locked.new.carried ≡ locked.old.carried }
     ensures base { locked.new.base ≡ locked.old.base }
+    ensures recorded { locked.new.is_recorded ≡ locked.old.is_recorded }
     ensures closed { (result ≡ Err StepFault.Closed)
         ↔ (locked.old.zone.state.steps ≡ most_steps) }
     ensures err { OnErr result (locked.new ≡ locked.old) }
@@ -128,6 +133,7 @@ pub(crate) fn make_step<P: Pool, D: Hall, T: Ledger, U: Ledger, V: Ledger>(
     ensures first { locked.new.first ≡ locked.old.first }
     ensures carried { locked.new.carried ≡ locked.old.carried }
     ensures base { locked.new.base ≡ locked.old.base }
+    ensures recorded { locked.new.is_recorded ≡ locked.old.is_recorded }
     ensures closed { (result ≡ Err StepFault.Closed)
         ↔ (locked.old.zone.state.steps ≡ most_steps) }
     ensures err { OnErr result (locked.new ≡ locked.old) }

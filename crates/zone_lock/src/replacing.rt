@@ -50,6 +50,7 @@ pub fn replace_locked<P: Pool, D: Hall, T: Ledger, U: Ledger, V: Ledger>(
     ensures first { locked.new.first ≡ locked.old.first }
     ensures carried { locked.new.carried ≡ locked.old.carried }
     ensures base { locked.new.base ≡ locked.old.base }
+    ensures recorded { locked.new.is_recorded ≡ locked.old.is_recorded }
     ensures fault { MatchResult result
         (λ _. fault_unasked locked.old.zone.state pool (P.account fresh) ≡ None)
         (λ refused. IsRefusalOrMemory locked.old.zone.state pool (P.account fresh)
