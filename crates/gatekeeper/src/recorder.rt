@@ -1,9 +1,9 @@
 //! The record that is written while a zone is served.
 
 ghost use Rattle.std.specs.Prelude.{◌≡◌, [], Err, OnErr};
-ghost use Rattle.gatekeeper.specs.Recorders.{IsPutDown};
+ghost use Rattle.gatekeeper.specs.Recorders.{IsPutDown, begin_fault};
 
-use crate::notices::{tell_no_record, warn_of_end, warn_of_lost_record};
+use crate::notices::{tell_no_record, tell_record, warn_of_end, warn_of_lost_record};
 use crate::serving_fault::RunningFault;
 use commands::Recording;
 use jiff::Timestamp;
@@ -61,9 +61,14 @@ fn new_file<R: Files<File = File> + Log>(rt: &R, name: &str) -> Result<File, Run
     }
 }
 
+/// When it is now, by the system's clock, to a millisecond.
+fn time_now<R: Clock>(rt: &R) -> Result<Timestamp, jiff::Error> {
+    Timestamp::from_millisecond(Timestamp::now(rt)?.as_millisecond())
+}
+
 /// Writes the first line of a record, which an audit passes over: when it begins.
 fn write_time<R: Clock, W: Write>(rt: &R, out: &mut W) -> io::Result<()> {
-    match Timestamp::now(rt) {
+    match time_now(rt) {
         Ok(now) => writeln!(out, "# recorded from {now}"),
         Err(_) => writeln!(out, "# recorded without a clock"),
     }
@@ -97,7 +102,9 @@ pub fn begin_record<'a, R: Files<File = File> + Clock + Log>(
     };
     match begun(rt, alloc, Output::new(buffer), zone, most) {
         Ok(record) => {
-            if !record.is_open() {
+            if record.is_open() {
+                tell_record(rt, name);
+            } else {
                 warn_of_end(rt, name, End::Full, 0);
             }
             Ok(Recorder {
@@ -107,9 +114,19 @@ pub fn begin_record<'a, R: Files<File = File> + Clock + Log>(
                 record,
             })
         }
-        Err(_) => {
+        Err(error) => Err(refused(rt, name, error.kind())),
+    }
+}
+
+/// Why a record isn't begun in the file that was made for it. The log tells it, too.
+fn refused<R: Log>(rt: &R, name: &str, kind: ErrorKind) -> RunningFault
+    ensures { result ≡ begin_fault kind }
+{
+    match kind {
+        ErrorKind::OutOfMemory => RunningFault::Memory,
+        _ => {
             tell_no_record(rt, name, "a write failed");
-            Err(RunningFault::Record)
+            RunningFault::Record
         }
     }
 }

@@ -114,7 +114,6 @@ fn serve_attended<
         r.changes) }
 {
     let listener = bind_page(rt, page)?;
-    ask_for_buffer(rt, socket, service.buffer);
     let recorder = match planned {
         Some(PlannedRecord { zone, recording }) => {
             Some(begin_record(rt, alloc, &zone, recording)?)
@@ -123,6 +122,7 @@ fn serve_attended<
     };
     let page = watcher_of(rt, listener.as_ref(), about);
     let attendants = attendants_of(alloc, page, recorder)?;
+    ask_for_buffer(rt, socket, service.buffer);
     tell_zone(rt, &about.name, about.address, service.receivers);
     serve_socket(rt, alloc, zone, socket, service, stop, attendants)
 }

@@ -1,7 +1,7 @@
 -- The text of a record, and what each call writes of it.
 use Rattle.std.specs.Prelude.{ℕ, ◌≡◌, ◌+◌, ◌≤◌, ◌<◌, Bool, true, false, List, [], ◌++◌, length}
 use Rattle.std.specs.Prelude.{◌≢◌, ◌⊎◌, ◌∷◌, nat_le, nat_lt, Option, Some, None, Result, Ok, Err}
-use Rattle.std.specs.Prelude.{codes}
+use Rattle.std.specs.Prelude.{codes, map}
 use Rattle.std.specs.Fmt.{decimal}
 use Rattle.std.specs.Io.KnownBytes.{Appends}
 use Rattle.books.specs.declared.book.Entry.{Entry}
@@ -145,3 +145,28 @@ AreAnswered {E} old (entry ∷ entries) result new =
     ((mid : Standing) × IsEntryAnswer {E = E} old entry (Ok Written) mid
     × AreAnswered mid entries result new)
     ⊎ ((result ≢ Ok Written) × IsEntryAnswer old entry result new)
+
+-- the record of the zone and of some steps has grown by the steps of these entries
+pub record HasGrown (before : Option (List ℕ)) (zone : ZoneParts) (steps : List RecordedStep)
+    (entries : List Entry) (standing : Standing) : Type 0 where
+  pub more : List RecordedStep
+  pub are_theirs : map step_of entries ≡ map Some more
+  pub is_record : IsRecordOf before zone (steps ++ more) standing
+
+-- of those that were left all were written; or the first of them wasn't, and so was answered
+abbrev pub IsLastAnswer : {E : Type 0} → Standing → List Entry → Result Recorded E → Standing
+    → Type 0
+IsLastAnswer old [] result new = (result ≡ Ok Written) × (new ≡ old)
+IsLastAnswer old (entry ∷ entries) result new =
+    (result ≢ Ok Written) × IsEntryAnswer old entry result new
+
+-- the record has grown by the entries before the one that was answered last
+pub record HasGrownUpTo {E : Type 0} (before : Option (List ℕ)) (zone : ZoneParts)
+    (steps : List RecordedStep) (entries : List Entry) (result : Result Recorded E)
+    (standing : Standing) : Type 0 where
+  pub front : List Entry
+  pub behind : List Entry
+  pub parts : entries ≡ front ++ behind
+  pub between : Standing
+  pub grown : HasGrown before zone steps front between
+  pub last : IsLastAnswer between behind result standing
