@@ -60,12 +60,11 @@ If the key serve.status has an address, as in status = \"127.0.0.1:8719\", it al
 there, over HTTP, that tells what it does: endpoints, calls, bandwidth, counts; with metrics under
 /metrics, and the same for programs under /zone.json, /endpoints.json and /calls.json.
 
-With --record FILE it writes down what it does: the zone that is set, and step after step each
-datagram or turn of the timers, with what came of it. `gatekeeper audit FILE` does these steps again,
-also while they are written. FILE is made anew: one that is there stays as it is. Nothing but its
-first line, the time at which it begins, and a last one that says why it goes no further, stands in
-it beyond OCTETS. If it has no room for a step, if the next one can't be written, or if 65,536
-of them wait to be written, a warning says so, and the server goes on without it.
+With --record FILE it writes down what it does, as lines that `gatekeeper audit FILE` does again,
+also while it serves: the zone that is set, then each datagram and each turn of the timers with what
+came of it. FILE is made for that: one that is there already is refused. It begins with the time from
+which moments are counted. It ends before the server if the next step has no room in OCTETS, if a
+write fails, or if 65,536 steps wait to be written: a warning says so, and the server goes on.
 
 It ends in good order at SIGTERM or SIGINT, if it was started with these blocked, as
 `./gatekeeper` starts it, or once each receiving thread has received N times. Then it prints

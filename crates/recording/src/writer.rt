@@ -174,12 +174,12 @@ impl<W: Write + Drop> RecordWriter<W> {
     pub fn end(&mut self, why: End) -> io::Result<Recorded>
         ensures { IsEndAnswer why self.old result self.new }
     {
-        if !self.is_open {
-            return Ok(Recorded::Closed);
+        if self.is_open {
+            self.is_open = false;
+            write_last_line(why, self.steps, self.most, &mut self.out)?;
+            return Ok(Recorded::Ended(why));
         }
-        self.is_open = false;
-        write_last_line(why, self.steps, self.most, &mut self.out)?;
-        Ok(Recorded::Ended(why))
+        Ok(Recorded::Closed)
     }
 
     /// How many steps were written.
