@@ -1,6 +1,7 @@
 //! The record that is written while a zone is served.
 
-ghost use Rattle.std.specs.Prelude.{◌≡◌, [], Err, OnErr};
+ghost use Rattle.std.specs.Prelude.{◌≡◌, [], Err, IfOk, OnErr, length, nat_le};
+ghost use Rattle.recording.specs.Zones.{zone_lines};
 ghost use Rattle.gatekeeper.specs.Recorders.{IsPutDown, begin_fault};
 
 use crate::notices::{tell_no_record, tell_record, warn_of_end, warn_of_lost_record};
@@ -81,7 +82,11 @@ fn begun<R: Clock, W: Write + Drop>(
     mut out: Output<W>,
     zone: &RecordedZone,
     most: u64,
-) -> io::Result<RecordWriter<W>> {
+) -> io::Result<RecordWriter<W>>
+    ensures bound { IfOk result (λ writer. writer.most ≡ most) }
+    ensures open { IfOk result (λ writer. writer.is_open
+        ≡ nat_le (length (zone_lines zone.now)) most) }
+{
     write_time(rt, &mut out)?;
     let mut record = RecordWriter::begin(alloc, out, zone, most)?;
     record.flush()?;
@@ -134,20 +139,20 @@ fn refused<R: Log>(rt: &R, name: &str, kind: ErrorKind) -> RunningFault
 /// Writes down entries that left a zone's history, if they follow those that are written and more
 /// may come. Otherwise steps were lost, and the record ends.
 ///
-/// promise record-has-no-gap: A record that is written while a zone is served has its history's
-/// steps from the first on (`IsPutDown`).
+/// promise record-has-no-gap: A server's record has its history's steps from the first on
+/// (`IsPutDown`).
 fn put_down<W: Write + Drop>(
-    record: &mut RecordWriter<W>,
+    writer: &mut RecordWriter<W>,
     handed: &mut HandedOut,
 ) -> io::Result<Recorded>
-    ensures put { IsPutDown record.old handed.old result record.new }
+    ensures put { IsPutDown writer.old handed.old result writer.new }
     ensures taken { handed.new.entries.items ≡ [] }
 {
-    if handed.is_recorded && handed.first as u64 == record.steps() {
-        return record.write_entries(&mut handed.entries);
+    if handed.is_recorded && handed.first as u64 == writer.steps() {
+        return writer.write_entries(&mut handed.entries);
     }
     handed.entries.clear();
-    record.end(End::Overrun)
+    writer.end(End::Overrun)
 }
 
 impl<R: Log, W: Write + Drop> Recorder<'_, R, W> {

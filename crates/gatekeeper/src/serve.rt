@@ -1,6 +1,6 @@
 //! Serving a zone over UDP.
 
-ghost use Rattle.std.specs.Prelude.{◌≡◌, ◌≤◌, IfOk, IfSome, map};
+ghost use Rattle.std.specs.Prelude.{◌≡◌, ◌≤◌, ◌↔◌, IfOk, IfSome, IsSome, map};
 ghost use Rattle.script.specs.Runs.{start_of};
 ghost use Rattle.gatekeeper.specs.Serves.{AreServed, IsReportWritten, IsServiceWritten, zone_set};
 ghost use Rattle.settings.specs.Settings.{AreSettings};
@@ -8,8 +8,9 @@ ghost use Rattle.udp_server.specs.Plans.{IsPlan};
 ghost use Rattle.udp_server.specs.Served.{IsServed};
 
 use crate::attendants::attendants_of;
-use crate::notices::{tell_cause, tell_place, tell_unrecordable, tell_zone, warn_of};
-use crate::notices::warn_of_faults;
+use crate::notices::{
+    tell_cause, tell_place, tell_unrecordable, tell_zone, warn_of, warn_of_faults,
+};
 use crate::over_socket::{ask_for_buffer, serve_socket};
 use crate::page_server::{bind_page, watcher_of};
 use crate::recorder::begin_record;
@@ -68,7 +69,7 @@ fn planned_record<'a, R: Log>(
     recording: Option<Recording<'a>>,
 ) -> Result<Option<PlannedRecord<'a>>, RunningFault>
     ensures zone { IfOk result (λ planned. IfSome planned
-        (λ record. record.zone ≡ record { config = config.now; pools = specs })) }
+        (λ it. it.zone ≡ record { config = config.now; pools = specs })) }
     ensures planned { IfOk result (λ planned. IsSome planned ↔ IsSome recording) }
 {
     let Some(recording) = recording else {

@@ -35,8 +35,8 @@ impl<W: Write + Drop> RecordWriter<W> {
     /// closed, and that entry's answer is returned. All of them are taken out of the vector, whose
     /// memory stays for others.
     ///
-    /// promise entries-are-recorded: Entries are written in order, each once, up to one at which
-    /// the record is closed (`AreAnswered`).
+    /// promise entries-are-recorded: Entries are written in order, up to one at which the record is
+    /// closed (`AreAnswered`).
     pub fn write_entries(&mut self, entries: &mut Vec<Entry>) -> io::Result<Recorded>
         ensures answers { AreAnswered self.old entries.old.items result self.new }
         ensures taken { entries.new.items ≡ [] }

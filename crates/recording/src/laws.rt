@@ -33,8 +33,8 @@ pub fn written_steps_are_the_record()
 /// A record behind which entries were to be recorded is the record of its steps and of theirs, of
 /// all or of those before the one at which it was closed.
 ///
-/// promise record-has-its-entries: Behind its steps a record has those of the entries that were
-/// handed to it, in order, each once, up to one that is answered (`HasGrownUpTo`).
+/// promise record-has-its-entries: A record has grown by the entries' steps, up to one at which it
+/// was closed (`HasGrownUpTo`).
 pub fn written_entries_are_the_record()
     ensures { {E : Type 0} → (before : Option (List ℕ)) (zone : ZoneParts)
         (steps : List RecordedStep) (entries : List Entry) (result : Result Recorded E)

@@ -169,8 +169,8 @@ impl<W: Write + Drop> RecordWriter<W> {
     /// Ends the record, for this reason. If the last line isn't written as a whole, the record is
     /// closed all the same.
     ///
-    /// promise record-says-why-it-ends: A record that was open ends with a line that says why and
-    /// how many steps it has (`IsEndAnswer`, `last_line`).
+    /// promise record-says-why-it-ends: An open record ends with a line that says why
+    /// (`IsEndAnswer`, `last_line`).
     pub fn end(&mut self, why: End) -> io::Result<Recorded>
         ensures { IsEndAnswer why self.old result self.new }
     {
