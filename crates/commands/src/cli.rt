@@ -2,8 +2,9 @@
 
 use crate::asking::{explain_command, probe_command, probe_of, tell_no_address};
 use crate::auditing::audit_command;
+use crate::serving::{Serving, serve_command, serving_of};
 use clap::error::ErrorKind;
-use clap::{Arg, ArgMatches, Command, Error, value_parser};
+use clap::{Arg, ArgMatches, Command, Error};
 use probing::Probe;
 use std::alloc::{AllocError, Global};
 
@@ -15,8 +16,8 @@ pub enum Choice<'a> {
     Replay,
     /// A check of settings.
     CheckSettings(Option<&'a str>),
-    /// Serving with settings. If a number is given, each thread receives that often.
-    Serve(Option<&'a str>, Option<u64>),
+    /// Serving with settings.
+    Serve(Serving<'a>),
     /// Asking a gatekeeper whether it is there.
     Probe(Probe),
     /// Telling what the datagrams on standard input are.
@@ -29,11 +30,6 @@ pub enum Choice<'a> {
 
 /// The file of settings, or of a record.
 pub(crate) const FILE: &str = "FILE";
-
-/// The option of `serve` that limits how often a thread receives, and how often at most.
-const RECEIVES: &str = "receives";
-
-const MOST_RECEIVES: i64 = 1_000_000;
 
 const ABOUT: &str = "\
 A gatekeeper for one H.323 zone. H.323 is the ITU's standard for calls over packet networks:
@@ -148,37 +144,6 @@ Exit status: 0 well-formed, with warnings or without, 1 the settings were refuse
 the command line, 3 out of memory, 4 the file can't be read (behind a line of the log with the
 cause), or a standard stream failed.";
 
-const SERVE_ABOUT: &str = "Serves a zone over UDP";
-
-const SERVE_LONG_ABOUT: &str = "\
-Reads settings, binds the zone's address and answers the datagrams that
-arrive there, until it is asked to end. A line on standard error tells that it serves.
-docs/OPERATING.md leads from the settings to a first call:
-  gatekeeper serve examples/gatekeeper.toml";
-
-const SERVE_HELP: &str = "\
-Settings are UTF-8, of at most 1,048,576 octets. They are refused as a whole, with a last line on
-standard error, if they are no TOML document (`settings: 1 Syntax`, behind a line of the log with
-the line, the column and the reason), or by the first key that fails:
-  settings: 2 Missing KEY      the key is required, and isn't there
-  settings: 3 WrongKind KEY    it is of another kind, as a text in place of a number
-  settings: 4 OutOfRange KEY   it is out of its range, or is no address, network or kind of pool
-  settings: 5 NoDefaultPool    there is no pool, or the last one has a network
-
-If the key serve.status has an address, as in status = \"127.0.0.1:8719\", it also serves a page
-there, over HTTP, that tells what it does: endpoints, calls, bandwidth, counts; with metrics under
-/metrics, and the same for programs under /zone.json, /endpoints.json and /calls.json.
-
-It ends in good order at SIGTERM or SIGINT, if it was started with these blocked, as
-`./gatekeeper` starts it, or once each receiving thread has received N times. Then it prints
-how many datagrams and turns of the timers there were; how many replies were sent, and how many
-were dropped, since too many of them waited; how many steps were refused for want of memory;
-and how many receives and sends failed.
-
-Exit status: 0 done, 1 the settings were refused, 2 wrong words on the command line, 3 out of
-memory, 4 an address can't be bound (`bind failed`), the file can't be read (each behind a line of
-the log with the cause), or a standard stream failed.";
-
 fn replay_command<'a>(alloc: Global) -> Command<'a> {
     Command::new(alloc, "replay")
         .about(REPLAY_ABOUT)
@@ -186,7 +151,8 @@ fn replay_command<'a>(alloc: Global) -> Command<'a> {
         .after_help(REPLAY_HELP)
 }
 
-fn file<'a>(alloc: Global) -> Arg<'a> {
+/// The argument that names a file of settings.
+pub(crate) fn settings_file<'a>(alloc: Global) -> Arg<'a> {
     Arg::new(alloc, FILE).help("the settings; none or `-`: those on standard input")
 }
 
@@ -195,21 +161,7 @@ fn check_command<'a>(alloc: Global) -> Result<Command<'a>, AllocError> {
         .about(CHECK_ABOUT)
         .long_about(CHECK_LONG_ABOUT)
         .after_help(CHECK_HELP)
-        .arg(file(alloc))
-}
-
-fn serve_command<'a>(alloc: Global) -> Result<Command<'a>, AllocError> {
-    let receives = Arg::new(alloc, RECEIVES)
-        .long(RECEIVES)
-        .value_name("N")
-        .value_parser(value_parser!(u64).range(1..=MOST_RECEIVES))
-        .help("how often each thread receives before the program ends, 1 to 1000000");
-    Command::new(alloc, "serve")
-        .about(SERVE_ABOUT)
-        .long_about(SERVE_LONG_ABOUT)
-        .after_help(SERVE_HELP)
-        .arg(receives)?
-        .arg(file(alloc))
+        .arg(settings_file(alloc))
 }
 
 fn matched<'a>(alloc: Global, words: &'a [String]) -> Result<ArgMatches<'a>, Error> {
@@ -228,7 +180,7 @@ fn matched<'a>(alloc: Global, words: &'a [String]) -> Result<ArgMatches<'a>, Err
 }
 
 /// The file that is named; None, also for `-`, is standard input.
-fn file_of<'a>(found: &ArgMatches<'a>) -> Option<&'a str> {
+pub(crate) fn file_of<'a>(found: &ArgMatches<'a>) -> Option<&'a str> {
     match found.get_str(FILE) {
         Some("-") | None => None,
         Some(name) => Some(name),
@@ -239,7 +191,7 @@ fn file_of<'a>(found: &ArgMatches<'a>) -> Option<&'a str> {
 fn choice_of<'a, R: Eprint>(rt: &R, matches: &ArgMatches<'a>) -> Choice<'a> {
     match matches.subcommand() {
         Some(("check-settings", found)) => Choice::CheckSettings(file_of(found)),
-        Some(("serve", found)) => { Choice::Serve(file_of(found), found.get_one::<u64>(RECEIVES)) }
+        Some(("serve", found)) => Choice::Serve(serving_of(found)),
         Some(("probe", found)) => match probe_of(found) {
             Ok(probe) => Choice::Probe(probe),
             Err(word) => {

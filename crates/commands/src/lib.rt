@@ -14,6 +14,7 @@ mod cli;
 mod explaining_input;
 mod key_lines;
 mod replaying;
+mod serving;
 mod settings_check;
 mod settings_input;
 
@@ -22,5 +23,6 @@ pub use boxed_pools::{are_new, pools_of};
 pub use cli::{Choice, chosen};
 pub use explaining_input::explain;
 pub use replaying::{ReplayFault, replay};
+pub use serving::{Recording, Serving};
 pub use settings_check::check_settings;
 pub use settings_input::{InputFault, PassedOver, ReadInput, read_input};

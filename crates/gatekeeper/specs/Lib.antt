@@ -1,3 +1,4 @@
 pub mod Clocks
+pub mod Recorders
 pub mod Reports
 pub mod Serves

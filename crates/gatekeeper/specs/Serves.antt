@@ -13,16 +13,17 @@ use Rattle.gatekeeper.specs.declared.serving_fault.RunningFault.TheVariants.{Bin
 use Rattle.gatekeeper.specs.declared.serving_fault.RunningFault.TheVariants.{Memory}
 use Rattle.gatekeeper.specs.declared.serving_fault.RunningFault.TheVariants.{WrongPools}
 use Rattle.gatekeeper.specs.declared.serving_fault.RunningFault.TheVariants.{NotFinished}
-use Rattle.gatekeeper.specs.declared.serving_fault.RunningFault.TheVariants.{Stream}
+use Rattle.gatekeeper.specs.declared.serving_fault.RunningFault.TheVariants.{Record, Stream}
 use Rattle.gatekeeper.specs.declared.serving_fault.ServingFault.{ServingFault}
 use Rattle.gatekeeper.specs.declared.serving_fault.ServingFault.TheVariants.{Running as OfRunning}
 use Rattle.gatekeeper.specs.declared.serving_fault.ServingFault.TheVariants.{Settings as OfSettings}
 
--- 1: the zone couldn't be made, or didn't come back; 3: no memory; 4: an address wasn't bound, or
--- a stream failed
+-- 1: the zone couldn't be made, or didn't come back; 3: no memory; 4: an address wasn't bound, a
+-- record wasn't begun, or a stream failed
 abbrev pub running_status : RunningFault → ℕ
 running_status (Bind fault) = 4
 running_status (BindPage fault) = 4
+running_status Record = 4
 running_status Memory = 3
 running_status WrongPools = 1
 running_status NotFinished = 1

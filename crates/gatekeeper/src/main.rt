@@ -10,11 +10,13 @@ ghost use Rattle.commands.specs.Inputs.{input_status};
 ghost use Rattle.commands.specs.Replays.{status_of};
 
 mod asking;
+mod attendants;
 mod auditing;
 mod elapsed;
 mod notices;
 mod over_socket;
 mod page_server;
+mod recorder;
 mod report;
 mod serve;
 mod service;
@@ -25,13 +27,14 @@ mod stopwatch;
 
 use asking::{explain_input, probe_gatekeeper};
 use auditing::audit_source;
-use commands::{Choice, InputFault, ReplayFault, check_settings, chosen, replay};
+use commands::{Choice, InputFault, ReplayFault, Serving, check_settings, chosen, replay};
 use log::Log;
 use notices::tell_place;
 use script::Output;
 use serve::serve;
 use source::{SETTINGS, Source, open_file};
 use std::alloc::{AllocError, AllocGlobal, Global};
+use std::fs::File;
 use std::io::{BufWriter, Read};
 use std::net::{Net, TcpListener, TcpStream};
 use std::process::ExitCode;
@@ -70,7 +73,7 @@ fn words<R: Env + AllocGlobal>(rt: &R, alloc: Global) -> Result<Vec<String>, All
 
 fn run<
     R: Input
-        + Files
+        + Files<File = File>
         + Print
         + Eprint
         + Threads
@@ -86,7 +89,7 @@ fn run<
     match chosen(rt, alloc, words) {
         Ok(Choice::Replay) => replay_input(rt, alloc),
         Ok(Choice::CheckSettings(file)) => check_source(rt, alloc, file),
-        Ok(Choice::Serve(file, receives)) => serve_source(rt, alloc, file, receives, stop),
+        Ok(Choice::Serve(serving)) => serve_source(rt, alloc, serving, stop),
         Ok(Choice::Probe(probe)) => probe_gatekeeper(rt, alloc, probe),
         Ok(Choice::Explain) => explain_input(rt, alloc),
         Ok(Choice::Audit(file)) => audit_source(rt, alloc, file),
@@ -181,7 +184,7 @@ fn refuse_settings<R: Eprint + Log>(rt: &R, source: Source<'_>, fault: &InputFau
 /// Serves with the settings of a file, or with those on standard input.
 fn serve_source<
     R: Input
-        + Files
+        + Files<File = File>
         + Print
         + Eprint
         + Threads
@@ -193,20 +196,20 @@ fn serve_source<
         + Log
         + Sync,
     S: Stop + Sync,
->(rt: &R, alloc: Global, file: Option<&str>, receives: Option<u64>, stop: &S) -> u8 {
-    let source = Source { file };
-    let Some(name) = file else {
-        return serve_input(rt, alloc, rt.reader(), source, receives, stop);
+>(rt: &R, alloc: Global, serving: Serving<'_>, stop: &S) -> u8 {
+    let Some(name) = serving.file else {
+        return serve_input(rt, alloc, rt.reader(), serving, stop);
     };
     match open_file(rt, SETTINGS, name) {
-        Some(input) => serve_input(rt, alloc, input, source, receives, stop),
+        Some(input) => serve_input(rt, alloc, input, serving, stop),
         None => stream_failed(rt),
     }
 }
 
 /// Serves with the settings of an input.
 fn serve_input<
-    R: Print
+    R: Files<File = File>
+        + Print
         + Eprint
         + Threads
         + Wait
@@ -218,12 +221,12 @@ fn serve_input<
         + Sync,
     S: Stop + Sync,
     I: Read + Drop,
->(rt: &R, alloc: Global, input: I, source: Source<'_>, receives: Option<u64>, stop: &S) -> u8 {
+>(rt: &R, alloc: Global, input: I, serving: Serving<'_>, stop: &S) -> u8 {
     let Ok(buffer) = BufWriter::new(alloc, io::writer(rt)) else {
         return out_of_memory(rt);
     };
     let mut out = Output::new(buffer);
-    match serve(rt, alloc, input, source, receives, stop, &mut out) {
+    match serve(rt, alloc, input, serving, stop, &mut out) {
         Ok(()) => 0,
         Err(fault) => {
             let _ = eprintln!(rt; "{fault}");

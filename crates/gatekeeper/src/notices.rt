@@ -6,6 +6,7 @@ use commands::{InputFault, PassedOver};
 use log::{Log, error, info, warn};
 use pools::Pool;
 use ras_module::{Address, Name};
+use recording::{End, ZoneFault};
 use settings::SettingsFault;
 use std::fmt;
 use udp_server::Report;
@@ -75,6 +76,39 @@ pub fn tell_page<R: Log>(rt: &R, address: Address) {
     let [a, b, c, d] = address.ip;
     let port = address.port;
     info!(rt; target: "serve", "the status page is at http://{a}.{b}.{c}.{d}:{port}/");
+}
+
+/// Under which name the log tells of a record that is written.
+const RECORD: &str = "record";
+
+/// Tells why a zone can't be recorded.
+pub fn tell_unrecordable<R: Log>(rt: &R, fault: ZoneFault) {
+    error!(rt; target: RECORD, "the zone can't be recorded: {fault}");
+}
+
+/// Tells why no record is begun in a file.
+pub fn tell_no_record<R: Log>(rt: &R, name: &str, cause: &str) {
+    error!(rt; target: RECORD, "{name} can't be made: {cause}");
+}
+
+/// Tells where a record is written.
+pub fn tell_record<R: Log>(rt: &R, name: &str) {
+    info!(rt; target: RECORD, "each step is recorded in {name}");
+}
+
+/// Warns that a record with so many steps goes no further.
+pub fn warn_of_end<R: Log>(rt: &R, name: &str, why: End, steps: u64) {
+    let cause = match why {
+        End::Full => "another would pass its bound",
+        End::PoolReplaced => "the next one replaces a pool",
+        End::Overrun => "too many others waited to be written",
+    };
+    warn!(rt; target: RECORD, "{name} ends: it has {steps} steps, and {cause}");
+}
+
+/// Warns that a record goes no further since it can't be written.
+pub fn warn_of_lost_record<R: Log>(rt: &R, name: &str) {
+    warn!(rt; target: RECORD, "{name} ends: a write of it failed");
 }
 
 /// Warns if anything that should have been done wasn't.

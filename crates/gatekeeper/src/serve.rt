@@ -1,32 +1,38 @@
 //! Serving a zone over UDP.
 
-ghost use Rattle.std.specs.Prelude.{◌≡◌, ◌≤◌, IfOk, IfSome, map};
+ghost use Rattle.std.specs.Prelude.{◌≡◌, ◌≤◌, ◌↔◌, IfOk, IfSome, IsSome, map};
 ghost use Rattle.script.specs.Runs.{start_of};
 ghost use Rattle.gatekeeper.specs.Serves.{AreServed, IsReportWritten, IsServiceWritten, zone_set};
 ghost use Rattle.settings.specs.Settings.{AreSettings};
 ghost use Rattle.udp_server.specs.Plans.{IsPlan};
 ghost use Rattle.udp_server.specs.Served.{IsServed};
 
-use crate::notices::{tell_cause, tell_place, tell_zone, warn_of, warn_of_faults};
+use crate::attendants::attendants_of;
+use crate::notices::{
+    tell_cause, tell_place, tell_unrecordable, tell_zone, warn_of, warn_of_faults,
+};
 use crate::over_socket::{ask_for_buffer, serve_socket};
 use crate::page_server::{bind_page, watcher_of};
+use crate::recorder::begin_record;
 use crate::report::print_report;
-use crate::service::{Ending, Service};
+use crate::service::{Service, Task};
 use crate::serving_fault::{RunningFault, ServingFault};
 use crate::source::Source;
-use commands::{ReadInput, are_new, pools_of, read_input};
+use commands::{ReadInput, Recording, Serving, are_new, pools_of, read_input};
 use log::Log;
-use pools::{Pool, PoolSet};
+use pools::{Pool, PoolSet, PoolSpecs};
 use ras_core::{Config, NewFault, Zone};
 use ras_module::Address;
+use recording::RecordedZone;
 use script::Output;
 use settings::Settings;
 use status_page::About;
 use std::alloc::{AllocGlobal, Global};
+use std::fs::File;
 use std::io::{Read, Write};
 use std::net::{Net, TcpListener, TcpStream};
 use std::random::RandomSource;
-use std::rt::Clock;
+use std::rt::{Clock, Files};
 use std::sync::Wait;
 use std::thread::Threads;
 use udp_server::Report;
@@ -47,12 +53,45 @@ fn zone_of<P: Pool>(alloc: Global, config: Config, pools: Vec<P>) -> Result<Zone
     }
 }
 
-/// Serves a zone over a socket, and its status page if that has an address.
-fn serve_with_page<
+/// A record that is to be written of a zone.
+#[derive(Drop)]
+struct PlannedRecord<'a> {
+    zone: RecordedZone,
+    recording: Recording<'a>,
+}
+
+/// What is to be recorded of the zone that is set, if anything is. If lines can't describe the
+/// zone, the log tells why.
+fn planned_record<'a, R: Log>(
+    rt: &R,
+    config: &Config,
+    specs: PoolSpecs,
+    recording: Option<Recording<'a>>,
+) -> Result<Option<PlannedRecord<'a>>, RunningFault>
+    ensures zone { IfOk result (λ planned. IfSome planned
+        (λ it. it.zone ≡ record { config = config.now; pools = specs })) }
+    ensures planned { IfOk result (λ planned. IsSome planned ↔ IsSome recording) }
+{
+    let Some(recording) = recording else {
+        return Ok(None);
+    };
+    match RecordedZone::new(config.copy()?, specs) {
+        Ok(zone) => Ok(Some(PlannedRecord { zone, recording })),
+        Err(fault) => {
+            tell_unrecordable(rt, fault);
+            Err(RunningFault::Record)
+        }
+    }
+}
+
+/// Serves a zone over a socket, its status page if that has an address, and writes its record if
+/// one is planned. The record is begun last, so that what can't be served leaves none.
+fn serve_attended<
     P: Pool + Send,
     R: Threads
         + Wait
         + Clock
+        + Files<File = File>
         + Net<Listener = TcpListener, Stream = TcpStream>
         + RandomSource
         + AllocGlobal
@@ -68,6 +107,7 @@ fn serve_with_page<
     stop: &S,
     page: Option<Address>,
     about: &About,
+    planned: Option<PlannedRecord<'_>>,
 ) -> Result<Report<P>, RunningFault>
     requires receivers { service.receivers ≤ 15 }
     requires plan { IsPlan service.plan }
@@ -75,15 +115,17 @@ fn serve_with_page<
         r.changes) }
 {
     let listener = bind_page(rt, page)?;
+    let recorder = match planned {
+        Some(PlannedRecord { zone, recording }) => {
+            Some(begin_record(rt, alloc, &zone, recording)?)
+        }
+        None => None,
+    };
+    let page = watcher_of(rt, listener.as_ref(), about);
+    let attendants = attendants_of(alloc, page, recorder)?;
     ask_for_buffer(rt, socket, service.buffer);
     tell_zone(rt, &about.name, about.address, service.receivers);
-    let mut watchers = Vec::new(alloc);
-    if let Some(watcher) = watcher_of(rt, listener.as_ref(), about) {
-        if watchers.push(watcher).is_err() {
-            return Err(RunningFault::Memory);
-        }
-    }
-    serve_socket(rt, alloc, zone, socket, service, stop, watchers)
+    serve_socket(rt, alloc, zone, socket, service, stop, attendants)
 }
 
 /// Serves the zone that is set with the pools that were made for it, once it is seen that they are
@@ -96,6 +138,7 @@ fn serve_pools<
     R: Threads
         + Wait
         + Clock
+        + Files<File = File>
         + Net<Listener = TcpListener, Stream = TcpStream>
         + RandomSource
         + AllocGlobal
@@ -107,18 +150,24 @@ fn serve_pools<
     alloc: Global,
     settings: Settings,
     pools: Vec<P>,
-    ending: Ending<'_, S>,
+    task: Task<'_, S>,
 ) -> Result<Report<P>, RunningFault>
     requires { AreSettings settings }
     ensures served { IfOk result
         (λ r. IsServed (zone_set settings).state r.finished r.datagrams r.turns
         r.changes) }
 {
-    let service = Service::of(&settings, ending.receives);
+    let service = Service::of(&settings, task.receives, task.record.is_some());
     if !are_new(&pools, settings.pools.as_slice()) {
         return Err(RunningFault::WrongPools);
     }
-    let Settings { config, status, .. } = settings;
+    let Settings {
+        config,
+        pools: specs,
+        status,
+        ..
+    } = settings;
+    let planned = planned_record(rt, &config, specs, task.record)?;
     let parts = config.parts();
     let (name, address) = (parts.identifier, parts.address);
     let zone = zone_of(alloc, config, pools)?;
@@ -130,15 +179,8 @@ fn serve_pools<
         }
     };
     let about = About { name, address };
-    let report = serve_with_page(
-        rt,
-        alloc,
-        zone,
-        &socket,
-        service,
-        ending.stop,
-        status,
-        &about,
+    let report = serve_attended(
+        rt, alloc, zone, &socket, service, task.stop, status, &about, planned,
     )?;
     warn_of_faults(rt, &report);
     Ok(report)
@@ -150,6 +192,7 @@ fn serve_and_print<
     R: Threads
         + Wait
         + Clock
+        + Files<File = File>
         + Net<Listener = TcpListener, Stream = TcpStream>
         + RandomSource
         + AllocGlobal
@@ -162,13 +205,13 @@ fn serve_and_print<
     alloc: Global,
     settings: Settings,
     pools: Vec<P>,
-    ending: Ending<'_, S>,
+    task: Task<'_, S>,
     out: &mut Output<W>,
 ) -> Result<(), RunningFault>
     requires { AreSettings settings }
     ensures { IsReportWritten out.old out.new result }
 {
-    let report = match serve_pools(rt, alloc, settings, pools, ending) {
+    let report = match serve_pools(rt, alloc, settings, pools, task) {
         Ok(report) => report,
         Err(fault) => return Err(fault),
     };
@@ -183,6 +226,7 @@ fn serve_settings<
     R: Threads
         + Wait
         + Clock
+        + Files<File = File>
         + Net<Listener = TcpListener, Stream = TcpStream>
         + RandomSource
         + AllocGlobal
@@ -194,7 +238,7 @@ fn serve_settings<
     rt: &R,
     alloc: Global,
     settings: Settings,
-    ending: Ending<'_, S>,
+    task: Task<'_, S>,
     out: &mut Output<W>,
 ) -> Result<(), RunningFault>
     requires { AreSettings settings }
@@ -214,12 +258,12 @@ fn serve_settings<
             return Err(RunningFault::Memory);
         }
     }
-    serve_and_print(rt, alloc, settings, boxes, ending, out)
+    serve_and_print(rt, alloc, settings, boxes, task, out)
 }
 
-/// Reads settings from this source, and serves their zone. Each receiving thread stops after this many receives, if
-/// a number is given, and once it is told to. Then the report is printed. If there is none, nothing
-/// is written, and the log tells what a person has to know besides the fault.
+/// Reads settings from this input, and serves their zone as it is asked for, until it is told to
+/// stop. Then the report is printed. If there is none, nothing is written, and the log tells what a
+/// person has to know besides the fault.
 ///
 /// promise refused-settings-serve-nothing: Only settings that pass are served, and without a report
 /// nothing is written (`AreServed`, `IsServiceWritten`).
@@ -228,6 +272,7 @@ pub fn serve<
     R: Threads
         + Wait
         + Clock
+        + Files<File = File>
         + Net<Listener = TcpListener, Stream = TcpStream>
         + RandomSource
         + AllocGlobal
@@ -239,14 +284,14 @@ pub fn serve<
     rt: &R,
     alloc: Global,
     input: I,
-    source: Source<'_>,
-    receives: Option<u64>,
+    serving: Serving<'_>,
     stop: &S,
     out: &mut Output<W>,
 ) -> Result<(), ServingFault>
     ensures settings { IfSome (I.remaining input) (λ octets. AreServed octets result) }
     ensures written { IsServiceWritten out.old out.new result }
 {
+    let source = Source { file: serving.file };
     let ReadInput {
         settings,
         passed_over,
@@ -258,8 +303,12 @@ pub fn serve<
         }
     };
     warn_of(rt, source, &passed_over);
-    let ending = Ending { receives, stop };
-    match serve_settings(rt, alloc, settings, ending, out) {
+    let task = Task {
+        receives: serving.receives,
+        record: serving.record,
+        stop,
+    };
+    match serve_settings(rt, alloc, settings, task, out) {
         Ok(()) => Ok(()),
         Err(fault) => Err(ServingFault::Running(fault)),
     }

@@ -1,9 +1,10 @@
-//! What is set for the server, and when it ends.
+//! What is set for the server, and what is asked of it.
 
 ghost use Rattle.std.specs.Prelude.{◌≡◌, ◌≤◌, false};
 ghost use Rattle.settings.specs.Ranges.{AreServeNumbers};
 ghost use Rattle.udp_server.specs.Plans.{IsPlan};
 
+use commands::Recording;
 use settings::Settings;
 use udp_server::Plan;
 use udp_socket::Stop;
@@ -12,11 +13,12 @@ use udp_socket::Stop;
 /// its entries are let go then.
 const CHAPTER: usize = 4_096;
 
-/// When the server ends: each receiving thread stops after this many receives, if a number is
-/// given, and once it is told to.
+/// What is asked of the server besides what is set: each receiving thread stops after this many
+/// receives, if a number is given, and once it is told to; and a record is written, if one is to be.
 #[derive(Drop)]
-pub struct Ending<'a, S: Stop> {
+pub struct Task<'a, S: Stop> {
     pub receives: Option<u64>,
+    pub record: Option<Recording<'a>>,
     pub stop: &'a S,
 }
 
@@ -32,10 +34,10 @@ pub struct Service {
 
 impl Service {
     /// What these settings say of it. Its history is let go, so that no chapter and no receipt is
-    /// kept.
+    /// kept; its entries are handed out before, if a record is written of them.
     ///
     /// promise server-has-its-numbers: The numbers for the server are those that are set.
-    pub fn of(settings: &Settings, receives: Option<u64>) -> Service
+    pub fn of(settings: &Settings, receives: Option<u64>, is_recorded: bool) -> Service
         requires { AreServeNumbers settings.now.receivers settings.now.ring settings.now.faults
             settings.now.tick settings.now.buffer }
         ensures receivers { result.receivers ≡ settings.now.receivers }
@@ -47,6 +49,7 @@ impl Service {
         ensures tick { result.plan.tick ≡ settings.now.tick }
         ensures history { (result.plan.chapter ≡ 4096) × (result.plan.latest ≡ 0)
             × (result.plan.receipts ≡ false) }
+        ensures handed_out { result.plan.hands_out ≡ is_recorded }
         ensures plan { IsPlan result.plan }
     {
         Service {
@@ -60,7 +63,7 @@ impl Service {
                 chapter: CHAPTER,
                 latest: 0,
                 receipts: false,
-                hands_out: false,
+                hands_out: is_recorded,
             },
         }
     }

@@ -18,6 +18,9 @@ pub enum RunningFault {
     /// The address of the status page isn't bound.
     #[error(transparent)]
     BindPage(status_server::BindFault),
+    /// The record of the zone isn't begun.
+    #[error("record failed")]
+    Record,
     /// Memory is refused.
     #[error("out of memory")]
     Memory,
@@ -33,13 +36,14 @@ pub enum RunningFault {
 }
 
 impl RunningFault {
-    /// The exit status: 3 if there is no memory, 4 if an address isn't bound or a stream failed,
-    /// and 1 if the zone can't be made or didn't come back.
+    /// The exit status: 3 if there is no memory, 4 if an address isn't bound, a record isn't begun
+    /// or a stream failed, and 1 if the zone can't be made or didn't come back.
     pub fn status(&self) -> u8
         ensures { result ≡ running_status self.now }
     {
         match self {
-            RunningFault::Bind(_) | RunningFault::BindPage(_) | RunningFault::Stream => 4,
+            RunningFault::Bind(_) | RunningFault::BindPage(_) => 4,
+            RunningFault::Record | RunningFault::Stream => 4,
             RunningFault::Memory => 3,
             RunningFault::WrongPools | RunningFault::NotFinished => 1,
         }

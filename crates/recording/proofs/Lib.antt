@@ -1,6 +1,7 @@
 mod FourNumbers
 mod LineWords
 mod LinesWritten
+mod MoreEntries
 mod MoreSteps
 mod NameTexts
 mod ReadLines

@@ -1,7 +1,10 @@
 //! What holds of every record.
 
-ghost use Rattle.std.specs.Prelude.{ℕ, ◌+◌, ◌++◌, ◌∷◌, [], List, Option};
-ghost use Rattle.recording.specs.Records.{IsRecordOf, IsWritten, RecordedStep, step_lines};
+ghost use Rattle.std.specs.Prelude.{ℕ, ◌+◌, ◌++◌, ◌∷◌, [], List, Option, Result};
+ghost use Rattle.books.specs.declared.book.Entry.{Entry};
+ghost use Rattle.recording.specs.declared.writer.Recorded.{Recorded};
+ghost use Rattle.recording.specs.Records.{AreAnswered, HasGrownUpTo, IsRecordOf, IsWritten};
+ghost use Rattle.recording.specs.Records.{RecordedStep, step_lines};
 ghost use Rattle.recording.specs.Standings.{Standing};
 ghost use Rattle.recording.specs.Zones.{ZoneParts};
 ghost use Rattle.recording.specs.Again.{IsReadAgain, IsZone};
@@ -25,4 +28,17 @@ pub fn written_steps_are_the_record()
         (old new : Standing) → IsRecordOf before zone steps old
         → IsWritten old (step_lines (old.steps + 1) step) new
         → IsRecordOf before zone (steps ++ step ∷ []) new }
+{}
+
+/// A record behind which entries were to be recorded is the record of its steps and of theirs, of
+/// all or of those before the one at which it was closed.
+///
+/// promise record-has-its-entries: A record has grown by the entries' steps, up to one at which it
+/// was closed (`HasGrownUpTo`).
+pub fn written_entries_are_the_record()
+    ensures { {E : Type 0} → (before : Option (List ℕ)) (zone : ZoneParts)
+        (steps : List RecordedStep) (entries : List Entry) (result : Result Recorded E)
+        (old new : Standing) → IsRecordOf before zone steps old
+        → AreAnswered old entries result new
+        → HasGrownUpTo before zone steps entries result new }
 {}

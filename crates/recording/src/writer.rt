@@ -1,8 +1,9 @@
 //! Writing a record, step after step.
 
-ghost use Rattle.std.specs.Prelude.{◌≡◌, ◌≤◌, ◌*◌, ◌+◌, ◌^◌, ◌<◌, [], IfOk, IsTrue, OnOk};
+ghost use Rattle.std.specs.Prelude.{◌≡◌, ◌≤◌, ◌*◌, ◌+◌, ◌^◌, ◌<◌, [], IfOk, IsTrue, OnErr, OnOk};
+ghost use Rattle.std.specs.Prelude.{false};
 ghost use Rattle.std.specs.Io.KnownBytes.{Appends, Keeps};
-ghost use Rattle.recording.specs.Records.{IsAnswer, IsBegun, last_line, step_lines};
+ghost use Rattle.recording.specs.Records.{IsAnswer, IsBegun, IsEndAnswer, last_line, step_lines};
 ghost use Rattle.recording.specs.Zones.{zone_lines};
 
 use crate::recorded_zone::RecordedZone;
@@ -13,21 +14,32 @@ use std::io::{self, Write};
 use std::marker::Model;
 use zone_events::Outcome;
 
+/// Why a record goes no further, as its last line says.
+#[derive(Clone, Copy, Debug, PartialEq, Eq)]
+pub enum End {
+    /// The lines of another step would pass its bound.
+    Full,
+    /// The next step replaces a pool by one of which only the figures are known, not the kind that
+    /// a line shows.
+    PoolReplaced,
+    /// The next steps are lost: too many of them waited to be written.
+    Overrun,
+}
+
 /// What became of a step that was to be recorded.
 #[derive(Clone, Copy, Debug, PartialEq, Eq)]
 pub enum Recorded {
     /// Its two lines were written.
     Written,
-    /// They would have passed the bound. A last line says so in their place, and the record is
-    /// closed.
-    Full,
+    /// In their place a last line was written, which says why, and the record is closed.
+    Ended(End),
     /// The record was closed before, and nothing was written.
     Closed,
 }
 
 /// A record that is being written: how many steps and octets it has, how many octets it may have,
-/// and whether it is open. Contracts see these beside the output. Octets of the last line of a full
-/// record aren't counted.
+/// and whether it is open. Contracts see these beside the output. Octets of the last line of a
+/// record that ended aren't counted.
 #[derive(Drop)]
 pub struct RecordWriter<W: Write + Drop> {
     out: Output<W>,
@@ -77,16 +89,17 @@ fn put_zone(zone: &RecordedZone, lines: &mut Vec<u8>) -> io::Result<()>
     write_zone_lines(zone, lines)
 }
 
-/// Writes the last line of a record that is full.
-fn write_last_line<W: Write>(steps: u64, most: u64, out: &mut W) -> io::Result<()>
+/// Writes the last line of a record that ends.
+fn write_last_line<W: Write>(why: End, steps: u64, most: u64, out: &mut W) -> io::Result<()>
     ensures { OnOk result (Appends (W.contents out.old) (W.contents out.new)
-        (last_line steps most)) }
+        (last_line why steps most)) }
 {
-    write!(
-        out,
-        "# the record ends here: it has {steps} steps, and another would pass "
-    )?;
-    writeln!(out, "its bound of {most} octets")
+    write!(out, "# the record ends here: it has {steps} steps, and ")?;
+    match why {
+        End::Full => writeln!(out, "another would pass its bound of {most} octets"),
+        End::PoolReplaced => out.write_all(b"the next one replaces a pool\n"),
+        End::Overrun => out.write_all(b"too many others waited to be written\n"),
+    }
 }
 
 impl<W: Write + Drop> RecordWriter<W> {
@@ -105,7 +118,7 @@ impl<W: Write + Drop> RecordWriter<W> {
         put_zone(zone, &mut lines)?;
         let octets = lines.len() as u64;
         if octets > most {
-            write_last_line(0, most, &mut out)?;
+            write_last_line(End::Full, 0, most, &mut out)?;
             return Ok(RecordWriter {
                 out,
                 lines,
@@ -143,14 +156,30 @@ impl<W: Write + Drop> RecordWriter<W> {
         put_step(self.steps as usize + 1, event, outcome, &mut self.lines)?;
         let octets = self.lines.len() as u64;
         if octets > self.most - self.octets {
-            write_last_line(self.steps, self.most, &mut self.out)?;
-            return Ok(Recorded::Full);
+            write_last_line(End::Full, self.steps, self.most, &mut self.out)?;
+            return Ok(Recorded::Ended(End::Full));
         }
         self.out.write_all(&self.lines)?;
         self.steps += 1;
         self.octets += octets;
         self.is_open = true;
         Ok(Recorded::Written)
+    }
+
+    /// Ends the record, for this reason. If the last line isn't written as a whole, the record is
+    /// closed all the same.
+    ///
+    /// promise record-says-why-it-ends: An open record ends with a line that says why
+    /// (`IsEndAnswer`, `last_line`).
+    pub fn end(&mut self, why: End) -> io::Result<Recorded>
+        ensures { IsEndAnswer why self.old result self.new }
+    {
+        if self.is_open {
+            self.is_open = false;
+            write_last_line(why, self.steps, self.most, &mut self.out)?;
+            return Ok(Recorded::Ended(why));
+        }
+        Ok(Recorded::Closed)
     }
 
     /// How many steps were written.
@@ -167,13 +196,20 @@ impl<W: Write + Drop> RecordWriter<W> {
         self.is_open
     }
 
-    /// Flushes the output.
+    /// Flushes the output. If that fails, the record is closed.
     pub fn flush(&mut self) -> io::Result<()>
-        ensures same { self.new ≡ record self.old { output = self.new.output } }
+        ensures same { self.new
+            ≡ record self.old { output = self.new.output; is_open = self.new.is_open } }
         ensures text { Keeps self.old.output.contents self.new.output.contents }
         ensures flushed { OnOk result (IsTrue self.new.output.flushed) }
+        ensures open { OnOk result (self.new.is_open ≡ self.old.is_open) }
+        ensures closed { OnErr result (self.new.is_open ≡ false) }
     {
-        self.out.flush()
+        let flush = self.out.flush();
+        if flush.is_err() {
+            self.is_open = false;
+        }
+        flush
     }
 
     /// The output, with what was written.

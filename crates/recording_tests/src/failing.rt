@@ -15,9 +15,24 @@ const STRIDE: usize = 83;
 
 /// Takes so many octets, and fails from there on.
 #[derive(Drop)]
-struct Short {
+pub struct Short {
     text: Vec<u8>,
     most: usize,
+}
+
+impl Short {
+    pub fn new(alloc: Global, most: usize) -> Self {
+        Short {
+            text: Vec::new(alloc),
+            most,
+        }
+    }
+
+    /// What it took.
+    pub fn into_text(self) -> Vec<u8> {
+        let Short { text, .. } = self;
+        text
+    }
 }
 
 impl io::Write for Short {
@@ -51,10 +66,7 @@ fn of_front(front: &[u8]) -> Audited {
 /// whole record, and passes its audit.
 fn fails_behind(alloc: Global, whole: &[u8], most: usize) -> Result<(), Fail> {
     let zone = recorded_zone(alloc)?;
-    let out = Short {
-        text: Vec::new(alloc),
-        most,
-    };
+    let out = Short::new(alloc, most);
     let mut record = RecordWriter::begin(alloc, Output::new(out), &zone, u64::MAX)?;
     let call = record_call(alloc, &mut record)?;
     if call.count(None) != 1 || record.is_open() {
@@ -66,7 +78,7 @@ fn fails_behind(alloc: Global, whole: &[u8], most: usize) -> Result<(), Fail> {
     if written as u64 != steps || written.saturating_add(closed).saturating_add(1) != STEPS {
         return Err("nothing behind the step that failed".into());
     }
-    let text = record.into_output().into_writer().text;
+    let text = record.into_output().into_writer().into_text();
     if text.len() != most || !whole.starts_with(&text) {
         return Err("the front of the record".into());
     }
@@ -93,10 +105,7 @@ fn a_stream_fails_in_midway(rt: HostRuntime) -> Result<(), Fail> {
 #[test]
 fn the_zone_has_no_room(rt: HostRuntime) -> Result<(), Fail> {
     let zone = recorded_zone(rt.alloc())?;
-    let out = Short {
-        text: Vec::new(rt.alloc()),
-        most: 30,
-    };
+    let out = Short::new(rt.alloc(), 30);
     let record = RecordWriter::begin(rt.alloc(), Output::new(out), &zone, u64::MAX);
     assert!(rt; record.is_err());
     Ok(())

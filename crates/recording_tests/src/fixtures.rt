@@ -1,5 +1,6 @@
 //! The worked zone, whose steps are recorded as they are made.
 
+use books::Entry;
 use pools::{FixedPool, PoolSpec, PoolSpecs};
 use ras_core::{Config, Event, Moment, Zone};
 use ras_module::{Octets, Source};
@@ -11,6 +12,7 @@ use std::io::Write;
 use std::test::Fail;
 use vectors::requests::{ARQ, DRQ, GRQ, RRQ_101, RRQ_102};
 use worked_zone::{ENDPOINT, POOL, parts, zone};
+use zone_events::Change;
 
 /// How many steps the call has.
 pub const STEPS: usize = 7;
@@ -97,6 +99,37 @@ pub fn record_call<W: Write + Drop>(
     let call = record_steps(alloc, &mut zone, record);
     drop(zone);
     call
+}
+
+fn entry_of(
+    alloc: Global,
+    zone: &mut Zone<FixedPool>,
+    call: usize,
+) -> Result<Entry, Fail> {
+    let event = event_of(alloc, call)?;
+    let outcome = zone.step(event.copy()?)?;
+    Ok(Entry {
+        seat: 0,
+        call,
+        event: Change::Event(event),
+        outcome,
+    })
+}
+
+fn entries_by(alloc: Global, zone: &mut Zone<FixedPool>) -> Result<Vec<Entry>, Fail> {
+    let mut entries = Vec::new(alloc);
+    for call in 0..STEPS {
+        entries.push(entry_of(alloc, zone, call)?)?;
+    }
+    Ok(entries)
+}
+
+/// The steps of a call, as entries of a book.
+pub fn entries_of_call(alloc: Global) -> Result<Vec<Entry>, Fail> {
+    let mut zone = zone(alloc).ok_or("memory for a zone")?;
+    let entries = entries_by(alloc, &mut zone);
+    drop(zone);
+    entries
 }
 
 /// The record of a call, within a bound, and what became of each step.

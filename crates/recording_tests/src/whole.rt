@@ -4,7 +4,7 @@ use crate::fixtures::{
     Call, LINES_OF_THE_ZONE, STEPS, audited, record_call, record_within, recorded_zone,
 };
 use record_audit::Audited;
-use recording::{RecordWriter, Recorded};
+use recording::{End, RecordWriter, Recorded};
 use script::Output;
 use std::alloc::Global;
 use std::test::Fail;
@@ -61,7 +61,7 @@ fn ended_steps(alloc: Global, whole: &[u8], most: usize) -> Result<u64, Fail> {
 
 /// Whether one step filled a record, and none was written behind it; but for the zone's lines.
 fn ends_once(call: &Call) -> bool {
-    let full = call.count(Some(Recorded::Full));
+    let full = call.count(Some(Recorded::Ended(End::Full)));
     let steps = call.count(Some(Recorded::Written)).saturating_add(full);
     full <= 1 && steps.saturating_add(call.count(Some(Recorded::Closed))) == STEPS
 }
