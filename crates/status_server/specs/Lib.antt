@@ -1,2 +1,4 @@
 pub mod Bind
 pub mod Fields
+pub mod Pace
+pub mod Shown

@@ -9,6 +9,7 @@ mod answer;
 mod bound;
 mod fields;
 mod host;
+mod pace;
 mod pages;
 mod server;
 mod shown;

@@ -2,6 +2,7 @@
 
 use crate::bound::BoundListener;
 use crate::host::{Host, PageHost};
+use crate::pace::Pace;
 use crate::shown::Shown;
 use crate::view::View;
 use hyper::server::conn::http1::Builder;
@@ -13,7 +14,7 @@ use std::net::Net;
 use std::random::RandomSource;
 use std::rc::Rc;
 use std::sync::Wait;
-use std::time::{Clock, Duration};
+use std::time::{Clock, Duration, Instant};
 use tokio::net::TcpListener;
 use tokio::runtime::LocalRuntime;
 use tokio::task::LocalSet;
@@ -78,9 +79,14 @@ where
     let timers = runtime.handle().time().clone()?;
     let turn = Duration::from_millis(TURN);
     let works = LocalSet::new(rt.alloc())?;
+    let mut pace = Pace::new(Instant::now(rt)?);
     for _ in rt.forever() {
         if host.has_ended() {
             break;
+        }
+        if let Some(moment) = pace.pause() {
+            let pause = timers.sleep_until(moment)?;
+            let _ = works.block_on_local(rt, runtime, pause)?;
         }
         if host.open() >= MOST_CONNECTIONS {
             let pause = timers.sleep(rt, turn)?;
@@ -96,6 +102,7 @@ where
             let _ = works.block_on_local(rt, runtime, pause)?;
             continue;
         };
+        pace.count(Instant::now(rt)?);
         if let Ok(work) = host.work(socket) {
             let _ = works.spawn_local(work);
         }

@@ -1,6 +1,8 @@
 //! A zone as it is shown.
 
 ghost use Rattle.std.specs.Prelude.{◌≡◌, IfOk};
+ghost use Rattle.std.specs.String.{string_bytes};
+ghost use Rattle.status_server.specs.Shown.{IsHomeOf, IsRowPageOf};
 
 use crate::view::View;
 use status_page::{
@@ -54,6 +56,7 @@ fn age<R: Clock>(rt: &R, moment: Instant) -> Option<Duration> {
 fn copied(response: &Response) -> Result<Response, AllocError>
     ensures status { IfOk result (λ copy. copy.status ≡ response.now.status) }
     ensures content { IfOk result (λ copy. copy.content ≡ response.now.content) }
+    ensures text { IfOk result (λ copy. string_bytes copy.text ≡ string_bytes response.now.text) }
 {
     Ok(Response {
         status: response.status,
@@ -122,7 +125,10 @@ impl<'a, R: Clock, Z: RunningZone> Shown<'a, R, Z> {
     }
 
     /// A response with rows that are told now.
-    fn listed(&self, asked: &Asked) -> Result<Response, AllocError> {
+    fn listed(&self, asked: &Asked) -> Result<Response, AllocError>
+        ensures { IfOk result (IsRowPageOf self.now.about asked.now
+            (Z.has_endpoint self.now.zone.now) (Z.has_call self.now.zone.now)) }
+    {
         let alloc = self.alloc;
         match asked {
             Asked::Home(query) => self.home(query),
@@ -140,7 +146,10 @@ impl<'a, R: Clock, Z: RunningZone> Shown<'a, R, Z> {
     }
 
     /// The page for people.
-    fn home(&self, query: &Query) -> Result<Response, AllocError> {
+    fn home(&self, query: &Query) -> Result<Response, AllocError>
+        ensures { IfOk result (IsHomeOf self.now.about query.now
+            (Z.has_endpoint self.now.zone.now) (Z.has_call self.now.zone.now)) }
+    {
         let alloc = self.alloc;
         let most = query.most as usize;
         let overview = self.overview()?;
