@@ -24,8 +24,12 @@ use zone_view::RunningZone;
 /// How many octets are held before the system gets them.
 const BUFFER: usize = 65_536;
 
-/// How many milliseconds pass from one look at a zone in which nothing happens to the next.
+/// How many milliseconds pass from one look at a zone to the next: what was written by then is handed
+/// to the system.
 const PAUSE: u64 = 5;
+
+/// With how many entries at once the next ones are taken without a pause.
+const MANY: usize = 1_024;
 
 /// What a record is written into.
 pub type RecordFile = BufWriter<File>;
@@ -187,10 +191,10 @@ impl<R: Wait + Clock + Log, W: Write + Drop> Watcher for Recorder<'_, R, W> {
             // What is handed out of a zone that has ended is all that was left.
             let is_last = zone.has_ended();
             let mut handed = zone.hand_out(room);
-            let is_idle = handed.entries.is_empty();
+            let are_many = handed.entries.len() >= MANY;
             recorder.put(&mut handed);
             room = handed.entries;
-            if !is_idle {
+            if are_many {
                 continue;
             }
             if recorder.record.is_open() {
