@@ -94,7 +94,8 @@ fn a_record_ends_where_too_many_wait(rt: HostRuntime) -> Result<(), Fail> {
     assert_eq!(rt; record.end(End::Overrun)?, Recorded::Ended(End::Overrun));
     assert_eq!(rt; record.end(End::Overrun)?, Recorded::Closed);
     let text = record.into_output().into_writer();
-    let last = b"\n# the record ends here: it has 7 steps, and too many others waited to be written\n";
+    let last =
+        b"\n# the record ends here: it has 7 steps, and too many others waited to be written\n";
     assert!(rt; text.ends_with(last));
     let report = audited(rt.alloc(), &text)?;
     assert!(rt; report.steps == 7 && !report.is_cut_off);

@@ -17,8 +17,8 @@ pub trait RunningHistory: Drop {
     /// Takes the entries so far out of the history. Those that come next stand in `room`, which has
     /// none yet. It may wait for those who make steps, for as long as they make one.
     ///
-    /// promise taken-entries-are-of-the-history: The entries that are taken are those of the zone's
-    /// history, from the told place on (`gives`).
+    /// promise taken-entries-are-of-the-history: Entries that are taken are those of the zone's
+    /// history from the told place on.
     fn hand_out(&self, room: Vec<Entry>) -> HandedOut
         requires { room.items ≡ [] }
         ensures { gives self.now result.first result.entries.items result.is_recorded };

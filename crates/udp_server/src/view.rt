@@ -9,7 +9,7 @@ use books::Entry;
 use pools::{Figures, Pool};
 use std::sync::Wait;
 use std::sync::ledger::Ledger;
-use zone_lock::{HandedOut, Hall, ZoneLock};
+use zone_lock::{Hall, HandedOut, ZoneLock};
 use zone_view::{CallRow, Counts, EndpointRow, RunningZone, ServerFigures, ZoneFigures};
 
 /// A server that runs: the lock of its zone, what its threads count, and whether they have ended.
