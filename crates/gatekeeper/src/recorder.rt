@@ -166,7 +166,11 @@ impl<R: Log, W: Write + Drop> Recorder<'_, R, W> {
                 warn_of_end(self.rt, self.name, why, self.record.steps());
                 self.flush();
             }
-            Err(_) => warn_of_lost_record(self.rt, self.name),
+            Err(_) => {
+                warn_of_lost_record(self.rt, self.name);
+                // What was held before may still find its way.
+                let _ = self.record.flush();
+            }
         }
     }
 
