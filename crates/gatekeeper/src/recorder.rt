@@ -24,8 +24,11 @@ use zone_view::RunningZone;
 /// How many octets are held before the system gets them.
 const BUFFER: usize = 65_536;
 
-/// How many milliseconds pass from one look at a zone in which nothing happens to the next.
+/// How many milliseconds pass from one look at a zone to the next.
 const PAUSE: u64 = 5;
+
+/// If so many steps were made meanwhile, the next look follows at once.
+const MANY: usize = 4_096;
 
 /// What a record is written into.
 pub type RecordFile = BufWriter<File>;
@@ -191,10 +194,10 @@ impl<R: Wait + Clock + Log, W: Write + Drop> Watcher for Recorder<'_, R, W> {
             // What is handed out of a zone that has ended is all that was left.
             let is_last = zone.has_ended();
             let mut handed = zone.hand_out(room);
-            let is_idle = handed.entries.is_empty();
+            let count = handed.entries.len();
             recorder.put(&mut handed);
             room = handed.entries;
-            if !is_idle {
+            if count >= MANY {
                 continue;
             }
             if recorder.record.is_open() {
