@@ -16,6 +16,7 @@ mod elapsed;
 mod notices;
 mod over_socket;
 mod page_server;
+mod planned_record;
 mod recorder;
 mod report;
 mod serve;

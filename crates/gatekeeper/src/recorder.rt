@@ -24,12 +24,11 @@ use zone_view::RunningZone;
 /// How many octets are held before the system gets them.
 const BUFFER: usize = 65_536;
 
-/// How many milliseconds pass from one look at a zone to the next: what was written by then is handed
-/// to the system.
+/// How many milliseconds pass from one look at a zone to the next.
 const PAUSE: u64 = 5;
 
-/// With how many entries at once the next ones are taken without a pause.
-const MANY: usize = 1_024;
+/// If so many steps were made meanwhile, the next look follows at once.
+const MANY: usize = 4_096;
 
 /// What a record is written into.
 pub type RecordFile = BufWriter<File>;
@@ -170,7 +169,11 @@ impl<R: Log, W: Write + Drop> Recorder<'_, R, W> {
                 warn_of_end(self.rt, self.name, why, self.record.steps());
                 self.flush();
             }
-            Err(_) => warn_of_lost_record(self.rt, self.name),
+            Err(_) => {
+                warn_of_lost_record(self.rt, self.name);
+                // What was held before may still find its way.
+                let _ = self.record.flush();
+            }
         }
     }
 
@@ -191,10 +194,10 @@ impl<R: Wait + Clock + Log, W: Write + Drop> Watcher for Recorder<'_, R, W> {
             // What is handed out of a zone that has ended is all that was left.
             let is_last = zone.has_ended();
             let mut handed = zone.hand_out(room);
-            let are_many = handed.entries.len() >= MANY;
+            let count = handed.entries.len();
             recorder.put(&mut handed);
             room = handed.entries;
-            if are_many {
+            if count >= MANY {
                 continue;
             }
             if recorder.record.is_open() {

@@ -1,6 +1,6 @@
 //! Serving a zone over UDP.
 
-ghost use Rattle.std.specs.Prelude.{◌≡◌, ◌≤◌, ◌↔◌, IfOk, IfSome, IsSome, map};
+ghost use Rattle.std.specs.Prelude.{◌≡◌, ◌≤◌, IfOk, IfSome, map};
 ghost use Rattle.script.specs.Runs.{start_of};
 ghost use Rattle.gatekeeper.specs.Serves.{AreServed, IsReportWritten, IsServiceWritten, zone_set};
 ghost use Rattle.settings.specs.Settings.{AreSettings};
@@ -8,22 +8,20 @@ ghost use Rattle.udp_server.specs.Plans.{IsPlan};
 ghost use Rattle.udp_server.specs.Served.{IsServed};
 
 use crate::attendants::attendants_of;
-use crate::notices::{
-    tell_cause, tell_place, tell_unrecordable, tell_zone, warn_of, warn_of_faults,
-};
+use crate::notices::{tell_cause, tell_place, tell_zone, warn_of, warn_of_faults};
 use crate::over_socket::{ask_for_buffer, serve_socket};
 use crate::page_server::{bind_page, watcher_of};
+use crate::planned_record::{PlannedRecord, planned_record};
 use crate::recorder::begin_record;
 use crate::report::print_report;
 use crate::service::{Service, Task};
 use crate::serving_fault::{RunningFault, ServingFault};
 use crate::source::Source;
-use commands::{ReadInput, Recording, Serving, are_new, pools_of, read_input};
+use commands::{ReadInput, Serving, are_new, pools_of, read_input};
 use log::Log;
-use pools::{Pool, PoolSet, PoolSpecs};
+use pools::{Pool, PoolSet};
 use ras_core::{Config, NewFault, Zone};
 use ras_module::Address;
-use recording::RecordedZone;
 use script::Output;
 use settings::Settings;
 use status_page::About;
@@ -50,37 +48,6 @@ fn zone_of<P: Pool>(alloc: Global, config: Config, pools: Vec<P>) -> Result<Zone
         Ok(zone) => Ok(zone),
         Err((_, NewFault::WrongPools)) => Err(RunningFault::WrongPools),
         Err((_, NewFault::Memory)) => Err(RunningFault::Memory),
-    }
-}
-
-/// A record that is to be written of a zone.
-#[derive(Drop)]
-struct PlannedRecord<'a> {
-    zone: RecordedZone,
-    recording: Recording<'a>,
-}
-
-/// What is to be recorded of the zone that is set, if anything is. If lines can't describe the
-/// zone, the log tells why.
-fn planned_record<'a, R: Log>(
-    rt: &R,
-    config: &Config,
-    specs: PoolSpecs,
-    recording: Option<Recording<'a>>,
-) -> Result<Option<PlannedRecord<'a>>, RunningFault>
-    ensures zone { IfOk result (λ planned. IfSome planned
-        (λ it. it.zone ≡ record { config = config.now; pools = specs })) }
-    ensures planned { IfOk result (λ planned. IsSome planned ↔ IsSome recording) }
-{
-    let Some(recording) = recording else {
-        return Ok(None);
-    };
-    match RecordedZone::new(config.copy()?, specs) {
-        Ok(zone) => Ok(Some(PlannedRecord { zone, recording })),
-        Err(fault) => {
-            tell_unrecordable(rt, fault);
-            Err(RunningFault::Record)
-        }
     }
 }
 
