@@ -197,12 +197,14 @@ impl<R: Wait + Clock + Log, W: Write + Drop> Watcher for Recorder<'_, R, W> {
             let count = handed.entries.len();
             recorder.put(&mut handed);
             room = handed.entries;
+            if !recorder.record.is_open() {
+                zone.stop(room);
+                break;
+            }
             if count >= MANY {
                 continue;
             }
-            if recorder.record.is_open() {
-                recorder.flush();
-            }
+            recorder.flush();
             if is_last {
                 break;
             }

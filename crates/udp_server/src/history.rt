@@ -22,4 +22,9 @@ pub trait RunningHistory: Drop {
     fn hand_out(&self, room: Vec<Entry>) -> HandedOut
         requires { room.items ≡ [] }
         ensures { gives self.now result.first result.entries.items result.is_recorded };
+
+    /// Lets the entries so far go, and has no further step recorded: nobody takes entries any more.
+    /// `room` has none.
+    fn stop(&self, room: Vec<Entry>)
+        requires { room.items ≡ [] };
 }

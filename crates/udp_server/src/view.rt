@@ -32,6 +32,10 @@ impl<P: Pool, D: Hall, T: Ledger, U: Ledger, V: Ledger, R: Wait> RunningHistory
     fn hand_out(&self, room: Vec<Entry>) -> HandedOut {
         self.lock.hand_out(self.rt, room)
     }
+
+    fn stop(&self, room: Vec<Entry>) {
+        drop(self.lock.discard(self.rt, room));
+    }
 }
 
 impl<P: Pool, D: Hall, T: Ledger, U: Ledger, V: Ledger, R: Wait> RunningZone
