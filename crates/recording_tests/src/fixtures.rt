@@ -101,11 +101,7 @@ pub fn record_call<W: Write + Drop>(
     call
 }
 
-fn entry_of(
-    alloc: Global,
-    zone: &mut Zone<FixedPool>,
-    call: usize,
-) -> Result<Entry, Fail> {
+fn entry_of(alloc: Global, zone: &mut Zone<FixedPool>, call: usize) -> Result<Entry, Fail> {
     let event = event_of(alloc, call)?;
     let outcome = zone.step(event.copy()?)?;
     Ok(Entry {
