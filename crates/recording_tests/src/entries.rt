@@ -18,13 +18,26 @@ fn empty_record(alloc: Global) -> Result<RecordWriter<Vec<u8>>, Fail> {
     Ok(RecordWriter::begin(alloc, Output::new(Vec::new(alloc)), &zone, u64::MAX)?)
 }
 
+/// The first entries of a call, so many, and the others.
+fn parted(alloc: Global, at: usize) -> Result<(Vec<Entry>, Vec<Entry>), Fail> {
+    let mut first = Vec::new(alloc);
+    let mut rest = Vec::new(alloc);
+    for entry in entries_of_call(alloc)? {
+        if first.len() < at {
+            first.push(entry)?;
+        } else {
+            rest.push(entry)?;
+        }
+    }
+    Ok((first, rest))
+}
+
 #[test]
 fn entries_are_the_steps(rt: HostRuntime) -> Result<(), Fail> {
     let (whole, _) = record_within(rt.alloc(), u64::MAX)?;
     for at in 0..=STEPS {
         let mut record = empty_record(rt.alloc())?;
-        let mut first = entries_of_call(rt.alloc())?;
-        let mut rest = first.split_off(at)?;
+        let (mut first, mut rest) = parted(rt.alloc(), at)?;
         assert_eq!(rt; record.write_entries(&mut first)?, Recorded::Written);
         assert_eq!(rt; record.write_entries(&mut rest)?, Recorded::Written);
         assert!(rt; first.is_empty() && rest.is_empty());
@@ -68,8 +81,7 @@ fn replacement(call: usize) -> Entry {
 #[test]
 fn a_record_ends_where_a_pool_is_replaced(rt: HostRuntime) -> Result<(), Fail> {
     let mut record = empty_record(rt.alloc())?;
-    let mut entries = entries_of_call(rt.alloc())?;
-    let mut rest = entries.split_off(3)?;
+    let (mut entries, mut rest) = parted(rt.alloc(), 3)?;
     entries.push(replacement(3))?;
     entries.append(&mut rest)?;
     let answer = record.write_entries(&mut entries)?;
