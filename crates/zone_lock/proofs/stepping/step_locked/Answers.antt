@@ -1,4 +1,4 @@
-use Rattle.std.proofs.Common.{arith, ap, refl, subst, sym, ◌∙◌, ◌+◌, ◌-◌}
+use Rattle.std.proofs.Common.{arith, ap, false, refl, subst, sym, ◌∙◌, ◌+◌, ◌-◌}
 use Rattle.zone_events.specs.declared.change.Change.TheVariants as change
 use Rattle.zone_tables.proofs.Answered.{on_ok}
 use Rattle.books.specs.Totals.{changes_of_kind, datagrams_of_kind, turns_of_kind}
