@@ -54,22 +54,23 @@ module _ (before : Option (List ℕ)) (zone : ZoneParts) where
     grown = none_more steps old was;
     last = answers;
   }
-  grown_up_to {E} steps (entry ∷ entries) result old new was answers = match answers
-    | inl wrote ↦ let first = has_step {E = E} old (step_of entry) wrote.0 wrote.1 in
-        let rest = grown_up_to (steps ++ first.step ∷ []) entries result wrote.0 new
-        (one_more before zone steps first.step old wrote.0 was first.wrote) wrote.2 in record {
-      front = entry ∷ rest.front;
-      behind = rest.behind;
-      parts = ap (λ (others : List Entry). entry ∷ others) rest.parts;
-      between = rest.between;
-      grown = one_before steps entry rest.front first.step rest.between first.is_told rest.grown;
-      last = rest.last;
-    }
-    | inr answer ↦ record {
-      front = [];
-      behind = entry ∷ entries;
-      parts = refl;
-      between = old;
-      grown = none_more steps old was;
-      last = answer;
-    }
+  grown_up_to {E} steps (entry ∷ entries) result old new was (inl wrote) =
+      let first = has_step {E = E} old (step_of entry) wrote.0 wrote.1 in
+      let rest = grown_up_to (steps ++ first.step ∷ []) entries result wrote.0 new
+      (one_more before zone steps first.step old wrote.0 was first.wrote) wrote.2 in
+      record {
+        front = entry ∷ rest.front;
+        behind = rest.behind;
+        parts = ap (λ (others : List Entry). entry ∷ others) rest.parts;
+        between = rest.between;
+        grown = one_before steps entry rest.front first.step rest.between first.is_told rest.grown;
+        last = rest.last;
+      }
+  grown_up_to steps (entry ∷ entries) result old new was (inr answer) = record {
+    front = [];
+    behind = entry ∷ entries;
+    parts = refl;
+    between = old;
+    grown = none_more steps old was;
+    last = answer;
+  }

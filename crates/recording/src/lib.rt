@@ -11,8 +11,9 @@ mod recorded_zone;
 mod writer;
 mod zone_lines;
 
-pub use laws::{written_entries_are_the_record, written_steps_are_the_record};
-pub use laws::zone_lines_are_read_again;
+pub use laws::{
+    written_entries_are_the_record, written_steps_are_the_record, zone_lines_are_read_again,
+};
 pub use recorded_zone::{RecordedZone, ZoneFault};
 pub use writer::{End, RecordWriter, Recorded};
 pub use zone_lines::write_zone_lines;
