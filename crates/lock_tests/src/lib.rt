@@ -10,6 +10,8 @@ mod discarding;
 #[cfg(test)]
 mod fixtures;
 #[cfg(test)]
+mod handing;
+#[cfg(test)]
 mod least_grant;
 #[cfg(test)]
 mod listing;

@@ -5,6 +5,7 @@ ghost use Rattle.std.specs.Prelude.{◌≡◌};
 use crate::chapters::cut_and_audit;
 use crate::discarding::discard_and_audit;
 use crate::fixtures::{CALL_LIMIT, Looked, zone, zone_of};
+use crate::handing::hand_out_and_fill;
 use crate::least_grant::return_a_loan;
 use crate::listing::list_and_audit;
 use crate::replacing::{refuse_pools, replace_and_audit};
@@ -31,6 +32,7 @@ pub enum Deed {
     SeatMissing,
     Chapters,
     Discarding,
+    HandingOut,
     Threads,
     ReturnedLoan,
     ReplacedPool,
@@ -87,6 +89,7 @@ fn open_and_do<
             Deed::SeatMissing => finish_without_a_seat(lock, seats),
             Deed::Chapters => cut_and_audit(rt, alloc, lock, seats),
             Deed::Discarding => discard_and_audit(rt, alloc, lock, seats),
+            Deed::HandingOut => hand_out_and_fill(rt, alloc, lock, seats),
             Deed::Threads => enter_all(rt, alloc, lock, seats),
             Deed::ReturnedLoan => return_a_loan(rt, alloc, lock, seats),
             Deed::ReplacedPool => replace_and_audit(rt, alloc, lock, seats),

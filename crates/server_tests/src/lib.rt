@@ -14,6 +14,8 @@ mod failing;
 #[cfg(test)]
 mod fixtures;
 #[cfg(test)]
+mod handing;
+#[cfg(test)]
 mod loopback;
 #[cfg(test)]
 mod meeting;

@@ -1,7 +1,7 @@
 -- A history that is one entry longer, or from which a chapter is cut.
 use Rattle.std.proofs.Common.{◌≡◌, ◌≤◌, ◌<◌, ◌+◌, ◌-◌, ◌*◌, ◌^◌, ℕ, List, [], ◌∷◌, ◌++◌}
 use Rattle.std.proofs.Common.{length, refl, sym, ◌∙◌, ap, subst, arith}
-use Rattle.std.specs.Prelude.{Option, None, Some}
+use Rattle.std.specs.Prelude.{Option, None, Some, Bool, true, false}
 use Rattle.std.proofs.Common.{length-append}
 use Rattle.std.proofs.lemmas.List.Sums.{sum_by-append}
 use Rattle.admission.specs.Calls.{in_use}
@@ -42,6 +42,7 @@ longer h entry after = record {
   first = h.first;
   carried = h.carried;
   base = h.base;
+  is_recorded = h.is_recorded;
   entries = h.entries ++ entry ∷ [];
   zone = after;
 }
@@ -57,6 +58,7 @@ kept_more opened h entry after kept change =
       places = kept.places;
       totals = kept.totals;
       base = kept.base;
+      copied = kept.copied;
       run = run_more kept.began h.zone.state after.state h.entries entry kept.run step;
       first = kept.first;
       opened_before = kept.opened_before;
@@ -75,11 +77,12 @@ unfolding kept_more
 past_kept opened h entry after kept step = refl
 
 -- what is held, by its parts
-abbrev pub cut_so : ℕ → Totals → Option State → List Entry → Running → Held
-cut_so first carried base entries zone = record {
+abbrev pub cut_so : ℕ → Totals → Option State → Bool → List Entry → Running → Held
+cut_so first carried base is_recorded entries zone = record {
   first = first;
   carried = carried;
   base = base;
+  is_recorded = is_recorded;
   entries = entries;
   zone = zone;
 }
@@ -135,11 +138,11 @@ pub inside_entered : (opened : State) (h : Held) (sums next : Totals)
     → next.changes ≡ sums.changes + changes_in entry.event
     → d1 ≡ d + datagrams_in entry.event → t1 ≡ t + turns_in entry.event
     → u1 ≡ u + units_lent entry.outcome.answer → v1 ≡ v + changes_in entry.event
-    → IsInside opened (cut_so h.first h.carried h.base es after) next units d1 t1 u1 v1
+    → IsInside opened (cut_so h.first h.carried h.base h.is_recorded es after) next units d1 t1 u1 v1
 inside_entered opened h sums next units d t u v d1 t1 u1 v1 entry after es items is step few ds ts
     us rs cs dt tt ut vt =
-    subst (λ (x : List Entry). IsInside opened (cut_so h.first h.carried h.base x after) next units
-    d1 t1 u1 v1) (sym items)
+    subst (λ (x : List Entry). IsInside opened
+    (cut_so h.first h.carried h.base h.is_recorded x after) next units d1 t1 u1 v1) (sym items)
     (inside_more opened h sums next units d t u v d1 t1 u1 v1 entry after is step few ds ts us rs
     cs dt tt ut vt)
 
@@ -250,7 +253,7 @@ module _ (opened : State) (h : Held) (sums carried : Totals) (units d t u v : �
         );
       }
 
-  kept_cut : IsKept opened (cut_so (h.first + length h.entries) carried None [] h.zone)
+  kept_cut : IsKept opened (cut_so (h.first + length h.entries) carried None false [] h.zone)
   kept_cut =
       let fair = book_is_fair is.kept.began h.zone.state h.entries is.kept.run in
       let none : lent_of [] ≡ 0 = refl in record {
@@ -261,6 +264,7 @@ module _ (opened : State) (h : Held) (sums carried : Totals) (units d t u v : �
         places = omega (arith, is.kept.places, length-append is.kept.past h.entries);
         totals = totals_joined;
         base = λ s is_base. absurd (cc is_base);
+        copied = λ s is_base. absurd (cc is_base);
         run = refl;
         first = omega (arith, ds, ts, cs, (so_many opened h sums units d t u v is).0);
         opened_before = is.kept.opened_before;
@@ -272,7 +276,7 @@ module _ (opened : State) (h : Held) (sums carried : Totals) (units d t u v : �
         few = omega (arith, is.kept.few);
       }
 
-  pub inside_cut : IsInside opened (cut_so (h.first + length h.entries) carried None [] h.zone)
+  pub inside_cut : IsInside opened (cut_so (h.first + length h.entries) carried None false [] h.zone)
       carried units d t u v
   inside_cut = record {
     kept = kept_cut;
@@ -299,7 +303,7 @@ pub inside_opened : (opened : State) (zone : Running) (base : State) (es : List 
     (carried sums : Totals) (units d t u v : ℕ) → opened ≡ zone.state → Sound zone.state
     → base ≡ zone.state → es ≡ [] → carried ≡ no_totals → sums ≡ no_totals
     → units ≡ in_use zone.state.tables.calls → d ≡ 0 → t ≡ 0 → u ≡ 0 → v ≡ 0
-    → IsInside opened (cut_so 0 carried (Some base) es zone) sums units d t u v
+    → IsInside opened (cut_so 0 carried (Some base) true es zone) sums units d t u v
 inside_opened opened zone base es carried sums units d t u v at sound based none nothing sum used
     ds ts us vs =
     let same : zone.state ≡ opened = sym at in
@@ -324,6 +328,7 @@ inside_opened opened zone base es carried sums units d t u v at sound based none
           changes = omega (arith, c0);
         };
         base = λ s is_base. (let it : base ≡ s = cc is_base in sym it ∙ based);
+        copied = λ _ _. refl;
         run = subst (λ (xs : List Entry). BookRun zone.state xs zone.state) (sym none) refl;
         first = omega (arith, d0, t0, c0);
         opened_before = subst Sound same sound;
@@ -348,7 +353,7 @@ inside_opened opened zone base es carried sums units d t u v at sound based none
 pub inside_based : (opened : State) (h : Held) (sums : Totals) (units d t u v : ℕ)
     (next : Option State)
     → IsInside opened h sums units d t u v → h.entries ≡ [] → next ≡ Some h.zone.state
-    → IsInside opened (cut_so h.first h.carried next h.entries h.zone) sums units d t u v
+    → IsInside opened (cut_so h.first h.carried next true h.entries h.zone) sums units d t u v
 inside_based opened h sums units d t u v next is none same =
     let now : h.zone.state ≡ is.kept.began =
     subst (λ (es : List Entry). BookRun is.kept.began es h.zone.state) none is.kept.run in record {
@@ -361,6 +366,7 @@ inside_based opened h sums units d t u v next is none same =
         base = λ s is_base.
             (let both : Some s ≡ Some h.zone.state = sym is_base ∙ same in
             let it : s ≡ h.zone.state = cc both in it ∙ now);
+        copied = λ _ _. refl;
         run = is.kept.run;
         first = is.kept.first;
         opened_before = is.kept.opened_before;
@@ -379,3 +385,36 @@ inside_based opened h sums units d t u v next is none same =
       changes = is.changes;
       few_lent = is.few_lent;
     }
+
+-- Where no copy of a state is kept, steps may be recorded or not.
+pub inside_flagged : (opened : State) (h : Held) (sums : Totals) (units d t u v : ℕ)
+    (is_recorded : Bool) → IsInside opened h sums units d t u v → h.base ≡ None
+    → IsInside opened (cut_so h.first h.carried h.base is_recorded h.entries h.zone) sums units d
+    t u v
+inside_flagged opened h sums units d t u v is_recorded is none = record {
+  kept = record {
+    past = is.kept.past;
+    began = is.kept.began;
+    before = is.kept.before;
+    places = is.kept.places;
+    totals = is.kept.totals;
+    base = is.kept.base;
+    copied = λ s is_base. absurd (cc (none, is_base));
+    run = is.kept.run;
+    first = is.kept.first;
+    opened_before = is.kept.opened_before;
+    opened_at = is.kept.opened_at;
+    settings = is.kept.settings;
+    carried = is.kept.carried;
+    backed = is.kept.backed;
+    sound = is.kept.sound;
+    few = is.kept.few;
+  };
+  opened_units = is.opened_units;
+  so_far = is.so_far;
+  datagrams = is.datagrams;
+  turns = is.turns;
+  lent = is.lent;
+  changes = is.changes;
+  few_lent = is.few_lent;
+}

@@ -1,7 +1,9 @@
 -- A history that is one step longer, whose entry is kept or not.
-use Rattle.std.proofs.Common.{◌≡◌, ◌≢◌, ◌≤◌, ◌<◌, ◌+◌, ◌-◌, ◌^◌, ℕ, List, [], ◌∷◌, ◌++◌}
+use Rattle.std.proofs.Common.{◌≡◌, ◌≤◌, ◌<◌, ◌+◌, ◌-◌, ◌^◌, ℕ, List, [], ◌∷◌, ◌++◌}
 use Rattle.std.proofs.Common.{length, length-append, refl, sym, ◌∙◌, ap, subst, arith}
-use Rattle.std.specs.Prelude.{Option, None, Some, Result, Ok, Err, OnOk, is_some, false}
+use Rattle.std.specs.Prelude.{Option, None, Some, Result, Ok, Err, OnOk, is_some, Bool, false, true}
+use Rattle.std.specs.Prelude.{◌&&◌, ◌||◌}
+use Rattle.std.specs.Option.{ForSome}
 use Rattle.std.proofs.lemmas.List.{append-nil, append_assoc}
 use Rattle.admission.specs.Calls.{in_use}
 use Rattle.zone_events.specs.declared.change.Change.{Change}
@@ -16,28 +18,39 @@ use Rattle.books.specs.declared.totals.Totals.{Totals}
 use Rattle.books.specs.Totals.{changes_in, datagrams_in}
 use Rattle.books.specs.Totals.{turns_in, units_lent}
 use Rattle.zone_lock.specs.Held.{AreCarriedOn, Held, IsEntered, IsInside, IsKept, IsMadeUnderLock}
-use Rattle.zone_lock.specs.Held.{entry_by}
+use Rattle.zone_lock.specs.Held.{entry_by, goes_on}
 use Rattle.zone_lock.specs.Seats.{Seated}
 use Rattle.zone_lock.proofs.Histories.{backed_all, cut_so, inside_cut, inside_more, kept_more}
 use Rattle.zone_lock.proofs.Histories.{longer, past_cut, past_kept}
 
--- no copy of a state is kept if none is there
-pub none_if : (base : Option State) → is_some base ≡ false → base ≡ None
-none_if None is = refl
-none_if (Some state) is = absurd (cc is)
+-- no copy of a state is kept if a step isn't recorded
+pub none_if_off : (base : Option State) (is_recorded few : Bool)
+    → ForSome base (λ _. is_recorded ≡ true)
+    → (is_recorded && (is_some base || few)) ≡ false → base ≡ None
+none_if_off None is_recorded few copied off = refl
+none_if_off (Some state) is_recorded few copied off =
+    let so : (true && (true || few)) ≡ false =
+    subst (λ (b : Bool). (b && (true || few)) ≡ false) (copied state refl) off in
+    absurd (cc so)
+
+-- steps are recorded if one is
+pub on_if : (is_recorded room : Bool) → (is_recorded && room) ≡ true → is_recorded ≡ true
+on_if true room on = refl
+on_if false room on = absurd (cc on)
 
 -- what is held after one entry more, by its parts
 pub longer_by : (old new : Held) (entry : Entry) → new.first ≡ old.first
-    → new.carried ≡ old.carried → new.base ≡ old.base → new.entries ≡ old.entries ++ entry ∷ []
-    → new ≡ longer old entry new.zone
-longer_by old new entry first carried base entries =
-    λ i. cut_so (first i) (carried i) (base i) (entries i) new.zone
+    → new.carried ≡ old.carried → new.base ≡ old.base → new.is_recorded ≡ old.is_recorded
+    → new.entries ≡ old.entries ++ entry ∷ [] → new ≡ longer old entry new.zone
+longer_by old new entry first carried base recorded entries =
+    λ i. cut_so (first i) (carried i) (base i) (recorded i) (entries i) new.zone
 
--- the entry stands behind the others, since a copy of the state in which the book begins is kept
+-- the entry stands behind the others, since steps are recorded
 pub entered_recorded : (opened : State) (old : Held) (entry : Entry) (after : Running) (new : Held)
     → IsKept opened old → RunningChange old.zone entry.event entry.outcome after
-    → old.base ≢ None → new ≡ longer old entry after → IsEntered opened old entry new
-entered_recorded opened old entry after new kept step some is =
+    → goes_on old ≡ true → new ≡ longer old entry after → IsEntered opened old entry new
+entered_recorded opened old entry after new kept step on is =
+    let recorded : old.is_recorded ≡ true = on_if old.is_recorded _ on in
     subst (λ (x : Held). IsEntered opened old entry x) (sym is) (record {
       before = kept;
       after = kept_more opened old entry after kept step;
@@ -45,8 +58,9 @@ entered_recorded opened old entry after new kept step some is =
           (past_kept opened old entry after kept step)
           ∙ sym (append_assoc kept.past old.entries (entry ∷ []));
       base = refl;
+      recording = recorded ∙ sym on;
       recorded = λ _. record { entries = refl; first = refl; carried = refl };
-      unrecorded = λ none. absurd (some none);
+      unrecorded = λ off. absurd (cc (recorded, off));
     })
 
 -- what is in use after a step, and what was lent up to it
@@ -94,7 +108,7 @@ module _ (opened : State) (h : Held) (sums next carried : Totals)
   }
 
   abbrev behind : Held
-  behind = cut_so (h.first + length (h.entries ++ entry ∷ [])) carried None [] after
+  behind = cut_so (h.first + length (h.entries ++ entry ∷ [])) carried None false [] after
 
   abbrev behind_is : IsInside opened behind carried units d1 t1 u1 v1
   behind_is = inside_cut opened (longer h entry after) next carried units d1 t1 u1 v1 longer_is cd
@@ -104,14 +118,14 @@ module _ (opened : State) (h : Held) (sums next carried : Totals)
   module _ (first : ℕ) (base : Option State) (es : List Entry)
       (first_is : first ≡ h.first + length h.entries + 1) (base_is : base ≡ None) (none : es ≡ [])
     where
-      same : cut_so first carried base es after ≡ behind
+      same : cut_so first carried base false es after ≡ behind
       same =
           let place : first ≡ h.first + length (h.entries ++ entry ∷ []) =
           omega (arith, first_is, length-append h.entries (entry ∷ [])) in
-          λ i. cut_so (place i) carried (base_is i) (none i) after
+          λ i. cut_so (place i) carried (base_is i) false (none i) after
 
-      pub inside_unrecorded : IsInside opened (cut_so first carried base es after) carried units d1
-          t1 u1 v1
+      pub inside_unrecorded : IsInside opened (cut_so first carried base false es after) carried
+          units d1 t1 u1 v1
       inside_unrecorded =
           subst (λ (x : Held). IsInside opened x carried units d1 t1 u1 v1) (sym same) behind_is
 
@@ -123,8 +137,8 @@ module _ (opened : State) (h : Held) (sums next carried : Totals)
         changes = cn ∙ ap (λ (x : Totals). x.changes) longer_is.so_far;
       }
 
-      entered_behind : h.base ≡ None → IsEntered opened h entry behind
-      entered_behind empty = record {
+      entered_behind : goes_on h ≡ false → IsEntered opened h entry behind
+      entered_behind off = record {
         before = is.kept;
         after = behind_is.kept;
         history = append-nil behind_is.kept.past
@@ -133,8 +147,9 @@ module _ (opened : State) (h : Held) (sums next carried : Totals)
             ∙ (ap (λ past. past ++ (h.entries ++ entry ∷ []))
             (past_kept opened h entry after is.kept step)
             ∙ sym (append_assoc is.kept.past h.entries (entry ∷ []))));
-        base = sym empty;
-        recorded = λ some. absurd (some empty);
+        base = sym (none_if_off h.base h.is_recorded _ is.kept.copied off);
+        recording = sym off;
+        recorded = λ on. absurd (cc on);
         unrecorded = λ _. record {
           entries = refl;
           first = omega (arith, length-append h.entries (entry ∷ []));
@@ -142,10 +157,10 @@ module _ (opened : State) (h : Held) (sums next carried : Totals)
         };
       }
 
-      pub entered_unrecorded : h.base ≡ None
-          → IsEntered opened h entry (cut_so first carried base es after)
-      entered_unrecorded empty =
-          subst (λ (x : Held). IsEntered opened h entry x) (sym same) (entered_behind empty)
+      pub entered_unrecorded : goes_on h ≡ false
+          → IsEntered opened h entry (cut_so first carried base false es after)
+      entered_unrecorded off =
+          subst (λ (x : Held). IsEntered opened h entry x) (sym same) (entered_behind off)
 
 -- a step of the zone that was locked is one of some sound zone
 pub made_under_lock : (A E : Type 0) (opened : State) (r : Result A E) (old new : Held)

@@ -15,7 +15,7 @@ invariant_of-locked g c =
     ∙ (gone.zone ∙ sym (ap (λ (h : Held). h.zone) c.locked.view_is)) in
     let next : c.in_ok-end.next ≡ l.zone.state =
     c.in_ok-end.ensures.both.1 ∙ sym (ap (λ (z : Running). z.state) zone) in (
-      inside_based g.D.Hall.opened (cut_so l.first l.carried l.base l.entries.items l.zone) l.so_far
+      inside_based g.D.Hall.opened (cut_so l.first l.carried l.base l.is_recorded l.entries.items l.zone) l.so_far
           l.opened_units _ _ _ _ (Some c.in_ok-end.next) c.locked-2.invariant.0 none (ap Some next),
       c.locked-2.invariant.1,
     )

@@ -1,5 +1,5 @@
 use Rattle.std.proofs.Common.{ap, sym, refl, subst, ℕ, List, length, ◌∙◌, ◌+◌, ◌-◌}
-use Rattle.std.specs.Prelude.{Option}
+use Rattle.std.specs.Prelude.{Option, false}
 use Rattle.ras_machine.specs.State.{State}
 use Rattle.books.specs.declared.book.Entry.{Entry}
 use Rattle.books.specs.declared.totals.Totals.{Totals}
@@ -17,7 +17,7 @@ invariant_of-locked g c =
       returned = l.opened_units + l.so_far.lent - c.in_use.result;
       changes = l.so_far.changes;
     } in
-    let h = cut_so l.first l.carried l.base l.entries.items l.zone in
+    let h = cut_so l.first l.carried l.base l.is_recorded l.entries.items l.zone in
     let cut = inside_cut g.D.Hall.opened h l.so_far carried l.opened_units _ _ _ _
     c.locked.invariant.0 refl refl refl
     (ap (λ (n : ℕ). l.opened_units + l.so_far.lent - n) c.in_use.ensures.sum) refl in
@@ -25,19 +25,19 @@ invariant_of-locked g c =
     let entries_are = ap (λ v. v.items) c.replace-entries.ensures.after ∙ c.requires in
     let first_is = ap (λ (n : ℕ). l.first + n) (c.len.ensures ∙ l.entries.ok.0) in (
       subst (λ (n : ℕ). IsInside g.D.Hall.opened
-          (cut_so n carried c.replace-base.new.dest c.replace-entries.new.dest.items l.zone) carried
+          (cut_so n carried c.replace-base.new.dest false c.replace-entries.new.dest.items l.zone) carried
           l.opened_units l.ledgers.datagrams.total l.ledgers.turns.total l.ledgers.lent.total
           l.ledgers.changes.total)
           (sym first_is)
           (subst (λ (s : Option State). IsInside g.D.Hall.opened
-          (cut_so (l.first + length l.entries.items) carried s c.replace-entries.new.dest.items
+          (cut_so (l.first + length l.entries.items) carried s false c.replace-entries.new.dest.items
           l.zone)
           carried l.opened_units l.ledgers.datagrams.total l.ledgers.turns.total
           l.ledgers.lent.total
           l.ledgers.changes.total)
           (sym base_is)
           (subst (λ (es : List Entry). IsInside g.D.Hall.opened
-          (cut_so (l.first + length l.entries.items) carried _ es l.zone) carried
+          (cut_so (l.first + length l.entries.items) carried _ false es l.zone) carried
           l.opened_units l.ledgers.datagrams.total l.ledgers.turns.total l.ledgers.lent.total
           l.ledgers.changes.total)
           (sym entries_are) cut)),

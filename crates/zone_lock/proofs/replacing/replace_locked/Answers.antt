@@ -43,7 +43,8 @@ invariant_of-locked-2 g c =
     let next = c.with_step-locked-inside.ensures in (
       inside_entered g.D.Hall.opened
           (cut_so c.locked.inside.first c.locked.inside.carried c.locked.inside.base
-          c.locked.inside.entries.items c.locked.inside.zone) c.locked.inside.so_far
+          c.locked.inside.is_recorded c.locked.inside.entries.items c.locked.inside.zone)
+          c.locked.inside.so_far
           c.with_step-locked-inside.result c.locked.inside.opened_units _ _ _ _ _ _ _ _ entry
           c.replace.new.self _ items c.locked.invariant.0 step next.few next.datagrams next.turns
           next.lent next.returned next.changes

@@ -24,4 +24,4 @@ returns-clause-entered g c =
     (subst (λ (o : Outcome). RunningStep old.zone c.args.prepared o new.zone) (sym same)
     told.step)
     c.requires
-    (longer_by old new entry clauses.first clauses.carried clauses.base entries)
+    (longer_by old new entry clauses.first clauses.carried clauses.base clauses.recorded entries)
