@@ -18,7 +18,7 @@ pub trait RunningHistory: Drop {
     /// none yet. It may wait for those who make steps, for as long as they make one.
     ///
     /// promise taken-entries-are-of-the-history: The entries that are taken are those of the zone's
-    /// history, from the told place on (`gives`).
+    /// history, from the told place on.
     fn hand_out(&self, room: Vec<Entry>) -> HandedOut
         requires { room.items ≡ [] }
         ensures { gives self.now result.first result.entries.items result.is_recorded };
