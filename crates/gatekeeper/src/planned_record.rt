@@ -1,6 +1,7 @@
 //! What is to be recorded of a zone.
 
-ghost use Rattle.std.specs.Prelude.{◌≡◌, ◌↔◌, IfOk, IfSome, IsSome};
+ghost use Rattle.std.specs.Prelude.{◌≡◌, ◌↔◌, IfOk, IfSome, IsSome, Ok};
+ghost use Rattle.recording.specs.Zones.{recorded_zone};
 
 use crate::notices::tell_unrecordable;
 use crate::serving_fault::RunningFault;
@@ -26,7 +27,7 @@ pub fn planned_record<'a, R: Log>(
     recording: Option<Recording<'a>>,
 ) -> Result<Option<PlannedRecord<'a>>, RunningFault>
     ensures zone { IfOk result (λ planned. IfSome planned
-        (λ it. it.zone ≡ record { config = config.now; pools = specs })) }
+        (λ it. recorded_zone config.now specs ≡ Ok it.zone)) }
     ensures planned { IfOk result (λ planned. IsSome planned ↔ IsSome recording) }
 {
     let Some(recording) = recording else {

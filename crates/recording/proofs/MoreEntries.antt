@@ -1,6 +1,7 @@
 -- A record that grew by the steps of entries.
-use Rattle.std.proofs.Common.{◌≡◌, ◌≢◌, ◌+◌, ℕ, List, [], ◌∷◌, ◌++◌, Option, Some, None, Result}
+use Rattle.std.proofs.Common.{◌≡◌, ◌≢◌, ◌+◌, ℕ, List, [], ◌∷◌, ◌++◌, Option, Some, None, Result, Ok}
 use Rattle.std.proofs.Common.{inl, inr, refl, sym, ap, ◌∙◌, append_assoc, append-nil, subst, map}
+use Rattle.std.specs.declared.io.Error.{Error}
 use Rattle.books.specs.declared.book.Entry.{Entry}
 use Rattle.recording.specs.declared.writer.Recorded.{Recorded}
 use Rattle.recording.specs.declared.writer.Recorded.TheVariants.{Written}
@@ -16,8 +17,8 @@ pub record HasStep (old : Standing) (told : Option RecordedStep) (new : Standing
   pub is_told : told ≡ Some step
   pub wrote : IsWritten old (step_lines (old.steps + 1) step) new
 
-has_step : {E : Type 0} (old : Standing) (told : Option RecordedStep) (new : Standing)
-    → IsToldAnswer {E = E} old told (Result.Ok Written) new → HasStep old told new
+has_step : (old : Standing) (told : Option RecordedStep) (new : Standing)
+    → IsToldAnswer {E = Error} old told (Ok Written) new → HasStep old told new
 has_step old None new answer = absurd answer
 has_step old (Some step) new answer = record { step = step; is_told = refl; wrote = answer }
 
@@ -43,8 +44,8 @@ module _ (before : Option (List ℕ)) (zone : ZoneParts) where
         (append_assoc steps (step ∷ []) grown.more) grown.is_record;
   }
 
-  pub grown_up_to : {E : Type 0} (steps : List RecordedStep) (entries : List Entry)
-      (result : Result Recorded E) (old new : Standing) → IsRecordOf before zone steps old
+  pub grown_up_to : (steps : List RecordedStep) (entries : List Entry)
+      (result : Result Recorded Error) (old new : Standing) → IsRecordOf before zone steps old
       → AreAnswered old entries result new → HasGrownUpTo before zone steps entries result new
   grown_up_to steps [] result old new was answers = record {
     front = [];
@@ -54,22 +55,23 @@ module _ (before : Option (List ℕ)) (zone : ZoneParts) where
     grown = none_more steps old was;
     last = answers;
   }
-  grown_up_to {E} steps (entry ∷ entries) result old new was answers = match answers
-    | inl wrote ↦ let first = has_step {E = E} old (step_of entry) wrote.0 wrote.1 in
-        let rest = grown_up_to (steps ++ first.step ∷ []) entries result wrote.0 new
-        (one_more before zone steps first.step old wrote.0 was first.wrote) wrote.2 in record {
-      front = entry ∷ rest.front;
-      behind = rest.behind;
-      parts = ap (λ (others : List Entry). entry ∷ others) rest.parts;
-      between = rest.between;
-      grown = one_before steps entry rest.front first.step rest.between first.is_told rest.grown;
-      last = rest.last;
-    }
-    | inr answer ↦ record {
-      front = [];
-      behind = entry ∷ entries;
-      parts = refl;
-      between = old;
-      grown = none_more steps old was;
-      last = answer;
-    }
+  grown_up_to steps (entry ∷ entries) result old new was (inl wrote) =
+      let first = has_step old (step_of entry) wrote.0 wrote.1 in
+      let rest = grown_up_to (steps ++ first.step ∷ []) entries result wrote.0 new
+      (one_more before zone steps first.step old wrote.0 was first.wrote) wrote.2 in
+      record {
+        front = entry ∷ rest.front;
+        behind = rest.behind;
+        parts = ap (λ (others : List Entry). entry ∷ others) rest.parts;
+        between = rest.between;
+        grown = one_before steps entry rest.front first.step rest.between first.is_told rest.grown;
+        last = rest.last;
+      }
+  grown_up_to steps (entry ∷ entries) result old new was (inr answer) = record {
+    front = [];
+    behind = entry ∷ entries;
+    parts = refl;
+    between = old;
+    grown = none_more steps old was;
+    last = answer;
+  }

@@ -1,6 +1,7 @@
 //! What holds of every record.
 
 ghost use Rattle.std.specs.Prelude.{ℕ, ◌+◌, ◌++◌, ◌∷◌, [], List, Option, Result};
+ghost use Rattle.std.specs.declared.io.Error.{Error};
 ghost use Rattle.books.specs.declared.book.Entry.{Entry};
 ghost use Rattle.recording.specs.declared.writer.Recorded.{Recorded};
 ghost use Rattle.recording.specs.Records.{AreAnswered, HasGrownUpTo, IsRecordOf, IsWritten};
@@ -36,8 +37,8 @@ pub fn written_steps_are_the_record()
 /// promise record-has-its-entries: A record has grown by the entries' steps, up to one at which it
 /// was closed (`HasGrownUpTo`).
 pub fn written_entries_are_the_record()
-    ensures { {E : Type 0} → (before : Option (List ℕ)) (zone : ZoneParts)
-        (steps : List RecordedStep) (entries : List Entry) (result : Result Recorded E)
+    ensures { (before : Option (List ℕ)) (zone : ZoneParts)
+        (steps : List RecordedStep) (entries : List Entry) (result : Result Recorded Error)
         (old new : Standing) → IsRecordOf before zone steps old
         → AreAnswered old entries result new
         → HasGrownUpTo before zone steps entries result new }

@@ -3,7 +3,8 @@
 ghost use Rattle.std.specs.Prelude.{◌≡◌, ◌≤◌, ◌*◌, ◌+◌, ◌^◌, ◌<◌, [], IfOk, IsTrue, OnErr, OnOk};
 ghost use Rattle.std.specs.Prelude.{false};
 ghost use Rattle.std.specs.Io.KnownBytes.{Appends, Keeps};
-ghost use Rattle.recording.specs.Records.{IsAnswer, IsBegun, IsEndAnswer, last_line, step_lines};
+ghost use Rattle.recording.specs.Records.{IsAnswer, IsBegun, IsEndAnswer, end_text, last_line};
+ghost use Rattle.recording.specs.Records.{step_lines};
 ghost use Rattle.recording.specs.Zones.{zone_lines};
 
 use crate::recorded_zone::RecordedZone;
@@ -89,17 +90,25 @@ fn put_zone(zone: &RecordedZone, lines: &mut Vec<u8>) -> io::Result<()>
     write_zone_lines(zone, lines)
 }
 
+/// Writes why a record with this bound ends.
+fn write_end<W: Write>(why: End, most: u64, out: &mut W) -> io::Result<()>
+    ensures { OnOk result (Appends (W.contents out.old) (W.contents out.new)
+        (end_text why most)) }
+{
+    match why {
+        End::Full => writeln!(out, "another would pass its bound of {most} octets"),
+        End::PoolReplaced => out.write_all(b"the next one replaces a pool\n"),
+        End::Overrun => out.write_all(b"too many others waited to be written\n"),
+    }
+}
+
 /// Writes the last line of a record that ends.
 fn write_last_line<W: Write>(why: End, steps: u64, most: u64, out: &mut W) -> io::Result<()>
     ensures { OnOk result (Appends (W.contents out.old) (W.contents out.new)
         (last_line why steps most)) }
 {
     write!(out, "# the record ends here: it has {steps} steps, and ")?;
-    match why {
-        End::Full => writeln!(out, "another would pass its bound of {most} octets"),
-        End::PoolReplaced => out.write_all(b"the next one replaces a pool\n"),
-        End::Overrun => out.write_all(b"too many others waited to be written\n"),
-    }
+    write_end(why, most, out)
 }
 
 impl<W: Write + Drop> RecordWriter<W> {
