@@ -1,5 +1,5 @@
 -- How fast connections are accepted: in rounds, each of at most so many.
-use Rattle.std.specs.Prelude.{ℕ, ◌+◌, Bool, nat_le, if◌then◌else◌}
+use Rattle.std.specs.Prelude.{◌+◌, Bool, nat_le, if◌then◌else◌}
 use Rattle.std.specs.declared.time.Instant.{Instant}
 use Rattle.status_server.specs.declared.pace.Pace.{Pace}
 use Rattle.status_server.specs.declared.pace.TheConstants.{MOST_ACCEPTED}

@@ -1,11 +1,10 @@
 -- What the pages with rows show of a zone. A zone says which rows are those of endpoints or calls
 -- that it has at some moment.
-use Rattle.std.specs.Prelude.{ℕ, ◌≡◌, ◌≤◌, All, IsTrue, List, Option, vec_len}
+use Rattle.std.specs.Prelude.{ℕ, ◌≡◌, ◌≤◌, All, IsTrue, List, vec_len}
 use Rattle.std.specs.Cmp.Lexicographic.{slice_cmp}
 use Rattle.std.specs.List.Sorted.{IsStrictlySortedBy}
 use Rattle.std.specs.Ordering.{nat_cmp}
 use Rattle.std.specs.String.{string_bytes}
-use Rattle.ras_module.specs.declared.call_key.CallKey.{CallKey}
 use Rattle.zone_view.specs.declared.rows.CallRow.{CallRow}
 use Rattle.zone_view.specs.declared.rows.EndpointRow.{EndpointRow}
 use Rattle.status_page.specs.Home.{home_text}
@@ -47,10 +46,10 @@ IsPage content text response = (response.status ≡ Found) × (response.content 
 -- the page for people, with endpoints and calls of a zone; of its figures nothing is said here
 abbrev pub IsHomeOf : About → Query → (EndpointRow → Type 0) → (CallRow → Type 0) → Response → Type 0
 IsHomeOf about query HasEndpoint HasCall response =
-    (overview : Overview) × ((endpoints : EndpointList) × ((calls : CallList)
+    (overview : Overview) × (endpoints : EndpointList) × (calls : CallList)
     × AreEndpointsOf HasEndpoint query endpoints
     × AreCallsOf HasCall query calls
-    × IsPage Html (home_text about overview query endpoints calls) response))
+    × IsPage Html (home_text about overview query endpoints calls) response
 
 -- the list of endpoints of a zone in JSON
 abbrev pub IsEndpointPageOf : Query → (EndpointRow → Type 0) → Response → Type 0
