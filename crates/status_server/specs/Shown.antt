@@ -44,7 +44,8 @@ IsPage content text response = (response.status ≡ Found) × (response.content 
     × (string_bytes response.text ≡ text)
 
 -- the page for people, with endpoints and calls of a zone; of its figures nothing is said here
-abbrev pub IsHomeOf : About → Query → (EndpointRow → Type 0) → (CallRow → Type 0) → Response → Type 0
+abbrev pub IsHomeOf : About → Query → (EndpointRow → Type 0) → (CallRow → Type 0) → Response
+    → Type 0
 IsHomeOf about query HasEndpoint HasCall response =
     (overview : Overview) × (endpoints : EndpointList) × (calls : CallList)
     × AreEndpointsOf HasEndpoint query endpoints
@@ -64,7 +65,8 @@ IsCallPageOf query HasCall response =
     × IsPage Json (calls_text list.rows.items list.is_more) response
 
 -- the page with rows of a zone that is asked for; what has no rows isn't found here
-abbrev pub IsRowPageOf : About → Asked → (EndpointRow → Type 0) → (CallRow → Type 0) → Response → Type 0
+abbrev pub IsRowPageOf : About → Asked → (EndpointRow → Type 0) → (CallRow → Type 0) → Response
+    → Type 0
 IsRowPageOf about (Home query) HasEndpoint HasCall response =
     IsHomeOf about query HasEndpoint HasCall response
 IsRowPageOf about (Endpoints query) HasEndpoint HasCall response =

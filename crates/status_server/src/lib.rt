@@ -1,7 +1,8 @@
 //! A server of the status pages of a running zone over HTTP, for a thread of its own. It answers
 //! reads and nothing else.
 //!
-//! proved: that it is safe; status, fields and body of an answer follow from its response
+//! proved: that it is safe; status, fields and body are those of a response; rows that aren't told
+//! again are the zone's
 //! tested: the built program
 #![tactic(auto)]
 
