@@ -40,7 +40,7 @@ pub fn attendants_of<'a, R, W: Write + Drop>(
     recorder: Option<Recorder<'a, R, W>>,
 ) -> Result<Vec<Attendant<'a, R, W>>, AllocError>
     ensures { IfOk result (λ attendants. vec_len attendants
-        ≡ length (option_to_list page) + length (option_to_list recorder)) }
+        ≡ length (option_to_list page.entry) + length (option_to_list recorder.entry)) }
 {
     let mut attendants = Vec::with_capacity(alloc, 2)?;
     if let Some(page) = page {

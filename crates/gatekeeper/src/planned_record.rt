@@ -28,7 +28,7 @@ pub fn planned_record<'a, R: Log>(
 ) -> Result<Option<PlannedRecord<'a>>, RunningFault>
     ensures zone { IfOk result (λ planned. IfSome planned
         (λ it. recorded_zone config.now specs ≡ Ok it.zone)) }
-    ensures planned { IfOk result (λ planned. IsSome planned ↔ IsSome recording) }
+    ensures planned { IfOk result (λ planned. IsSome planned ↔ IsSome recording.entry) }
 {
     let Some(recording) = recording else {
         return Ok(None);
