@@ -1,6 +1,6 @@
 //! Those who look at a zone while it is served, each in a thread of its own.
 
-ghost use Rattle.std.specs.Prelude.{◌≡◌, ◌+◌, IfOk, length, option_to_list, vec_len};
+ghost use Rattle.std.specs.Prelude.{◌≡◌, ◌≤◌, ◌<◌, ◌+◌, IfOk, length, option_to_list, vec_capacity, vec_len};
 
 use crate::page_server::PageServer;
 use crate::recorder::Recorder;
@@ -33,6 +33,36 @@ impl<R: Wait + Clock + Net + RandomSource + AllocGlobal + Log, W: Write + Drop> 
     }
 }
 
+/// Adds the one who serves the page, if there is one, behind the others.
+fn add_page<'a, R, W: Write + Drop>(
+    page: Option<PageServer<'a, R>>,
+    attendants: &mut Vec<Attendant<'a, R, W>>,
+)
+    requires { vec_len attendants.old < vec_capacity attendants.old }
+    ensures added { vec_len attendants.new
+        ≡ vec_len attendants.old + length (option_to_list page.entry) }
+    ensures one { vec_len attendants.new ≤ vec_len attendants.old + 1 }
+    ensures room { vec_capacity attendants.new ≡ vec_capacity attendants.old }
+{
+    if let Some(page) = page {
+        attendants.push_reserved(Attendant::Page(page));
+    }
+}
+
+/// Adds the one who writes the record, if there is one, behind the others.
+fn add_recorder<'a, R, W: Write + Drop>(
+    recorder: Option<Recorder<'a, R, W>>,
+    attendants: &mut Vec<Attendant<'a, R, W>>,
+)
+    requires { vec_len attendants.old < vec_capacity attendants.old }
+    ensures added { vec_len attendants.new
+        ≡ vec_len attendants.old + length (option_to_list recorder.entry) }
+{
+    if let Some(recorder) = recorder {
+        attendants.push_reserved(Attendant::Record(recorder));
+    }
+}
+
 /// Those who are wanted.
 pub fn attendants_of<'a, R, W: Write + Drop>(
     alloc: Global,
@@ -43,11 +73,7 @@ pub fn attendants_of<'a, R, W: Write + Drop>(
         ≡ length (option_to_list page.entry) + length (option_to_list recorder.entry)) }
 {
     let mut attendants = Vec::with_capacity(alloc, 2)?;
-    if let Some(page) = page {
-        attendants.push_reserved(Attendant::Page(page));
-    }
-    if let Some(recorder) = recorder {
-        attendants.push_reserved(Attendant::Record(recorder));
-    }
+    add_page(page, &mut attendants);
+    add_recorder(recorder, &mut attendants);
     Ok(attendants)
 }
