@@ -115,7 +115,10 @@ fn serve_and_take<R: Threads + Wait + Clock + Sync>(rt: &R, alloc: Global) -> Lo
         has_gap: &has_gap,
     };
     let report = report(rt, alloc, &room, taker).ok_or(NOT_SERVED)?;
-    let (datagrams, steps) = (report.datagrams, report.datagrams + report.turns);
+    let (datagrams, steps) = (
+        report.datagrams,
+        report.datagrams.saturating_add(report.turns),
+    );
     let is_empty = report.finished.entries().is_empty();
     drop(report);
     expect(datagrams == 4 * DATAGRAMS, "all datagrams are served")?;
