@@ -51,6 +51,22 @@ fn zone_of<P: Pool>(alloc: Global, config: Config, pools: Vec<P>) -> Result<Zone
     }
 }
 
+/// The zone that is set, before its first event, once it is seen that these pools are its pools.
+fn set_zone<P: Pool>(
+    alloc: Global,
+    settings: &Settings,
+    pools: Vec<P>,
+) -> Result<Zone<P>, RunningFault>
+    ensures start { IfOk result (λ zone. zone ≡ zone_set settings.now) }
+{
+    if !are_new(&pools, settings.pools.as_slice()) {
+        return Err(RunningFault::WrongPools);
+    }
+    let config = settings.config.copy()?;
+    let zone = zone_of(alloc, config, pools)?;
+    Ok(zone)
+}
+
 /// Serves a zone over a socket, its status page if that has an address, and writes its record if
 /// one is planned. The record is begun last, so that what can't be served leaves none.
 fn serve_attended<
@@ -125,9 +141,7 @@ fn serve_pools<
         r.changes) }
 {
     let service = Service::of(&settings, task.receives, task.record.is_some());
-    if !are_new(&pools, settings.pools.as_slice()) {
-        return Err(RunningFault::WrongPools);
-    }
+    let zone = set_zone(alloc, &settings, pools)?;
     let Settings {
         config,
         pools: specs,
@@ -137,7 +151,6 @@ fn serve_pools<
     let planned = planned_record(rt, &config, specs, task.record)?;
     let parts = config.parts();
     let (name, address) = (parts.identifier, parts.address);
-    let zone = zone_of(alloc, config, pools)?;
     let socket = match bind_zone(rt, address) {
         Ok(socket) => socket,
         Err(fault) => {
