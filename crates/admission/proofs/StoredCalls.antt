@@ -20,6 +20,7 @@ use Rattle.ras_module.specs.CallKeys.{same_call_key}
 use Rattle.ras_module.specs.Same.{call_key_decides}
 use Rattle.ras_module.specs.declared.call_key.CallKey.{CallKey}
 use Rattle.ras_module.proofs.CallKeyOrder.{call_key_cmp_total, call_key_cmp-IsAntisymmetric}
+use Rattle.admission.specs.declared.table.TheConstants.Calls as calls_table
 use Rattle.admission.specs.declared.call.Call.{Call}
 use Rattle.admission.specs.Calls.{OpenCalls, CallTable, EachCall, units_from, has_leg, legs_in}
 use Rattle.admission.specs.Calls.{leg_at, IsInNoCall, IsCall, IsConsistent, Becomes, Adds}
@@ -57,7 +58,7 @@ module _ (P : Call → Type 0) where
       (λ differ. each k c (sym (change.others k differ) ∙ there))
 
 pub AreStored-empty : {S : Type 0} (calls : IndexMap CallKey Call S) (most : ℕ) → hash.IsEmpty calls
-    → most ≤ 20000 → AreStored calls most
+    → most ≤ calls_table.MOST → AreStored calls most
 AreStored-empty calls most empty few =
     let none : open_of calls ≡ fin.empty = ap open_calls_of empty in
     record {

@@ -9,6 +9,7 @@ use Rattle.ras_module.specs.CallKeys.{call_key_cmp}
 use Rattle.ras_module.specs.declared.call_key.CallKey.{CallKey}
 use Rattle.admission.specs.declared.call.Call.{Call}
 use Rattle.admission.specs.declared.leg.Leg.{Leg}
+use Rattle.admission.specs.declared.table.TheConstants.Calls as calls_table
 use Rattle.admission.specs.Legs.{AreLegs, leg_of, same_leg, without_leg}
 
 -- what is known of each call
@@ -130,7 +131,7 @@ EachLeg P calls = EachCall (λ call. All P call.legs) calls
 pub record IsConsistent (t : CallTable) : Type 0 where
   pub each : EachCall IsCall t.calls
   pub few : len t.calls ≤ t.most
-  pub most : t.most ≤ 20000
+  pub most : t.most ≤ calls_table.MOST
 
 -- the table has the same calls, and no less room
 pub record Stays (old new : CallTable) : Type 0 where

@@ -9,12 +9,13 @@ ghost use Rattle.admission.specs.Calls.{units_from, leg_count, has_leg, legs_in}
 ghost use Rattle.admission.specs.Legs.{leg_of};
 
 use crate::call::Call;
+use crate::table::Calls;
 use indexmap::IndexMap;
 use ras_module::{CallKey, EndpointId};
 
 /// The units of the calls of one pool.
 pub(crate) fn units_of_pool(calls: &IndexMap<CallKey, Call>, pool: usize) -> u64
-    requires { length calls.now.entries ≤ 20000 }
+    requires { length calls.now.entries ≤ Calls.MOST }
     ensures { result ≡ sum_by (units_from pool) (values calls.now) }
 {
     let mut sum = 0;

@@ -81,10 +81,13 @@ impl Model for Calls {
 }
 
 impl Calls {
+    /// The most calls that a table may be for.
+    pub const MOST: usize = 20_000;
+
     /// A table with no call, in which at most this many may be open. This takes no memory.
     pub fn new(alloc: Global, most: usize) -> Self
         requires some { 1 ≤ most }
-        requires few { most ≤ 20000 }
+        requires few { most ≤ Self.MOST }
         ensures calls { result.calls ≡ map.empty }
         ensures most { result.most ≡ most }
         ensures sound { IsConsistent result }

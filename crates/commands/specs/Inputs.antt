@@ -5,6 +5,7 @@ use Rattle.settings.specs.declared.fault.SettingsFault.{SettingsFault}
 use Rattle.settings.specs.declared.fault.SettingsFault.TheVariants as settings
 use Rattle.settings.specs.Settings.{settings_of, IsAnswer}
 use Rattle.settings.specs.declared.settings.Settings.{Settings}
+use Rattle.commands.specs.declared.settings_input.TheConstants.{MOST_READ}
 use Rattle.commands.specs.declared.settings_input.InputFault.{InputFault}
 use Rattle.commands.specs.declared.settings_input.InputFault.TheVariants.{Stream, TooLong}
 use Rattle.commands.specs.declared.settings_input.InputFault.TheVariants.{NotText, Refused}
@@ -22,7 +23,7 @@ input_status Memory = 3
 -- a reading of the octets as such ends so: that they are too many is told only if they are
 abbrev pub IsReadFault : List ℕ → InputFault → Type 0
 IsReadFault octets Stream = Unit {0}
-IsReadFault octets TooLong = 1048576 < length octets
+IsReadFault octets TooLong = MOST_READ < length octets
 IsReadFault octets Memory = Unit {0}
 IsReadFault octets fault = ⊥
 
@@ -41,16 +42,16 @@ IsTextRead text (Err fault) = ⊥
 -- the octets are no more than are read, are UTF-8, and give settings as a text; or else the fault
 -- says which of this fails
 abbrev pub IsInputRead : List ℕ → Result ReadInput InputFault → Type 0
-IsInputRead octets (Err TooLong) = 1048576 < length octets
+IsInputRead octets (Err TooLong) = MOST_READ < length octets
 IsInputRead octets (Err (NotText line)) = IsUtf8 octets → ⊥
 IsInputRead octets (Err Stream) = Unit {0}
 IsInputRead octets (Err Memory) = Unit {0}
 IsInputRead octets answer =
-    (length octets ≤ 1048576) × IsUtf8 octets × IsTextRead octets answer
+    (length octets ≤ MOST_READ) × IsUtf8 octets × IsTextRead octets answer
 
 -- the octets are settings: no more than are read, UTF-8, and a text that gives settings
 pub record GivesSettings (octets : List ℕ) : Type 0 where
-  pub few : length octets ≤ 1048576
+  pub few : length octets ≤ MOST_READ
   pub text : IsUtf8 octets
   pub values : Settings
   pub given : settings_of octets ≡ Some (Ok values)

@@ -13,7 +13,7 @@ use std::io::{ErrorKind, Read};
 use thiserror::Error;
 
 /// The octets that settings have at most.
-const MOST: usize = 1_048_576;
+const MOST_READ: usize = 1_048_576;
 
 /// Why an input gives no settings.
 #[derive(Clone, Copy, Debug, PartialEq, Eq, Error)]
@@ -79,13 +79,13 @@ pub struct ReadInput {
 /// The octets of an input, to its end. At most one octet past the greatest size is read.
 pub(crate) fn read_octets<R: Read + Drop>(alloc: Global, input: R) -> Result<Vec<u8>, InputFault>
     ensures ok { IfSome (R.remaining input) (λ octets. IfOk result (λ read.
-        (read.items ≡ octets) × (length octets ≤ 1048576))) }
+        (read.items ≡ octets) × (length octets ≤ MOST_READ))) }
     ensures err { IfSome (R.remaining input) (λ octets. IfErr result (IsReadFault octets)) }
 {
-    let mut front = input.take(MOST as u64 + 1);
+    let mut front = input.take(MOST_READ as u64 + 1);
     let mut octets = Vec::new(alloc);
     match front.read_to_end(&mut octets) {
-        Ok(_) if octets.len() > MOST => Err(InputFault::TooLong),
+        Ok(_) if octets.len() > MOST_READ => Err(InputFault::TooLong),
         Ok(_) => Ok(octets),
         Err(error) if error.kind() == ErrorKind::OutOfMemory => Err(InputFault::Memory),
         Err(_) => Err(InputFault::Stream),

@@ -11,6 +11,7 @@ use crate::worker::{Hand, Mark, Worker};
 use books::{Book, Entry};
 use pools::Pool;
 use ras_core::Zone;
+use ras_module::Reply;
 use std::alloc::{AllocError, Global};
 use std::marker::Model;
 use zone_events::{Change, Datagram, Event, Outcome};
@@ -39,9 +40,6 @@ pub enum Acted {
     Nothing,
     Took(Datagram),
 }
-
-/// The most octets of an output.
-const MAX_OUTPUT: usize = 20_000;
 
 /// A zone with its book, and workers with a ring each.
 #[derive(Drop)]
@@ -244,7 +242,7 @@ impl<P: Pool> World<P> {
             unreachable!()
         };
         let event = event.copy()?;
-        let buffer = Vec::with_capacity(alloc, MAX_OUTPUT)?;
+        let buffer = Vec::with_capacity(alloc, Reply::MOST)?;
         self.book.reserve_entry()?;
         let Ok(outcome) = self.zone.step(event) else {
             return Err(WorldFault::Memory);
@@ -303,7 +301,7 @@ fn acted_by(mark: Mark) -> Acted
 fn copy_of(outcome: &Outcome, buffer: Vec<u8>) -> Outcome
     requires empty { buffer.items ≡ [] }
     requires few { HasFewOctets outcome.now.output }
-    requires room { 20000 ≤ vec_capacity buffer }
+    requires room { Reply.MOST ≤ vec_capacity buffer }
     ensures { result ≡ outcome.now }
 {
     outcome.copy_into(buffer)

@@ -13,6 +13,7 @@ use Rattle.keyed.proofs.Entries as entries
 use Rattle.keyed.proofs.Listed.{IsMapOf-pairs}
 use Rattle.keyed.proofs.Maps as maps
 use Rattle.keyed.proofs.Places.{IsMapOf}
+use Rattle.kept_replies.specs.declared.table.TheConstants.Kept as kept_table
 use Rattle.kept_replies.specs.Keys.{same_key}
 use Rattle.kept_replies.specs.Kept.{KeptReplies, KeptTable, AreEntries, AreBornApart, IsEntry}
 use Rattle.kept_replies.specs.Kept.{IsFreeBirth, IsConsistent, Becomes, Adds, kept_of, without}
@@ -78,7 +79,7 @@ get_row rows key =
     sym (entries.get_entries key_decides key_cmp_total key_cmp-IsAntisymmetric rows.entries key)
 
 pub AreStored-empty : {S : Type 0} (rows : IndexMap KeptKey KeptEntry S) (most : ℕ)
-    → hash.IsEmpty rows → most ≤ 65536 → AreStored rows most
+    → hash.IsEmpty rows → most ≤ kept_table.MOST → AreStored rows most
 AreStored-empty rows most empty few =
     let none : rows_of rows ≡ fin.empty = ap kept_of empty in
     record {

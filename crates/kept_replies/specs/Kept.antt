@@ -9,6 +9,7 @@ use Rattle.std.specs.FinMap.{FinMap, get, remove, len, entries, from_entries}
 use Rattle.keyed.specs.Places as places
 use Rattle.ras_module.specs.declared.reply.Reply.{Reply}
 use Rattle.ras_module.specs.declared.request.Request.{Request}
+use Rattle.kept_replies.specs.declared.table.TheConstants.Kept as kept_table
 use Rattle.kept_replies.specs.Keys.{key_cmp}
 use Rattle.kept_replies.specs.Told.{identifier_in}
 use Rattle.kept_replies.specs.declared.key.KeptKey.{KeptKey}
@@ -171,4 +172,4 @@ pub record IsConsistent (t : KeptTable) : Type 0 where
   pub each : AreEntries t.kept
   pub births : AreBornApart t.kept
   pub few : len t.kept ≤ t.most
-  pub most : t.most ≤ 65536
+  pub most : t.most ≤ kept_table.MOST

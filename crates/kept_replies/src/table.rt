@@ -77,10 +77,13 @@ impl Model for Kept {
 }
 
 impl Kept {
+    /// The most replies that a table may be for.
+    pub const MOST: usize = 65_536;
+
     /// A table with nothing kept, for at most this many replies. This takes no memory.
     pub fn new(alloc: Global, most: usize) -> Self
         requires some { 1 ≤ most }
-        requires few { most ≤ 65536 }
+        requires few { most ≤ Self.MOST }
         ensures kept { result.kept ≡ map.empty }
         ensures most { result.most ≡ most }
         ensures sound { IsConsistent result }

@@ -7,6 +7,7 @@ use Rattle.std.specs.FinMap as fin
 use Rattle.keyed.proofs.Decide.{same_some}
 use Rattle.ras_module.specs.declared.address.Address.{Address}
 use Rattle.ras_module.specs.declared.request.Request.{Request}
+use Rattle.ras_module.specs.declared.request.TheConstants.Request as request_octets
 use Rattle.ras_reading.specs.Messages.{message_reading}
 use Rattle.ras_writing.specs.Replies.{encoding_of}
 use Rattle.kept_replies.specs.declared.key.KeptKey.{KeptKey}
@@ -44,7 +45,7 @@ answered steps false now answer outcome after is = absurd (cc is)
 
 module _ (s : State) (source : Address) (bytes : List ℕ) (now : ℕ)
     (request : Request) (entry : KeptEntry)
-    (few : length bytes ≤ 4096) (read : message_reading bytes ≡ Ok (Some request))
+    (few : length bytes ≤ request_octets.MOST) (read : message_reading bytes ≡ Ok (Some request))
     (served : HasReply request)
     (there : fin.get s.kept (record { source = source; bytes = bytes }) ≡ Some entry)
     (repeat : is_repeat s now entry ≡ true) (dropped : Option ℕ) where
@@ -56,14 +57,15 @@ module _ (s : State) (source : Address) (bytes : List ℕ) (now : ℕ)
   course_is =
       ap (message_course s now (record { source = source; bytes = bytes }) dropped)
       (ap (λ b. if b then None else Some (message_by (message_reading bytes)))
-      (not_above (length bytes) 4096 few) ∙ ap (λ r. Some (message_by r)) read)
+      (not_above (length bytes) request_octets.MOST few) ∙ ap (λ r. Some (message_by r)) read)
       ∙ repeats s now (record { source = source; bytes = bytes }) request dropped served entry there
       repeat
 
 pub repeated : (s : State) (source : Address) (bytes : List ℕ) (moment : ℕ)
     (request : Request) (entry : KeptEntry)
     (outcome : Outcome) (after : State)
-    → length bytes ≤ 4096 → message_reading bytes ≡ Ok (Some request) → HasReply request
+    → length bytes ≤ request_octets.MOST → message_reading bytes ≡ Ok (Some request)
+    → HasReply request
     → fin.get s.kept (record { source = source; bytes = bytes }) ≡ Some entry
     → IsTrue (is_repeat s (max s.clock moment) entry)
     → Step s (event.Datagram source bytes moment) outcome after

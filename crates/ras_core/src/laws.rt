@@ -4,6 +4,7 @@ ghost use Rattle.std.specs.Prelude.{◌≡◌, ◌≤◌, ◌+◌, ℕ, List, Is
 ghost use Rattle.std.specs.FinMap.{get};
 ghost use Rattle.ras_module.specs.declared.address.Address.{Address};
 ghost use Rattle.ras_module.specs.declared.request.Request.{Request};
+ghost use Rattle.ras_module.specs.declared.request.TheConstants.Request as request_octets;
 ghost use Rattle.ras_reading.specs.Messages.{message_reading};
 ghost use Rattle.ras_writing.specs.Replies.{encoding_of};
 ghost use Rattle.kept_replies.specs.declared.entry.KeptEntry.{KeptEntry};
@@ -31,7 +32,8 @@ use zone_events::{Event, Note};
 pub fn a_repeat_gets_its_kept_reply()
     ensures { (s : State) (source : Address) (bytes : List ℕ) (moment : ℕ) (request : Request)
         (entry : KeptEntry) (outcome : Outcome) (after : State)
-        → length bytes ≤ 4096 → message_reading bytes ≡ Ok (Some request) → HasReply request
+        → length bytes ≤ request_octets.MOST → message_reading bytes ≡ Ok (Some request)
+        → HasReply request
         → get s.kept (record { source = source; bytes = bytes }) ≡ Some entry
         → IsTrue (is_repeat s (max s.clock moment) entry)
         → Step s (Event.Datagram source bytes moment) outcome after

@@ -3,6 +3,7 @@ use Rattle.std.proofs.Common.{◌≡◌, ◌≤◌, ◌+◌, ℕ, length, Bool, 
 use Rattle.std.proofs.Common.{subst, Some, None}
 use Rattle.std.specs.Prelude.{Option, All, IsSome, if◌then◌else◌}
 use Rattle.ras_module.specs.declared.reply.Reply.{Reply}
+use Rattle.ras_module.specs.declared.reply.TheConstants.Reply as reply_octets
 use Rattle.ras_module.specs.declared.request.Request.{Request}
 use Rattle.ras_writing.specs.Replies.{encoding_of}
 use Rattle.kept_replies.specs.declared.key.KeptKey.{KeptKey}
@@ -203,7 +204,7 @@ module _ (s : State) (now : ℕ) (key : KeptKey) (request : Request)
       → w ≡ waits occasion answer
       → IsAnswer (figures_at s.tables.pools q.pool) q.units answer
       → IsTimely s now occasion → AreBornBefore s.steps s.kept
-      → length (encoding_of (reply_to answer w)) ≤ 20000
+      → length (encoding_of (reply_to answer w)) ≤ reply_octets.MOST
       → Does s now (Serving (record {
         job = record { key = key; occasion = occasion };
         request = request;
@@ -259,7 +260,7 @@ pub does_answered : (old : State) (now : ℕ) (job : Job) (endpoint : Option (Li
     → IsAnswer (figures_at old.tables.pools q.pool) q.units answer
     → IsTimely old now job.occasion → AreBornBefore old.steps old.kept
     → reply ≡ reply_of (seq_of request) q answer w old.tables.config.delay
-    → length (encoding_of reply) ≤ 20000
+    → length (encoding_of reply) ≤ reply_octets.MOST
     → tables ≡ heard_at (record old.tables {
       calls = calls_after_answer (asker_of request) q answer old.tables.calls;
       pools = pools_after_answer old.tables.pools (units_requested q) answer;
@@ -284,7 +285,8 @@ does_answered s now job (Some id) there request q answer w reply tables kept w_i
     before reply_is few tables_is kept_is plan asks =
     let told = reply_of (seq_of request) q answer w s.tables.config.delay in
     let does = does_asked s now job.key request id q job.occasion answer w plan asks w_is fits
-    timely before (subst (λ (r : Reply). length (encoding_of r) ≤ 20000) reply_is few) in
+    timely before
+    (subst (λ (r : Reply). length (encoding_of r) ≤ reply_octets.MOST) reply_is few) in
     let course = Serving (record {
       job = job;
       request = request;

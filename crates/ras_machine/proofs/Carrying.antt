@@ -4,6 +4,7 @@ use Rattle.std.proofs.Common.{◌≡◌, ◌≤◌, ◌+◌, ◌∙◌, ℕ, len
 use Rattle.std.specs.Prelude.{Err, IfSome, Ok, OnOk, Option, Result}
 use Rattle.keyed.proofs.Decide.{same_some}
 use Rattle.ras_module.specs.declared.reply.Reply.{Reply}
+use Rattle.ras_module.specs.declared.reply.TheConstants.Reply as reply_octets
 use Rattle.ras_module.specs.declared.request.Request.{Request}
 use Rattle.ras_writing.specs.Replies.{encoding_of}
 use Rattle.kept_replies.specs.declared.key.KeptKey.{KeptKey}
@@ -171,7 +172,7 @@ module _ (s : State) (now : ℕ) (key : KeptKey) (request : Request)
       (given : Option (List ℕ))
       → resolved plan given ≡ Some (served_by endpoint) → IfSome given (IsUnusedIn s)
       → IsTimely s now occasion
-      → AreBornBefore s.steps s.kept → length (encoding_of reply) ≤ 20000
+      → AreBornBefore s.steps s.kept → length (encoding_of reply) ≤ reply_octets.MOST
       → Does s now
       (Serving (task_by occasion (plan_at occasion now endpoint plan)))
       (outcome_by occasion given) (state_by occasion endpoint)
@@ -196,7 +197,7 @@ module _ (s : State) (now : ℕ) (key : KeptKey) (request : Request)
 pub does_carried : (old : State) (now : ℕ) (job : Job) (endpoint : Option (List ℕ)) (d : Settlement)
     (given : Option (List ℕ)) (tables : Tables) (kept : KeptReplies)
     → IfSome given (IsUnusedIn old) → IsTimely old now job.occasion
-    → AreBornBefore old.steps old.kept → length (encoding_of d.reply) ≤ 20000
+    → AreBornBefore old.steps old.kept → length (encoding_of d.reply) ≤ reply_octets.MOST
     → tables ≡ tables_after old.tables now job.occasion endpoint d.change
     → kept ≡ kept_with old.kept job.key job.occasion old.steps
     (Done d.reply (now + old.tables.config.window))

@@ -20,6 +20,7 @@ use Rattle.zone_config.specs.Keys.{all_keys, number_in, takes}
 use Rattle.zone_config.specs.Networks.{has_default, is_too_long}
 use Rattle.zone_config.specs.Ranges.{IsConfig, fault_with, is_outside, key_outside, range_fault}
 use Rattle.zone_config.proofs.RangesKept.{keys_inside, passes}
+use Rattle.script.specs.declared.read.TheConstants.Script as script_octets
 use Rattle.script.specs.declared.event.ScriptEvent.{ScriptEvent}
 use Rattle.script.specs.declared.fault.ScriptFault.{ScriptFault}
 use Rattle.script.specs.declared.fault.ScriptFault.TheVariants.{NoDefaultPool, TooLong}
@@ -369,7 +370,7 @@ short false script e = refl
 pub read_again : (zone : ZoneParts) → IsZone zone → IsReadAgain zone
 unfolding script_of
 read_again zone is few =
-    short (nat_lt 1048576 (length (zone_lines zone)))
+    short (nat_lt script_octets.MOST (length (zone_lines zone)))
     (script_of_lines (in_place 0 (map line_of (lines_of (zone_lines zone)))))
     (grind (arith, nat_tests, few))
     ∙ zone_read zone is

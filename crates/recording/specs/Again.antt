@@ -6,6 +6,7 @@ use Rattle.pools.specs.declared.pool_spec.PoolSpec.TheVariants.{Fixed, Step, Pac
 use Rattle.ras_writing.specs.Properties.{IsAddress, IsName}
 use Rattle.zone_config.specs.declared.network.Network.{Network}
 use Rattle.zone_config.specs.Ranges.{IsConfig}
+use Rattle.script.specs.declared.read.TheConstants.Script as script_octets
 use Rattle.script.specs.Scripts.{script_of}
 use Rattle.recording.specs.Zones.{ZoneParts, recorded_zone, zone_lines}
 
@@ -39,6 +40,6 @@ pub record IsZone (zone : ZoneParts) : Type 0 where
 -- the script that its lines are has these settings and these pools, and no event
 abbrev pub IsReadAgain : ZoneParts → Type 0
 IsReadAgain zone =
-    length (zone_lines zone) ≤ 1048576
+    length (zone_lines zone) ≤ script_octets.MOST
     → script_of (zone_lines zone)
     ≡ Ok (record { config = zone.config; pools = zone.pools; events = [] })

@@ -32,6 +32,7 @@ use Rattle.keyed.proofs.Rows.{IsMapOf-rows, map_push}
 use Rattle.ras_module.specs.declared.address.Address.{Address}
 use Rattle.ras_module.specs.Addresses.{same_address}
 use Rattle.ras_module.specs.Same.{texts_decide, address_decides}
+use Rattle.registrations.specs.declared.table.TheConstants.Registrations as registrations_table
 use Rattle.registrations.specs.declared.registration.Registration.{Registration}
 use Rattle.registrations.specs.declared.times.Times.{Times}
 use Rattle.registrations.specs.Registry.{Live, Registry, IsSound, IsConsistent, Becomes, Counts}
@@ -198,7 +199,8 @@ module _ {S : Type 0} (rows : Slab Registration) (by_identifier : HashMap (List 
 -- what an empty table stores
 pub IsStored-empty : {S : Type 0} (rows : Slab Registration) (by_identifier : HashMap (List ℕ) ℕ S)
     (by_address : HashMap Address ℕ S) (most : ℕ) → rows.slots ≡ [] → by_identifier.entries ≡ []
-    → by_address.entries ≡ [] → most ≤ 20000 → IsStored rows by_identifier by_address most
+    → by_address.entries ≡ [] → most ≤ registrations_table.MOST
+    → IsStored rows by_identifier by_address most
 IsStored-empty rows by_identifier by_address most slots ids addresses few = record {
   identifiers = record {
     leads = λ a i e. some_none (sym e ∙ ap (lookup (pointwise nat_eq a)) ids);

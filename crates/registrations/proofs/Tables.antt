@@ -21,6 +21,7 @@ use Rattle.keyed.proofs.Rows.{Changed-set}
 use Rattle.ras_module.specs.Same.{texts_decide}
 use Rattle.ras_module.specs.declared.address.Address.{Address}
 use Rattle.ras_module.specs.Addresses.{same_address}
+use Rattle.registrations.specs.declared.table.TheConstants.Registrations as registrations_table
 use Rattle.registrations.specs.declared.registration.Registration.{Registration}
 use Rattle.registrations.specs.declared.times.Times.{Times}
 use Rattle.registrations.specs.Registry.{identifier_of}
@@ -38,7 +39,8 @@ pub IsTable-empty : {S Z : Type 0} (rows : Slab Registration)
     (by_identifier : HashMap (List ℕ) ℕ S) (by_address : HashMap Address ℕ S)
     (deadlines : DeadlineTable) (legs : Vec ℕ Z) (ends : DeadlineTable) (times : Times) (most : ℕ)
     → rows.slots ≡ [] → by_identifier.entries ≡ [] → by_address.entries ≡ []
-    → deadlines.moments ≡ fin.empty → legs.items ≡ [] → ends.moments ≡ fin.empty → most ≤ 20000
+    → deadlines.moments ≡ fin.empty → legs.items ≡ [] → ends.moments ≡ fin.empty
+    → most ≤ registrations_table.MOST
     → IsTable rows by_identifier by_address deadlines legs ends times most
 IsTable-empty rows by_identifier by_address deadlines legs ends times most slots ids addresses is
     counts none few = record {

@@ -15,7 +15,7 @@ use ras_module::EndpointId;
 /// An identifier that no registration has, and that is not taken: the first such number, counted
 /// from this one.
 pub(crate) fn unused_from(table: &Registrations, taken: &[EndpointId], start: u64) -> EndpointId
-    requires few { map.len table.now.live ≤ 20000 }
+    requires few { map.len table.now.live ≤ Registrations.MOST }
     ensures unused { IsUnused table.now.live taken.now result }
     ensures from { IsFoundFrom start (map.len table.now.live + length taken.now) result }
 {

@@ -86,7 +86,7 @@ impl Registrations {
     /// (`Counts`).
     pub fn leg_comes(&mut self, id: &EndpointId)
         requires live { IsSome (map.get self.old.live id.now) }
-        requires few { IfSome (map.get self.old.legs id.now) (λ legs. legs ≤ 20000) }
+        requires few { IfSome (map.get self.old.legs id.now) (λ legs. legs ≤ Self.MOST_LEGS) }
         ensures { Counts self.old self.new (update self.old.legs id.now (λ legs. legs + 1)) }
     {
         let (i, _place) = live_entry(&self.by_identifier, id);

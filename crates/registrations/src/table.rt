@@ -84,10 +84,16 @@ impl Model for Registrations {
 }
 
 impl Registrations {
+    /// The most registrations that a table may be for.
+    pub const MOST: usize = 20_000;
+
+    /// The most legs that are counted of one endpoint: one of each call that may be open.
+    pub const MOST_LEGS: usize = 20_000;
+
     /// A table with no registration, for at most this many. No endpoint is ever silent for too
     /// long. This takes no memory.
     pub fn new(alloc: Global, most: usize) -> Self
-        requires { most ≤ 20000 }
+        requires { most ≤ Self.MOST }
         ensures live { result.live ≡ map.empty }
         ensures most { result.most ≡ most }
         ensures sound { IsSound result }
@@ -103,7 +109,7 @@ impl Registrations {
 
     /// The same, in which an endpoint in a call may be silent for these times.
     pub fn with_times(alloc: Global, most: usize, times: Times) -> Self
-        requires { most ≤ 20000 }
+        requires { most ≤ Self.MOST }
         ensures live { result.live ≡ map.empty }
         ensures most { result.most ≡ most }
         ensures sound { IsSound result }
@@ -143,7 +149,7 @@ impl Registrations {
 
     /// A table with no registration, and with room for some.
     fn with_room(alloc: Global, most: usize, times: Times, room: usize) -> Result<Self, AllocError>
-        requires { most ≤ 20000 }
+        requires { most ≤ Self.MOST }
         ensures most { IfOk result (λ t. t.most ≡ most) }
         ensures order { IfOk result (λ t. t.order ≡ []) }
         ensures live { IfOk result (λ t. t.live ≡ map.empty) }

@@ -1,10 +1,11 @@
 -- What is read of an input is what a script is read of.
 use Rattle.std.proofs.Common.{◌≡◌, ℕ, ◌≤◌, Bool, if◌then◌else◌, true, false, Option, Some, None}
-use Rattle.std.proofs.Common.{Result, Ok, Err, List}
+use Rattle.std.proofs.Common.{Result, Ok, Err, List, ◌+◌}
 use Rattle.std.proofs.Common.{length, refl, subst, map, arith, nat_lt, ap, IsTrue, ◌↔◌}
 use Rattle.std.proofs.lemmas.Bool.Decides.{nat_tests}
 use Rattle.std.specs.Io.KnownBytes.{Consumes, IsAtEnd}
 use Rattle.ras_module.specs.declared.address.Address.{Address}
+use Rattle.script.specs.declared.read.TheConstants.Script as script_octets
 use Rattle.script.specs.declared.event.ScriptEvent.{ScriptEvent}
 use Rattle.zone_config.specs.Networks.{has_default}
 use Rattle.script.specs.declared.fault.ScriptFault.{ScriptFault}
@@ -24,10 +25,10 @@ use Rattle.script.specs.Reads.{ConsumesAtMost, ConsumesExactly, IsInputFault, Is
 use Rattle.script.specs.Reads.{ReadsScript}
 use Rattle.script.specs.Streams.{InputState}
 
-too_long : (text : List ℕ) → length text ≡ 1048577 → script_of text ≡ Err TooLong
+too_long : (text : List ℕ) → length text ≡ script_octets.MOST + 1 → script_of text ≡ Err TooLong
 unfolding script_of
 too_long text e =
-    let large : nat_lt 1048576 (length text) ≡ true = grind (arith, nat_tests) in
+    let large : nat_lt script_octets.MOST (length text) ≡ true = grind (arith, nat_tests) in
     rw large refl
 
 never_if : (is_default : Bool) (script : Script)
@@ -47,10 +48,10 @@ never_long : (bad : Option ℕ) (said : Said) → script_unless bad said ≡ Err
 never_long (Some bad) said e = absurd (cc e)
 never_long None said e = never_from said.zone said.settings said.pools said.events e
 
-not_long : (text : List ℕ) → length text ≤ 1048576 → script_of text ≡ Err TooLong → ⊥
+not_long : (text : List ℕ) → length text ≤ script_octets.MOST → script_of text ≡ Err TooLong → ⊥
 unfolding script_of
 not_long text few e =
-    let small : nat_lt 1048576 (length text) ≡ false = grind (arith, nat_tests) in
+    let small : nat_lt script_octets.MOST (length text) ≡ false = grind (arith, nat_tests) in
     let lines = in_place 0 (map line_of (lines_of text)) in
     never_long (bad_line lines) (said_by lines) (rw small at e)
 
@@ -86,7 +87,7 @@ of_fault fault failed h = (λ e. h.0 (cc e), λ t. ap Err (h.1 t))
 
 pub whole_answer : (old new : InputState) (text : List ℕ) (answer : Result Script ScriptFault)
     → Consumes old.left new.left text → IsAtEnd new.left → new.failed ≡ false
-    → length text ≤ 1048576 → GivesUnlessMemory (script_of text) answer
+    → length text ≤ script_octets.MOST → GivesUnlessMemory (script_of text) answer
     → ReadsScript old new answer
 whole_answer old new text answer taken end sound few meaning = record {
   text = text;
@@ -100,8 +101,8 @@ whole_answer old new text answer taken end sound few meaning = record {
 }
 
 pub fault_answer : (old new : InputState) (fault : ScriptFault) → IsInputFault fault
-    → (fault ≡ TooLong → ConsumesExactly 1048577 old.left new.left)
-    → ConsumesAtMost 1048577 old.left new.left
+    → (fault ≡ TooLong → ConsumesExactly (script_octets.MOST + 1) old.left new.left)
+    → ConsumesAtMost (script_octets.MOST + 1) old.left new.left
     → ((fault ≡ Stream) ↔ IsTrue new.failed) → ReadsScript old new (Err fault)
 fault_answer old new TooLong kind long most stream =
     let exact = long refl in record {

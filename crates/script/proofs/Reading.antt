@@ -6,6 +6,7 @@ use Rattle.std.proofs.lemmas.Bool.Decides.{nat_tests}
 use Rattle.std.proofs.lemmas.List.{length_push}
 use Rattle.std.specs.List.{position_from, last_or}
 use Rattle.ras_module.specs.declared.address.Address.{Address}
+use Rattle.script.specs.declared.read.TheConstants.Script as script_octets
 use Rattle.script.specs.declared.event.ScriptEvent.{ScriptEvent}
 use Rattle.script.specs.declared.fault.ScriptFault.{ScriptFault}
 use Rattle.script.specs.declared.fault.ScriptFault.TheVariants.{BadLine}
@@ -45,12 +46,12 @@ answer_of n said lines =
 unfoldable pub answer_from : ℕ → Said → List (Option Line) → Result Script ScriptFault
 answer_from n said lines = answer_of n said (placed said.pools said.events lines)
 
-pub first_answer : (text : List ℕ) → length text ≤ 1048576
+pub first_answer : (text : List ℕ) → length text ≤ script_octets.MOST
     → script_of text ≡ answer_from 1
     (record { zone = None; settings = []; pools = []; events = [] }) (readings text)
 unfolding script_of answer_from
 first_answer text few =
-    let small : nat_lt 1048576 (length text) ≡ false = grind (arith, nat_tests) in
+    let small : nat_lt script_octets.MOST (length text) ≡ false = grind (arith, nat_tests) in
     rw small refl
 
 abbrev Place : Type 0

@@ -1,7 +1,8 @@
 -- What is read for a script.
 use Rattle.std.specs.Prelude.{ℕ, ◌≡◌, ◌≤◌, List, length, Option, Result, Ok, Err, IsTrue}
-use Rattle.std.specs.Prelude.{◌↔◌}
+use Rattle.std.specs.Prelude.{◌↔◌, ◌+◌}
 use Rattle.std.specs.Io.KnownBytes.{Consumes, IsAtEnd}
+use Rattle.script.specs.declared.read.TheConstants.Script as script_octets
 use Rattle.script.specs.declared.fault.ScriptFault.{ScriptFault}
 use Rattle.script.specs.declared.fault.ScriptFault.TheVariants.{TooLong, BadLine, NoZone}
 use Rattle.script.specs.declared.fault.ScriptFault.TheVariants.{NoDefaultPool, Stream, Memory}
@@ -45,8 +46,8 @@ IsAtEndIfRead (Err Memory) left = Unit {0}
 pub record ReadsScript (old new : InputState) (answer : Result Script ScriptFault) : Type 0 where
   pub text : List ℕ
   pub taken : Consumes old.left new.left text
-  pub few : length text ≤ 1048577
+  pub few : length text ≤ script_octets.MOST + 1
   pub meaning : GivesUnlessStopped (script_of text) answer
-  pub long : answer ≡ Err TooLong → length text ≡ 1048577
+  pub long : answer ≡ Err TooLong → length text ≡ script_octets.MOST + 1
   pub end : IsAtEndIfRead answer new.left
   pub stream : (answer ≡ Err Stream) ↔ IsTrue new.failed

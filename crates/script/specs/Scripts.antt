@@ -5,6 +5,7 @@ use Rattle.std.specs.Prelude.{Option, Some, None, is_some, Result, Ok, Err, if�
 use Rattle.std.specs.List.{position_from, last_or}
 use Rattle.ras_module.specs.declared.address.Address.{Address}
 use Rattle.zone_config.specs.declared.config.ConfigParts.{ConfigParts}
+use Rattle.script.specs.declared.read.TheConstants.Script as script_octets
 use Rattle.script.specs.declared.event.ScriptEvent.{ScriptEvent}
 use Rattle.zone_config.specs.declared.network.Network.{Network}
 use Rattle.zone_config.specs.Defaults.{default_parts}
@@ -89,10 +90,10 @@ script_unless None said = script_from said.zone said.settings said.pools said.ev
 abbrev pub script_of_lines : List (Option Line) → Result Script ScriptFault
 script_of_lines lines = script_unless (bad_line lines) (said_by lines)
 
--- a script has at most 1,048,576 octets
+-- a script has a bounded number of octets
 unfoldable pub script_of : List ℕ → Result Script ScriptFault
 script_of text =
-    if nat_lt 1048576 (length text)
+    if nat_lt script_octets.MOST (length text)
     then Err TooLong
     else script_of_lines (in_place 0 (map line_of (lines_of text)))
 

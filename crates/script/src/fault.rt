@@ -11,7 +11,7 @@ use thiserror::Error;
 /// is returned.
 #[derive(Clone, Copy, Debug, PartialEq, Eq, Error)]
 pub enum ScriptFault {
-    /// It has more than 1,048,576 octets.
+    /// It has more octets than `Script::MOST`.
     #[error("input too long")]
     TooLong,
     /// This line, counted from 1, is the first that isn't understood.

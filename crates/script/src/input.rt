@@ -8,13 +8,11 @@ ghost use Rattle.script.specs.Reads.{ConsumesAtMost, ConsumesExactly, IsInputFau
 ghost use Rattle.script.specs.declared.fault.ScriptFault.TheVariants.{TooLong, Stream};
 
 use crate::fault::ScriptFault;
+use crate::read::Script;
 use std::alloc::{AllocError, Global};
 use std::io;
 use std::io::Read;
 use std::marker::Model;
-
-/// The octets that a script has at most.
-const MOST: usize = 1_048_576;
 
 /// The octets that are asked for at a time.
 const CHUNK: usize = 4096;
@@ -91,18 +89,18 @@ pub fn read_whole<R: Read + Drop>(
 ) -> Result<Vec<u8>, ScriptFault>
     ensures whole { IfOk result (λ v. Consumes input.old.left input.new.left v.items) }
     ensures end { IfOk result (λ v. IsAtEnd input.new.left) }
-    ensures len { IfOk result (λ v. vec_len v ≤ 1048576) }
+    ensures len { IfOk result (λ v. vec_len v ≤ Script.MOST) }
     ensures long { IfErr result (λ e. e ≡ TooLong
-        → ConsumesExactly 1048577 input.old.left input.new.left) }
-    ensures most { ConsumesAtMost 1048577 input.old.left input.new.left }
+        → ConsumesExactly (Script.MOST + 1) input.old.left input.new.left) }
+    ensures most { ConsumesAtMost (Script.MOST + 1) input.old.left input.new.left }
     ensures kinds { IfErr result IsInputFault }
     ensures stream { MatchResult result (λ _. input.new.failed ≡ false)
         (λ e. (e ≡ Stream) ↔ IsTrue input.new.failed) }
 {
     let mut all = Vec::new(alloc);
     let mut chunk = [0u8; CHUNK];
-    for _ in 0..MOST + 2 {
-        let room = (MOST + 1 - all.len()).min(CHUNK);
+    for _ in 0..Script::MOST + 2 {
+        let room = (Script::MOST + 1 - all.len()).min(CHUNK);
         if room == 0 {
             return Err(ScriptFault::TooLong);
         }

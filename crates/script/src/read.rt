@@ -28,9 +28,14 @@ pub struct Script {
     pub events: Events,
 }
 
+impl Script {
+    /// The octets that a script has at most.
+    pub const MOST: usize = 1_048_576;
+}
+
 /// The script that a text is.
 fn script_of(alloc: Global, text: &[u8]) -> Result<Script, ScriptFault>
-    requires { length text.now ≤ 1048576 }
+    requires { length text.now ≤ Script.MOST }
     ensures { GivesUnlessMemory (script_of text.now) result }
 {
     let mut draft = Draft::with_room(alloc, text.len() / OCTETS_OF_AN_EVENT)?;

@@ -2,6 +2,7 @@
 use Rattle.std.specs.Prelude.{◌≡◌, ◌≤◌, List, [], ◌∷◌, length, max, Ok, Some, IfSome, IsTrue}
 use Rattle.std.specs.FinMap.{get}
 use Rattle.ras_module.specs.declared.request.Request.{Request}
+use Rattle.ras_module.specs.declared.request.TheConstants.Request as request_octets
 use Rattle.ras_reading.specs.Messages.{message_reading}
 use Rattle.ras_writing.specs.Replies.{encoding_of}
 use Rattle.kept_replies.specs.declared.entry.KeptEntry.{KeptEntry}
@@ -34,7 +35,7 @@ EachStepOf P s (entry ∷ entries) after run =
 -- is there. It has at most 4,096 octets, and is a request that has a reply.
 abbrev pub RepeatsKeptReply : State → Change → Outcome → State → Type 0
 RepeatsKeptReply s (Event (event.Datagram source bytes moment)) outcome after =
-    (request : Request) (entry : KeptEntry) → length bytes ≤ 4096
+    (request : Request) (entry : KeptEntry) → length bytes ≤ request_octets.MOST
     → message_reading bytes ≡ Ok (Some request) → HasReply request
     → get s.kept (record { source = source; bytes = bytes }) ≡ Some entry
     → IsTrue (is_repeat s (max s.clock moment) entry)

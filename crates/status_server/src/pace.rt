@@ -10,9 +10,9 @@ use std::time::{Duration, Instant};
 const MOST_ACCEPTED: usize = 16;
 
 /// The least number of milliseconds from the beginning of a round to that of the next one. So at
-/// most 160 connections are accepted in a second, each with its one request: a flood of them can't
+/// most 80 connections are accepted in a second, each with its one request: a flood of them can't
 /// take a whole processor, and a dozen people with whoever gathers the metrics need a few.
-const ROUND: u64 = 100;
+const ROUND: u64 = 200;
 
 /// The pace at which connections are accepted, in rounds. A round begins as its first connection is
 /// accepted, and the first one with the server.

@@ -176,6 +176,15 @@ fn range_fault(parts: &ConfigParts) -> Option<&'static str>
 }
 
 impl Config {
+    /// The most endpoints that a zone may be set to have.
+    pub const MOST_ENDPOINTS: u64 = 20_000;
+
+    /// The most calls that it may be set to have.
+    pub const MOST_CALLS: u64 = 20_000;
+
+    /// The most replies that it may be set to keep.
+    pub const MOST_KEPT: u64 = 65_536;
+
     /// These settings, if each number is in its range and the last pool has no network. Otherwise
     /// the fault names the first key, in the order of the fields, whose number is out of range, and
     /// after the keys a network with too many bits. If there is none of these, the fault is that
@@ -240,7 +249,7 @@ impl Config {
     /// How many endpoints there may be.
     pub fn endpoints(&self) -> usize
         ensures same { result ≡ self.now.endpoints }
-        ensures few { result ≤ 20000 }
+        ensures few { result ≤ Self.MOST_ENDPOINTS }
     {
         self.parts.endpoints as usize
     }
@@ -249,7 +258,7 @@ impl Config {
     pub fn calls(&self) -> usize
         ensures same { result ≡ self.now.calls }
         ensures some { 1 ≤ result }
-        ensures few { result ≤ 20000 }
+        ensures few { result ≤ Self.MOST_CALLS }
     {
         self.parts.calls as usize
     }
@@ -258,7 +267,7 @@ impl Config {
     pub fn kept(&self) -> usize
         ensures same { result ≡ self.now.kept }
         ensures some { 1 ≤ result }
-        ensures few { result ≤ 65536 }
+        ensures few { result ≤ Self.MOST_KEPT }
     {
         self.parts.kept as usize
     }

@@ -7,7 +7,7 @@ ghost use Rattle.std.specs.Str.{bytes_eq};
 ghost use Rattle.zone_config.specs.Keys.{all_keys, default_of, has_name, key_of, least_of, most_of};
 ghost use Rattle.zone_config.specs.Keys.{name_of, number_in, path_of, takes, with_number};
 
-use crate::config::ConfigParts;
+use crate::config::{Config, ConfigParts};
 
 /// A whole-number setting of a zone.
 #[derive(Clone, Copy, Debug, PartialEq, Eq)]
@@ -101,9 +101,15 @@ impl Key {
             Key::Limit => Row::new("limit", "zone.limit", 1, 1_000_000_000_000, 100_000),
             Key::CallLimit => Row::new("call_limit", "zone.call_limit", 1, 4_294_967_295, 20_000),
             Key::TimeToLive => Row::new("time_to_live", "zone.time_to_live", 1, 4_294_967_295, 60),
-            Key::Endpoints => Row::new("endpoints", "zone.endpoints", 1, 20_000, 1_000),
-            Key::Calls => Row::new("calls", "zone.calls", 1, 20_000, 1_000),
-            Key::Kept => Row::new("kept", "zone.kept", 1, 65_536, 4_096),
+            Key::Endpoints => Row::new(
+                "endpoints",
+                "zone.endpoints",
+                1,
+                Config::MOST_ENDPOINTS,
+                1_000,
+            ),
+            Key::Calls => Row::new("calls", "zone.calls", 1, Config::MOST_CALLS, 1_000),
+            Key::Kept => Row::new("kept", "zone.kept", 1, Config::MOST_KEPT, 4_096),
             Key::Window => Row::new("window", "zone.window", 1, 3_600_000, 10_000),
             Key::Silence => Row::new("silence", "zone.silence", 1, 3_600_000, 30_000),
             Key::Delay => Row::new("delay", "zone.delay", 1, 65_535, 500),

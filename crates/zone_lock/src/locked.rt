@@ -2,6 +2,7 @@
 
 ghost use Rattle.std.specs.Prelude.{◌≡◌, ◌≤◌, ◌<◌, ◌+◌, ◌*◌, ◌^◌, ◌++◌, ◌∷◌, [], ◌↔◌, length};
 ghost use Rattle.std.specs.Prelude.{IfOk, OnErr, Err, vec_capacity};
+ghost use Rattle.ras_module.specs.declared.reply.TheConstants.Reply as reply_octets;
 ghost use Rattle.ras_machine.specs.Machine.{most_steps};
 ghost use Rattle.ras_machine.specs.Steps.{HasFewOctets};
 ghost use Rattle.ras_core.specs.Runs.{RunningStep};
@@ -119,7 +120,7 @@ pub(crate) fn make_step<P: Pool, D: Hall, T: Ledger, U: Ledger, V: Ledger>(
     requires kept { order.kept ≡ Change.Event order.prepared }
     requires told { order.told ≡ Change.Event order.prepared }
     requires empty { order.buffer.items ≡ [] }
-    requires room { 20000 ≤ vec_capacity order.buffer }
+    requires room { reply_octets.MOST ≤ vec_capacity order.buffer }
     ensures step { IfOk result (λ receipt.
         RunningStep locked.old.zone order.prepared receipt.outcome locked.new.zone) }
     ensures entry { IfOk result (λ receipt. locked.new.entries ≡ locked.old.entries
@@ -192,7 +193,7 @@ pub(crate) fn fault_without_order<P: Pool, D: Hall, T: Ledger, U: Ledger, V: Led
 fn copy_of(outcome: &Outcome, buffer: Vec<u8>) -> Outcome
     requires empty { buffer.items ≡ [] }
     requires few { HasFewOctets outcome.now.output }
-    requires room { 20000 ≤ vec_capacity buffer }
+    requires room { reply_octets.MOST ≤ vec_capacity buffer }
     ensures { result ≡ outcome.now }
 {
     outcome.copy_into(buffer)

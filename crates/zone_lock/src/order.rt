@@ -4,12 +4,10 @@ ghost use Rattle.std.specs.Prelude.{◌≡◌, ◌≤◌, [], IfOk, vec_capacity
 
 use crate::seat::{Hall, Seat};
 use ras_core::{Change, Prepared};
+use ras_module::Reply;
 use std::alloc::{AllocError, Global};
 use std::mem;
 use std::sync::ledger::Ledger;
-
-/// The most octets of an output.
-const MAX_OUTPUT: usize = 20_000;
 
 /// An event for a step, with two copies of it, for the entry and for the receipt, and a buffer for
 /// the copy of what is sent.
@@ -34,13 +32,13 @@ impl Order {
         ensures kept { IfOk result (λ order. order.kept ≡ Change.Event prepared) }
         ensures told { IfOk result (λ order. order.told ≡ Change.Event prepared) }
         ensures empty { IfOk result (λ order. order.buffer.items ≡ []) }
-        ensures room { IfOk result (λ order. 20000 ≤ vec_capacity order.buffer) }
+        ensures room { IfOk result (λ order. Reply.MOST ≤ vec_capacity order.buffer) }
     {
         let kept = Change::Event(prepared.event()?);
         let told = Change::Event(prepared.event()?);
         let mut buffer = mem::replace(&mut seat.buffer, Vec::new(alloc));
         buffer.clear();
-        buffer.reserve(MAX_OUTPUT)?;
+        buffer.reserve(Reply::MOST)?;
         Ok(Order {
             prepared,
             kept,

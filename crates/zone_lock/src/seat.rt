@@ -50,7 +50,7 @@ impl<D: Hall, T: Ledger, U: Ledger, V: Ledger> Model for Seat<D, T, U, V> {
 
 impl<D: Hall, T: Ledger, U: Ledger, V: Ledger> Seat<D, T, U, V> {
     /// Gives the seat a buffer that is needed no more. The octets of its next receipt stand there,
-    /// so that no memory is requested for them if there is room for 20,000.
+    /// so that no memory is requested for them if there is room for `Reply::MOST`.
     pub fn give_back(&mut self, buffer: Vec<u8>)
         ensures { self.new ≡ self.old }
     {

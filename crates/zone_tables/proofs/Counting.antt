@@ -22,6 +22,7 @@ use Rattle.admission.specs.Legs.{leg_of}
 use Rattle.admission.proofs.Soundness.{one_if_same}
 use Rattle.admission.proofs.Soundness.{legs_of-open, legs_of-join, legs_of-set_units, legs_of-leave}
 use Rattle.admission.proofs.Soundness.{legs_of-few, legs_of-none}
+use Rattle.registrations.specs.declared.table.TheConstants.Registrations as rows
 use Rattle.registrations.specs.Registry.{LegCounts, Live, after_hear, after_rewrite, with_deadline}
 use Rattle.registrations.specs.declared.registration.Registration.{Registration}
 use Rattle.zone_tables.specs.declared.change.EndpointChange.{EndpointChange}
@@ -254,7 +255,7 @@ module _ (live : Live) (u : Usage) (legs : LegCounts) (counted : AreCounted live
       goes live u.calls legs counted _ id
       (λ q. legs_of-leave u.calls key q call.0 id call.1 call.2)
 
-  few_legs : IsSoundUsage u → (id : List ℕ) → legs_of u.calls id ≤ 20000
+  few_legs : IsSoundUsage u → (id : List ℕ) → legs_of u.calls id ≤ rows.MOST_LEGS
   few_legs sound id = omega (arith, legs_of-few u.calls id, sound.few, sound.most)
 
   pub IsMove-change : IsSoundUsage u → HaveEndpoints live u.calls → (id : List ℕ)
@@ -262,11 +263,11 @@ module _ (live : Live) (u : Usage) (legs : LegCounts) (counted : AreCounted live
       → IfSome (leg_added id change) (IsRegistered live) → IsMove live legs id (move_of change)
   IsMove-change sound have id (Opening key pool told) can there = (
     there,
-    count_is live u.calls legs counted id (λ n. n ≤ 20000) (few_legs sound id),
+    count_is live u.calls legs counted id (λ n. n ≤ rows.MOST_LEGS) (few_legs sound id),
   )
   IsMove-change sound have id (Joining key told) can there = (
     there,
-    count_is live u.calls legs counted id (λ n. n ≤ 20000) (few_legs sound id),
+    count_is live u.calls legs counted id (λ n. n ≤ rows.MOST_LEGS) (few_legs sound id),
   )
   IsMove-change sound have id (Lowering key units pool back) can there = tt
   IsMove-change sound have id (Leaving key) can there =
@@ -308,7 +309,7 @@ module _ (live : Live) (u : Usage) (legs : LegCounts) (counted : AreCounted live
         → IsMove live legs id (move_of_purpose p)
     by_purpose (purpose.Opening told) there = (
       there,
-      count_is live u.calls legs counted id (λ n. n ≤ 20000) (few_legs sound id),
+      count_is live u.calls legs counted id (λ n. n ≤ rows.MOST_LEGS) (few_legs sound id),
     )
     by_purpose (purpose.Raising had) there = tt
 

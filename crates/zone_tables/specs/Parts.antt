@@ -4,6 +4,7 @@ use Rattle.std.specs.FinMap.{len}
 use Rattle.registrations.specs.Registry.{LegCounts, Live, IsConsistent}
 use Rattle.registrations.specs.declared.times.Times.{Times}
 use Rattle.admission.specs.Calls.{OpenCalls, EachCall, IsCall, in_use}
+use Rattle.admission.specs.declared.table.TheConstants.Calls as calls_table
 use Rattle.pools.specs.declared.interface.Figures.{Figures}
 use Rattle.zone_tables.specs.Tables.{Tables}
 use Rattle.zone_tables.specs.Pools.{AreWithinLimits}
@@ -77,7 +78,7 @@ pub record IsSoundUsage (u : Usage) : Type 0 where
   pub backed : IsBacked u
   pub each : EachCall IsCall u.calls
   pub few : len u.calls ≤ u.most
-  pub most : u.most ≤ 20000
+  pub most : u.most ≤ calls_table.MOST
   pub within : AreWithinLimits u.pools
 
 -- the endpoints and the calls of a zone with these settings

@@ -55,7 +55,7 @@ impl Endpoints {
     /// A table with no endpoint, for at most this many. One in a call may be silent for these
     /// times.
     pub fn new(alloc: Global, most: usize, times: Times) -> Self
-        requires { most ≤ 20000 }
+        requires { most ≤ Registrations.MOST }
         ensures empty { result ≡ record {
           roll = record { live = map.empty; most = most };
           legs = map.empty;

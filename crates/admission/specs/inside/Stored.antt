@@ -6,6 +6,7 @@ use Rattle.keyed.specs.Places.{AreApart, row_in}
 use Rattle.ras_module.specs.CallKeys.{same_call_key}
 use Rattle.ras_module.specs.declared.call_key.CallKey.{CallKey}
 use Rattle.admission.specs.declared.call.Call.{Call}
+use Rattle.admission.specs.declared.table.TheConstants.Calls as calls_table
 use Rattle.admission.specs.Calls.{EachCall, IsCall, OpenCalls, open_calls_of}
 use Rattle.admission.specs.Legs.{without_leg}
 
@@ -24,7 +25,7 @@ pub record AreStored {S : Type 0} (calls : IndexMap CallKey Call S) (most : ℕ)
   pub each : EachCall IsCall (open_calls_of calls.entries)
   pub apart : AreApart key_of (row_in calls.entries)
   pub few : length calls.entries ≤ most
-  pub most_few : most ≤ 20000
+  pub most_few : most ≤ calls_table.MOST
 
 -- the call with only the legs of other endpoints
 abbrev pub with_legs_but : List ℕ → Call → Call

@@ -8,6 +8,7 @@ use Rattle.std.specs.Map.{set_value}
 use Rattle.std.specs.FinMap as map
 use Rattle.indexmap.specs.IndexMap.{IndexMap, get, spare, IsUnique, Updates}
 use Rattle.keyed.specs.Places.{AreApart, row_in}
+use Rattle.kept_replies.specs.declared.table.TheConstants.Kept as kept_table
 use Rattle.kept_replies.specs.Keys.{same_key}
 use Rattle.kept_replies.specs.Kept.{AreEntries, AreBornApart, KeptReplies, kept_of, named_by}
 use Rattle.kept_replies.specs.declared.key.KeptKey.{KeptKey}
@@ -41,7 +42,7 @@ pub record AreStored {S : Type 0} (rows : IndexMap KeptKey KeptEntry S) (most : 
   pub births : AreBornApart (kept_of rows.entries)
   pub apart : AreApart key_of (row_in rows.entries)
   pub few : length rows.entries ≤ most
-  pub most_few : most ≤ 65536
+  pub most_few : most ≤ kept_table.MOST
 
 -- the entry is put under this key, in place of what was there
 pub record Puts {S : Type 0} (old new : IndexMap KeptKey KeptEntry S) (key : KeptKey)

@@ -16,6 +16,7 @@ use Rattle.ras_module.specs.declared.address.Address.{Address}
 use Rattle.ras_module.specs.Addresses.{same_address}
 use Rattle.registrations.specs.declared.registration.Registration.{Registration}
 use Rattle.registrations.specs.declared.times.Times.{Times}
+use Rattle.registrations.specs.declared.table.TheConstants.Registrations as registrations_table
 use Rattle.registrations.specs.inside.Indexes.{IsIndexOf}
 use Rattle.registrations.specs.Registry.{LegCounts, Live, Registry, identifier_of, call_signal_of}
 use Rattle.registrations.specs.Registry.{live_of}
@@ -78,7 +79,7 @@ module _ {S : Type 0} (rows : Slab Registration) (by_identifier : IndexMap (List
     pub addresses : IsIndexOf call_signal_of (get rows) (index.get same_address by_address)
     pub apart : AreApart key_of (row_in by_identifier.entries)
     pub few : length by_identifier.entries ≤ most
-    pub most_few : most ≤ 20000
+    pub most_few : most ≤ registrations_table.MOST
     pub fits : slab_len rows ≤ rows.capacity
 
   module _ {Z : Type 0} (deadlines : DeadlineTable) (legs : Vec ℕ Z) (ends : DeadlineTable) where

@@ -6,6 +6,7 @@ use Rattle.keyed.specs.Maps.{update}
 use Rattle.admission.specs.Calls.{OpenCalls, legs_of}
 use Rattle.pools.specs.declared.interface.Lend.{Lend}
 use Rattle.registrations.specs.Registry.{LegCounts, Live}
+use Rattle.registrations.specs.declared.table.TheConstants.Registrations as rows
 use Rattle.zone_tables.specs.declared.change.EndpointChange.{EndpointChange}
 use Rattle.zone_tables.specs.declared.change.EndpointChange.TheVariants.{Renewal, Rewriting}
 use Rattle.zone_tables.specs.declared.change.EndpointChange.TheVariants.{Addition, Removal}
@@ -53,7 +54,7 @@ legs_after_move id Stays legs = legs
 
 -- the endpoint is registered, and its number of legs is one that can be raised or lowered
 abbrev pub IsMove : Live → LegCounts → List ℕ → Move → Type 0
-IsMove live legs id Comes = IsSome (get live id) × IfSome (get legs id) (λ n. n ≤ 20000)
+IsMove live legs id Comes = IsSome (get live id) × IfSome (get legs id) (λ n. n ≤ rows.MOST_LEGS)
 IsMove live legs id Goes = IsSome (get live id) × IfSome (get legs id) (λ n. 1 ≤ n)
 IsMove live legs id Stays = Unit {0}
 

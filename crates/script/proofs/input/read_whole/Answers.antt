@@ -1,7 +1,8 @@
-use Rattle.std.proofs.Common.{rules, arith, ◌≡◌, ◌++◌, ◌≤◌, take, length, ap, ◌∙◌}
+use Rattle.std.proofs.Common.{rules, arith, ◌≡◌, ◌+◌, ◌++◌, ◌≤◌, take, length, ap, ◌∙◌}
 use Rattle.std.proofs.lemmas.List.{take-append-le}
 use Rattle.std.proofs.lemmas.Grind.{common_steps}
 use Rattle.std.proofs.KnownBytes.{Consumes-trans}
+use Rattle.script.specs.declared.read.TheConstants.Script as script_octets
 use Rattle.script.proofs.input.read_whole.Goals as goal
 
 pub loop-preserved : goal.loop-preserved
@@ -21,7 +22,7 @@ loop-preserved g c =
 pub returns-in_err-append-in-Ok-clause-most :
     goal.returns-in_err-append-in-Ok-clause-most
 returns-in_err-append-in-Ok-clause-most g c =
-    let within : length (c.loop.all.items ++ take c.in-Ok.n c.read.new.buf) ≤ 1048577 =
+    let within : length (c.loop.all.items ++ take c.in-Ok.n c.read.new.buf) ≤ script_octets.MOST + 1 =
     grind (arith, common_steps) in
     record {
       octets = c.loop.all.items ++ take c.in-Ok.n c.read.new.buf;

@@ -1,5 +1,6 @@
 use Rattle.std.proofs.Common.{rules, ◌≡◌, ◌≤◌, ◌+◌, ◌∙◌, Some, None, length, ap, refl, subst, sym}
 use Rattle.std.specs.Prelude.{IfSome}
+use Rattle.ras_module.specs.declared.reply.TheConstants.Reply as reply_octets
 use Rattle.ras_writing.specs.Replies.{encoding_of}
 use Rattle.kept_replies.specs.declared.entry.KeptState.TheVariants.{Done}
 use Rattle.zone_events.specs.declared.outcome.Datagram.{Datagram}
@@ -61,7 +62,7 @@ returns-clause-does c plan is =
     c.keep.ensures.kept
     ∙ (λ j. kept_with (c.reserve.ensures.kept j) job.key job.occasion i.steps
     (Done written.reply (until_is j))) in
-    let few = subst (λ (o : Datagram). length o.bytes ≤ 20000) c.requires.written.sent
+    let few = subst (λ (o : Datagram). length o.bytes ≤ reply_octets.MOST) c.requires.written.sent
     c.requires.written.few in
     let back = sym c.self.view_is in
     let does = does_carried old now job endpoint d given tables kept

@@ -1,5 +1,6 @@
 use Rattle.std.proofs.Common.{◌≤◌, ◌∙◌, ap, subst, sym}
 use Rattle.std.specs.FinMap.{len}
+use Rattle.kept_replies.specs.declared.table.TheConstants.Kept as kept_table
 use Rattle.kept_replies.specs.Kept.{AreBornApart, AreEntries, KeptReplies}
 use Rattle.zone_tables.specs.Tables.{Tables}
 use Rattle.zone_tables.specs.Soundness.{SoundTables}
@@ -19,7 +20,7 @@ invariant_of-result c =
         births = subst AreBornApart rows was.births;
         few = subst (λ (k : KeptReplies). len k ≤ kept.most) rows
             (subst (λ n. len i.kept.kept ≤ n) (sym most) was.few);
-        most = subst (λ n. n ≤ 65536) (sym most) was.most;
+        most = subst (λ n. n ≤ kept_table.MOST) (sym most) was.most;
       };
       most = most ∙ (c.self.invariant.most
           ∙ sym (ap (λ (z : Tables). z.config.kept) c.in_ok-copy.ensures));

@@ -3,6 +3,7 @@ use Rattle.std.specs.Prelude.{IfSome, Option}
 use Rattle.std.proofs.lemmas.Cmp.{nat_list_cmp_total}
 use Rattle.std.proofs.lemmas.Map.Lookups.{exact_bytes}
 use Rattle.keyed.proofs.Maps.{update_there}
+use Rattle.registrations.specs.declared.table.TheConstants.Registrations as registrations_table
 use Rattle.registrations.specs.Registry.{Counts, LegCounts}
 use Rattle.registrations.proofs.Legs.{legs_read}
 use Rattle.registrations.proofs.Stored.{is_named}
@@ -29,7 +30,9 @@ overflow_add-legs c =
     c.self.invariant _ c.self.view_is c.args.id.now
     c.live_entry-i.result.1 c.live_entry-i.result.0 c.live_entry-i.ensures.place
     c.live_entry-i.ensures.entry c.index.result.now c.index.ensures in
-    let bound = subst (λ (w : Option ℕ). IfSome w (λ legs. legs ≤ 20000)) read c.requires.few in
+    let bound = subst
+    (λ (w : Option ℕ). IfSome w (λ legs. legs ≤ registrations_table.MOST_LEGS)) read
+    c.requires.few in
     omega (arith, bound)
 
 pub returns : goal.returns
