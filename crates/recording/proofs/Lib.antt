@@ -1,8 +1,8 @@
-mod FourNumbers
-mod LineWords
+pub mod FourNumbers
+pub mod LineWords
 mod LinesWritten
 mod MoreEntries
 mod MoreSteps
-mod NameTexts
-mod ReadLines
-mod WholeZones
+pub mod NameTexts
+pub mod ReadLines
+pub mod WholeZones

@@ -1,7 +1,7 @@
 //! Records of what a gatekeeper does, as text: step after step, within a bound.
 //!
 //! proved: a record is its zone's lines and then its steps', in order, each once, within its bound
-//! (`RecordWriter::write`); the zone's lines are read again as it
+//! (`RecordWriter::write`); read again, the zone's lines are that zone
 //! tested: audits, failing streams
 #![tactic(auto)]
 
