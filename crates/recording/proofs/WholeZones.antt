@@ -42,7 +42,7 @@ use Rattle.recording.proofs.ReadLines.{IsReadAs, bits_fit, pool_back, setting_ba
 
 -- ---- texts that are read as lines
 
-abbrev AreRead : List Line → List (List ℕ) → Type 0
+abbrev pub AreRead : List Line → List (List ℕ) → Type 0
 AreRead [] [] = Unit {0}
 AreRead [] (text ∷ texts) = ⊥
 AreRead (line ∷ lines) [] = ⊥
@@ -206,7 +206,7 @@ specs_back limit (pool ∷ pools) [] same has = absurd (omega (arith, same))
 specs_back limit (pool ∷ pools) (network ∷ networks) same has =
     firsts-zip (pool ∷ pools) (network ∷ networks) same
 
-abbrev number_of_key : ConfigParts → Key → Key × ℕ
+abbrev pub number_of_key : ConfigParts → Key → Key × ℕ
 number_of_key config key = (key, number_in config key)
 
 -- all that is set, set again
@@ -336,31 +336,53 @@ zip_few (x ∷ xs) [] n few = omega arith
 zip_few (x ∷ xs) (y ∷ ys) n few =
     omega (arith, few, zip_few xs ys (n - 1) (omega (arith, few)))
 
+-- the pools of a zone, each with its network, and all that is set
+abbrev pub entries_in : ZoneParts → List PoolEntry
+entries_in zone = zip zone.pools zone.config.networks
+
+abbrev pub settings_in : ZoneParts → List (Key × ℕ)
+settings_in zone = map (number_of_key zone.config) all_keys
+
+abbrev pub named_in : ZoneParts → List ℕ × Address
+named_in zone = (zone.config.identifier, zone.config.address)
+
+-- each line of a zone is read as it was written, and all together make its script
+pub record IsHead (zone : ZoneParts) : Type 0 where
+  pub read : AreRead (head_lines (named_in zone) (entries_in zone) (settings_in zone))
+      (zone_texts zone)
+  pub few : length (entries_in zone) ≤ 16
+  pub made : script_from (Some (named_in zone)) (settings_in zone) (entries_in zone) []
+      ≡ Ok (record { config = zone.config; pools = zone.pools; events = [] })
+
+pub head_is : (zone : ZoneParts) → IsZone zone → IsHead zone
+head_is zone is =
+    let config = zone.config in
+    let taken = is_taken zone is.taken in
+    let facts = pool_facts zone.pools config.networks taken.pools in
+    record {
+      read = (
+        zone_back config taken.word is.name is.address,
+        read_append (map Set (settings_in zone)) (map (setting_text config) all_keys)
+            (map Pool (entries_in zone)) (map pool_line_text (entries_in zone))
+            (settings_read config all_keys (keys_inside config is.config.ranges))
+            (pools_read zone.pools config.networks facts.limits
+            (bits_of_config config is.config.ranges) is.networks is.pools),
+      );
+      few = zip_few zone.pools config.networks 16 facts.few;
+      made = zone_is config zone.pools facts.same is.config.default_pool;
+    }
+
 zone_read : (zone : ZoneParts) → IsZone zone
     → script_of_lines (in_place 0 (map line_of (lines_of (zone_lines zone))))
     ≡ Ok (record { config = zone.config; pools = zone.pools; events = [] })
 unfolding zone_lines
 zone_read zone is =
-    let config = zone.config in
-    let taken = is_taken zone is.taken in
-    let facts = pool_facts zone.pools config.networks taken.pools in
-    let entries = zip zone.pools config.networks in
-    let settings = map (number_of_key config) all_keys in
-    let read : AreRead (head_lines (config.identifier, config.address) entries settings)
-    (zone_texts zone) = (
-      zone_back config taken.word is.name is.address,
-      read_append (map Set settings) (map (setting_text config) all_keys) (map Pool entries)
-          (map pool_line_text entries)
-          (settings_read config all_keys (keys_inside config is.config.ranges))
-          (pools_read zone.pools config.networks facts.limits
-          (bits_of_config config is.config.ranges) is.networks is.pools),
-    ) in
+    let head = head_is zone is in
     ap (λ (ls : List (Option Line)). script_of_lines (in_place 0 ls))
-    (lines_read (head_lines (config.identifier, config.address) entries settings)
-    (zone_texts zone) read)
-    ∙ script_is (config.identifier, config.address) entries settings
-    (zip_few zone.pools config.networks 16 facts.few)
-    ∙ zone_is config zone.pools facts.same is.config.default_pool
+    (lines_read (head_lines (named_in zone) (entries_in zone) (settings_in zone))
+    (zone_texts zone) head.read)
+    ∙ script_is (named_in zone) (entries_in zone) (settings_in zone) head.few
+    ∙ head.made
 
 short : (long : Bool) (script : Result Script ScriptFault) → long ≡ false
     → (if long then Err TooLong else script) ≡ script
