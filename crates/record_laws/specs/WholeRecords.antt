@@ -1,0 +1,66 @@
+-- Records of steps that are a run of their zone, and what an audit finds in them.
+use Rattle.std.specs.Prelude.{◌≡◌, ◌≤◌, ◌<◌, ◌+◌, ◌^◌, List, [], ◌∷◌, length, map, true, Option}
+use Rattle.std.specs.Prelude.{Some, None}
+use Rattle.std.specs.List.{AllByRecursion}
+use Rattle.pools.specs.Specs.{account_of}
+use Rattle.ras_machine.specs.State.{State, opening}
+use Rattle.ras_machine.specs.Steps.{Step}
+use Rattle.script.specs.declared.event.ScriptEvent.TheVariants as script
+use Rattle.script.specs.Runs.{are_pools_of}
+use Rattle.zone_events.specs.declared.change.Change.{Change}
+use Rattle.zone_events.specs.declared.change.Change.TheVariants as change
+use Rattle.zone_events.specs.declared.event.Event.{Event}
+use Rattle.zone_events.specs.declared.outcome.Outcome.{Outcome}
+use Rattle.zone_tables.specs.Pools.{figures_of}
+use Rattle.record_audit.specs.Audits.{IsRecord}
+use Rattle.record_audit.specs.Records.{Standing, handed_out, most_octets}
+use Rattle.record_audit.specs.Written.{IsEvent, event_text}
+use Rattle.recording.specs.Again.{IsZone}
+use Rattle.recording.specs.Records.{RecordedStep, record_text}
+use Rattle.recording.specs.Zones.{ZoneParts, zone_texts}
+use Rattle.record_laws.specs.Outcomes.{IsOutcome, outcome_text}
+
+-- an event, with its outcome, as it is recorded, and as a step
+abbrev pub recorded : Event × Outcome → RecordedStep
+recorded step = (script.Event step.0, step.1)
+
+abbrev pub made : Event × Outcome → Change × Outcome
+made step = (change.Event step.0, step.1)
+
+-- What the lines of a step from this state can tell: what the types keep, no more octets than a line
+-- may have, and an identifier that is handed out as the reply tells it.
+pub record AreTold (s : State) (event : Event) (outcome : Outcome) : Type 0 where
+  pub event_is : IsEvent event
+  pub outcome_is : IsOutcome outcome
+  pub number : s.steps + 1 < 2 ^ 64
+  pub short_event : length (event_text event) ≤ most_octets
+  pub short_outcome : length (outcome_text (s.steps + 1) outcome) ≤ most_octets
+  pub given : handed_out s outcome.note outcome.output ≡ outcome.given
+
+-- step after step from this state, each of which its lines can tell
+abbrev pub ToldRun : State → List (Event × Outcome) → State → Type 0
+ToldRun s [] after = after ≡ s
+ToldRun s (step ∷ steps) after =
+    AreTold s step.0 step.1 × (mid : State) × Step s step.0 step.1 mid × ToldRun mid steps after
+
+-- the zone before its first step
+abbrev pub opened : ZoneParts → State
+opened zone = opening zone.config (figures_of (map account_of zone.pools))
+
+-- a zone that can be recorded, whose pools make a set, and whose lines are no longer than lines may be
+pub record IsToldZone (zone : ZoneParts) : Type 0 where
+  pub zone_is : IsZone zone
+  pub pools : are_pools_of zone.config (map account_of zone.pools) ≡ true
+  pub short : AllByRecursion (λ line. length line ≤ most_octets) (zone_texts zone)
+
+-- an audit knows the zone from its first event on
+abbrev pub zone_behind : List (Event × Outcome) → State → Option State
+zone_behind [] after = None
+zone_behind (step ∷ steps) after = Some after
+
+-- an audit of the record of these steps finds these steps, and comes to this state
+pub record IsFoundAgain (zone : ZoneParts) (steps : List (Event × Outcome)) (after : State)
+    : Type 0 where
+  pub standing : Standing
+  pub is_record : IsRecord (record_text zone (map recorded steps)) (map made steps) standing
+  pub zone_is : standing.zone ≡ zone_behind steps after
