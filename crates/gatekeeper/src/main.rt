@@ -30,7 +30,7 @@ use asking::{explain_input, probe_gatekeeper};
 use auditing::audit_source;
 use commands::{Choice, InputFault, ReplayFault, Serving, check_settings, chosen, replay};
 use log::Log;
-use notices::tell_place;
+use notices::{tell_end, tell_place};
 use script::Output;
 use serve::serve;
 use source::{SETTINGS, Source, open_file};
@@ -52,6 +52,9 @@ const NO_MEMORY: u8 = 3;
 
 /// The exit status if a file or a stream can't be read.
 const STREAM_FAILED: u8 = 4;
+
+/// The exit status if each receiver gave up.
+const GAVE_UP: u8 = 4;
 
 fn main(rt: HostRuntime) -> ExitCode {
     let alloc = rt.alloc();
@@ -207,6 +210,16 @@ fn serve_source<
     }
 }
 
+/// The exit status once the report is printed, if the server was asked to end, and if it wasn't: then
+/// each receiver gave up.
+fn end_status(rt: &impl Log, was_asked: bool) -> u8 {
+    if was_asked {
+        return 0;
+    }
+    tell_end(rt);
+    GAVE_UP
+}
+
 /// Serves with the settings of an input.
 fn serve_input<
     R: Files<File = File>
@@ -227,8 +240,9 @@ fn serve_input<
         return out_of_memory(rt);
     };
     let mut out = Output::new(buffer);
+    let is_limited = serving.receives.is_some();
     match serve(rt, alloc, input, serving, stop, &mut out) {
-        Ok(()) => 0,
+        Ok(()) => end_status(rt, is_limited || stop.is_over()),
         Err(fault) => {
             let _ = eprintln!(rt; "{fault}");
             fault.status()

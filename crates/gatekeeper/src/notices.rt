@@ -71,6 +71,11 @@ pub fn tell_zone<R: Log>(rt: &R, name: &Name, address: Address, receivers: usize
         Shown(name));
 }
 
+/// Tells that nothing is served any more.
+pub fn tell_end<R: Log>(rt: &R) {
+    error!(rt; target: "serve", "each receiver gave up: too many receives in a row failed");
+}
+
 /// Tells where the status page is served.
 pub fn tell_page<R: Log>(rt: &R, address: Address) {
     let [a, b, c, d] = address.ip;
