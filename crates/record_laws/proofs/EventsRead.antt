@@ -65,8 +65,10 @@ module _ (source : Address) (bytes : List ℕ) (moment : ℕ) (located : IsAddre
   are_words : AreWords (datagram_words (decimal moment) (address_text source))
   are_words = (
     number_word moment few,
-    (plain_word (codes "from") refl refl refl,
-    (told_word source _ (address_text source) (address_is_told source located), tt)),
+    (
+      plain_word (codes "from") refl refl refl,
+      (told_word source _ (address_text source) (address_is_told source located), tt),
+    ),
   )
 
   datagram_line : IsEventLine (Datagram source bytes moment)

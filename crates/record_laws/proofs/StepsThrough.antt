@@ -44,6 +44,21 @@ module _ (now steps : ℕ) (outcome : Outcome) (after : State) where
   counted_if true e is = counted_at e is
   counted_if false e is = absurd (cc is)
 
+may_step : (b : Bool) (e : Ending) (last : Outcome × State)
+    → (if b then e else None) ≡ Some last → b ≡ true
+may_step true e last is = refl
+may_step false e last is = absurd (cc is)
+
+-- no more steps are made than have numbers
+pub few_steps : (s : State) (event : Event) (outcome : Outcome) (after : State)
+    → Step s event outcome after → s.steps + 1 < 2 ^ 64
+few_steps s event outcome after step =
+    let below : nat_lt s.steps most_steps ≡ true = may_step (nat_lt s.steps most_steps)
+    (at_moment (moment_of s event) (s.steps + 1) (course_ending s (moment_of s event)
+    (course s event (choices_of outcome)) (choices_of outcome))) (outcome, after) step.makes in
+    let few : s.steps < most_steps = grind (arith, nat_tests, below) in
+    omega (arith, few)
+
 pub counted : (s : State) (event : Event) (outcome : Outcome) (after : State)
     → Step s event outcome after → after.steps ≡ s.steps + 1
 counted s event outcome after step =
@@ -97,13 +112,14 @@ module _ (said : Said) where
       (made (event, outcome) ∷ others) new
   ended s mid event outcome told step lines others new rest =
       let number = s.steps + 1 in
-      let back = (read_back number outcome told.number told.outcome_is).back in
+      let few = few_steps s event outcome mid step in
+      let back = (read_back number outcome few told.outcome_is).back in
       let whole : Step s event (record outcome { given = handed_out s outcome.note outcome.output })
       mid = subst (λ (g : Option (List ℕ)). Step s event (record outcome { given = g }) mid)
       (sym told.given) step in
       goes_on (awaiting s event) (at mid) new (outcome_text number outcome) lines
       (made (event, outcome) ∷ []) others
-      (number_mark number told.number outcome) told.short_outcome
+      (number_mark number few outcome) told.short_outcome
       (subst (λ (r : Option ShownOutcome). Ends s (change.Event event) r (awaiting s event) (at mid))
       (sym back) (mid, record { next = refl; step = whole }, refl))
       (ap (step_shown s (change.Event event)) back

@@ -1,5 +1,5 @@
 -- An audit of the record of a run finds the steps of the run.
-use Rattle.std.proofs.Common.{◌≡◌, ◌≤◌, ◌<◌, ◌+◌, ℕ, List, [], ◌∷◌, ◌++◌, length, map, codes, Option}
+use Rattle.std.proofs.Common.{None, ◌≡◌, ◌≤◌, ◌<◌, ◌+◌, ℕ, List, [], ◌∷◌, ◌++◌, length, map, codes, Option}
 use Rattle.std.proofs.Common.{Result, refl, sym, ap, ◌∙◌, append_assoc}
 use Rattle.std.proofs.Common.{arith, subst, ◌^◌}
 use Rattle.zone_config.specs.Keys.{all_keys}
@@ -32,6 +32,7 @@ use Rattle.record_laws.proofs.OutcomesRead.{outcome_flat, read_back}
 use Rattle.record_laws.proofs.RecordLines.{AreLines, Steps, ends_append, goes_on, lines_append}
 use Rattle.record_laws.proofs.RecordLines.{lines_are, none_begun}
 use Rattle.record_laws.proofs.StepsThrough.{at, awaiting, counted, event_mark, event_through}
+use Rattle.record_laws.proofs.StepsThrough.{few_steps}
 use Rattle.record_laws.proofs.StepsThrough.{texts_from}
 use Rattle.record_laws.proofs.ZoneThrough.{AreShort, are_lines, describing, pools_through}
 use Rattle.record_laws.proofs.ZoneThrough.{settings_through, zone_through}
@@ -59,11 +60,14 @@ steps_are_lines : (steps : List (Event × Outcome)) (s after : State) (number : 
     → number ≡ s.steps + 1 → ToldRun s steps after → AreLines (texts_from number steps)
 steps_are_lines [] s after number is run = tt
 steps_are_lines (step ∷ steps) s after number is run =
-    let small : number < 2 ^ 64 = omega (arith, is, run.0.number) in (
+    let small : number < 2 ^ 64 =
+    omega (arith, is, few_steps s step.0 step.1 run.1 run.2) in (
       (event_line_is step.0 run.0.event_is).no_end,
-      ((read_back number step.1 small run.0.outcome_is).no_end,
-      steps_are_lines steps run.1 after (number + 1)
-      (omega (arith, is, counted s step.0 step.1 run.1 run.2)) run.3),
+      (
+        (read_back number step.1 small run.0.outcome_is).no_end,
+        steps_are_lines steps run.1 after (number + 1)
+            (omega (arith, is, counted s step.0 step.1 run.1 run.2)) run.3,
+      ),
     )
 
 record_flat : (zone : ZoneParts) (steps : List (Event × Outcome))
@@ -138,6 +142,11 @@ module _ (zone : ZoneParts) (told : IsToldZone zone) where
   zone_known [] after = refl
   zone_known (step ∷ steps) after = refl
 
+  none_awaited : (steps : List (Event × Outcome)) (after : State)
+      → (behind steps after).awaited ≡ None
+  none_awaited [] after = refl
+  none_awaited (step ∷ steps) after = refl
+
 pub found_again : (zone : ZoneParts) (steps : List (Event × Outcome)) (after : State)
     → IsToldZone zone → ToldRun (opened zone) steps after → IsFoundAgain zone steps after
 found_again zone steps after told run =
@@ -162,4 +171,5 @@ found_again zone steps after told run =
             (omega arith));
       };
       zone_is = zone_known zone told steps after;
+      whole = none_awaited zone told steps after;
     }

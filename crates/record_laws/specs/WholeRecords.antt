@@ -1,5 +1,5 @@
 -- Records of steps that are a run of their zone, and what an audit finds in them.
-use Rattle.std.specs.Prelude.{◌≡◌, ◌≤◌, ◌<◌, ◌+◌, ◌^◌, List, [], ◌∷◌, length, map, true, Option}
+use Rattle.std.specs.Prelude.{◌≡◌, ◌≤◌, ◌+◌, List, [], ◌∷◌, length, map, true, Option}
 use Rattle.std.specs.Prelude.{Some, None}
 use Rattle.std.specs.List.{AllByRecursion}
 use Rattle.pools.specs.Specs.{account_of}
@@ -27,12 +27,11 @@ recorded step = (script.Event step.0, step.1)
 abbrev pub made : Event × Outcome → Change × Outcome
 made step = (change.Event step.0, step.1)
 
--- What the lines of a step from this state can tell: what the types keep, no more octets than a line
--- may have, and an identifier that is handed out as the reply tells it.
+-- What the lines of a step from this state can tell: what the types keep, names of one word, no more
+-- octets than a line may have, and an identifier that is handed out as the reply tells it.
 pub record AreTold (s : State) (event : Event) (outcome : Outcome) : Type 0 where
   pub event_is : IsEvent event
   pub outcome_is : IsOutcome outcome
-  pub number : s.steps + 1 < 2 ^ 64
   pub short_event : length (event_text event) ≤ most_octets
   pub short_outcome : length (outcome_text (s.steps + 1) outcome) ≤ most_octets
   pub given : handed_out s outcome.note outcome.output ≡ outcome.given
@@ -58,9 +57,11 @@ abbrev pub zone_behind : List (Event × Outcome) → State → Option State
 zone_behind [] after = None
 zone_behind (step ∷ steps) after = Some after
 
--- an audit of the record of these steps finds these steps, and comes to this state
+-- an audit goes on behind each line of the record of these steps, finds these steps in them, and comes
+-- to this state, with no event left without its outcome
 pub record IsFoundAgain (zone : ZoneParts) (steps : List (Event × Outcome)) (after : State)
     : Type 0 where
   pub standing : Standing
   pub is_record : IsRecord (record_text zone (map recorded steps)) (map made steps) standing
   pub zone_is : standing.zone ≡ zone_behind steps after
+  pub whole : standing.awaited ≡ None

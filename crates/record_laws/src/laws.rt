@@ -11,19 +11,20 @@ ghost use Rattle.record_laws.specs.WholeRecords.{IsFoundAgain, IsToldZone, ToldR
 /// The line that is written of an outcome gives the outcome again when it is read, but for an
 /// identifier that was handed out: the reply tells that one.
 ///
-/// promise written-outcomes-are-read-again: An outcome's line, read again, is that outcome, if what
-/// it names is one word (`IsReadBack`).
+/// promise written-outcomes-are-read-again: An outcome's line, read again, is that outcome, but for
+/// an identifier handed out, if what it names is one word (`IsReadBack`).
 pub fn written_outcomes_are_read_again()
     ensures { (number : ℕ) (outcome : Outcome) → number < 2 ^ 64 → IsOutcome outcome
         → IsReadBack number outcome }
 {}
 
-/// The record of a zone and of steps that are a run of it is audited as these steps: an audit goes
-/// on behind each of its lines, and comes to the state to which they lead. Each reply has to tell
-/// the identifier that its step handed out.
+/// The record of a fresh zone and of events that are a run of it is a record of that run: an audit
+/// goes on behind each of its lines, finds these steps, and comes to the state to which they lead.
+/// The lines have to be able to tell the zone and each step: names are one word, no line is too
+/// long, and each reply tells the identifier that its step handed out.
 ///
-/// promise recorded-run-is-found-again: An audit of the record of a run finds the steps of that run
-/// (`IsFoundAgain`, `ToldRun`).
+/// promise recorded-run-is-found-again: The record of a run of events is a record of that run to an
+/// audit, if its lines can tell zone and steps (`IsFoundAgain`, `IsToldZone`, `ToldRun`).
 pub fn recorded_run_is_found_again()
     ensures { (zone : ZoneParts) (steps : List (Event × Outcome)) (after : State)
         → IsToldZone zone → ToldRun (opened zone) steps after → IsFoundAgain zone steps after }

@@ -1,7 +1,8 @@
 //! What is read of the lines of a record: what was written.
 //!
-//! proved: an audit of the record of a run finds the steps of that run, if each reply tells the
-//! identifier that its step handed out (`recorded_run_is_found_again`)
+//! proved: an audit of the record of a run of events finds that run, if the record's lines can tell
+//! zone and steps (`recorded_run_is_found_again`)
+//! tested: that those of a running zone can
 #![tactic(auto)]
 
 mod laws;
