@@ -22,7 +22,8 @@ use Rattle.recording.proofs.FourNumbers.{address_is_told}
 use Rattle.recording.proofs.LineWords.{Without, number_back, without_append}
 use Rattle.record_laws.proofs.OutcomeWords.{left_words, number_word, octets_left, octets_without}
 use Rattle.record_laws.proofs.OutcomeWords.{told_word}
-use Rattle.record_laws.proofs.SpacedWords.{AreWords, plain_word, spaced, spaced_without, words_behind}
+use Rattle.record_laws.proofs.SpacedWords.{AreWords, plain_word, spaced, spaced_without}
+use Rattle.record_laws.proofs.SpacedWords.{words_behind}
 use Rattle.record_laws.proofs.SpacedWords.{words_spaced}
 
 -- a text in which no line ends, and of which this event is read
@@ -87,7 +88,8 @@ module _ (source : Address) (bytes : List ℕ) (moment : ℕ) (located : IsAddre
             ∙ ap line_of_words (words_behind (codes "at") words (encode_upper bytes) at are_words)
             ∙ ap (λ (ws : List (List ℕ)). line_of_words ((codes "at" ∷ words) ++ ws))
             (octets_left (encode_upper bytes) (octets_without 32 refl bytes octets))
-            ∙ at_read (decimal moment) (address_text source) (encode_upper bytes) moment source bytes
+            ∙ at_read (decimal moment) (address_text source) (encode_upper bytes) moment source
+            bytes
             (number_back moment few 0 (2 ^ 53 - 1) (omega arith) (omega (arith, small)))
             (address_is_told source located).back
             (ap result_ok (decode_of-encode_upper bytes octets));
@@ -114,7 +116,8 @@ turn_line moment small =
       back = ap (λ (text : List ℕ). line_of_words (words_of text)) flat
           ∙ ap line_of_words
           (words_spaced (codes "turn") (decimal moment ∷ []) turn (number_word moment few, tt))
-          ∙ ap turn_from (number_back moment few 0 (2 ^ 53 - 1) (omega arith) (omega (arith, small)));
+          ∙ ap turn_from (number_back moment few 0 (2 ^ 53 - 1) (omega arith)
+          (omega (arith, small)));
     }
 
 pub event_line_is : (event : Event) → IsEvent event → IsEventLine event

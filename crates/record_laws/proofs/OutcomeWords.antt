@@ -25,7 +25,8 @@ use Rattle.zone_events.specs.declared.outcome.Note.{Note}
 use Rattle.zone_events.specs.declared.outcome.Note.TheVariants.{Served, Kept, Ignored, Done, Idle}
 use Rattle.zone_events.specs.declared.outcome.Note.TheVariants.{Replaced}
 use Rattle.zone_events.specs.declared.outcome.Outcome.{Outcome}
-use Rattle.script.specs.Prints.{address_text, answer_text, cause_text, dropped_text, identifier_text}
+use Rattle.script.specs.Prints.{address_text, answer_text, cause_text, dropped_text}
+use Rattle.script.specs.Prints.{identifier_text}
 use Rattle.script.specs.Prints.{note_text, output_text}
 use Rattle.script.specs.Words.{words_of}
 use Rattle.recording.proofs.FourNumbers.{IsTold, address_is_told}
@@ -168,7 +169,8 @@ octets_left (c ∷ cs) none = words_last (c ∷ cs) none (omega arith)
 
 item_flat : (item : DueItem) → note_text (Done item) ≡ codes "done" ++ spaced (item_words item)
 item_flat (RegistrationOver id) =
-    ap (λ (t : List ℕ). codes "done registration-over " ++ t) (sym (append-nil (identifier_text id)))
+    ap (λ (t : List ℕ). codes "done registration-over " ++ t)
+    (sym (append-nil (identifier_text id)))
 item_flat (Interrogate id) =
     ap (λ (t : List ℕ). codes "done interrogate " ++ t) (sym (append-nil (identifier_text id)))
 item_flat (Silent id) =
@@ -206,7 +208,8 @@ dropped_flat (Some born) =
 -- the words between the number and what is sent, and those behind them
 abbrev middle : Outcome → List (List ℕ) → List (List ℕ)
 middle outcome last =
-    note_words outcome.note ++ (answer_words outcome.answer ++ (dropped_words outcome.dropped ++ last))
+    note_words outcome.note ++ (answer_words outcome.answer
+    ++ (dropped_words outcome.dropped ++ last))
 
 abbrev pub line_words : ℕ → Outcome → List (List ℕ)
 line_words number outcome = decimal number ∷ middle outcome (output_words outcome.output)
@@ -308,7 +311,8 @@ line_none number outcome small h none =
     record {
       words = ap words_of text
           ∙ words_spaced (decimal number) (middle outcome []) (number_word number small) are
-          ∙ ap (λ (o : Option Datagram). decimal number ∷ middle outcome (output_words o)) (sym none);
+          ∙ ap (λ (o : Option Datagram). decimal number ∷ middle outcome (output_words o))
+          (sym none);
       no_end = subst (Without 10) (sym text)
           (without_append 10 (decimal number) (spaced (middle outcome []))
           (number_word number small).no_end (spaced_without (middle outcome []) are));
@@ -325,11 +329,13 @@ line_some number outcome datagram small h some sent =
       words = ap words_of text
           ∙ words_behind (decimal number) (middle outcome (addressed datagram)) octets
           (number_word number small) are
-          ∙ ap (λ (ws : List (List ℕ)). decimal number ∷ (middle outcome (addressed datagram) ++ ws))
+          ∙ ap (λ (ws : List (List ℕ)). decimal number
+          ∷ (middle outcome (addressed datagram) ++ ws))
           (octets_left octets (octets_without 32 refl datagram.bytes sent.1))
           ∙ ap (λ (ws : List (List ℕ)). decimal number ∷ ws)
           (middle_append outcome (addressed datagram) (left_words octets))
-          ∙ ap (λ (o : Option Datagram). decimal number ∷ middle outcome (output_words o)) (sym some);
+          ∙ ap (λ (o : Option Datagram). decimal number ∷ middle outcome (output_words o))
+          (sym some);
       no_end = subst (Without 10) (sym text)
           (without_append 10 (decimal number ++ spaced (middle outcome (addressed datagram)))
           (32 ∷ octets)

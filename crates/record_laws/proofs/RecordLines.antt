@@ -1,5 +1,6 @@
 -- The lines of a record, and how an audit goes on behind each.
-use Rattle.std.proofs.Common.{◌≡◌, ◌≤◌, ◌==◌, ◌&&◌, ℕ, List, [], ◌∷◌, ◌++◌, length, codes, Bool, true}
+use Rattle.std.proofs.Common.{◌≡◌, ◌≤◌, ◌==◌, ◌&&◌, ℕ, List, [], ◌∷◌, ◌++◌, length, codes, Bool}
+use Rattle.std.proofs.Common.{true}
 use Rattle.std.proofs.Common.{false, refl, sym, ap, ◌∙◌, append_assoc, subst}
 use Rattle.std.proofs.Common.{nat_lt}
 use Rattle.zone_events.specs.declared.change.Change.{Change}
@@ -67,7 +68,8 @@ and_false false = refl
 -- a line that begins with another character is no remark
 pub no_remark : (c : ℕ) (cs : List ℕ) → (c == 35) ≡ false → is_remark (c ∷ cs) ≡ false
 no_remark c cs other =
-    ap (λ (b : Bool). nat_lt 0 (length (c ∷ cs)) && b) other ∙ and_false (nat_lt 0 (length (c ∷ cs)))
+    ap (λ (b : Bool). nat_lt 0 (length (c ∷ cs)) && b) other
+    ∙ and_false (nat_lt 0 (length (c ∷ cs)))
 
 pub goes_on : (old mid new : Standing) (line : List ℕ) (lines : List (List ℕ)) (step others : Steps)
     → is_remark line ≡ false → length line ≤ most_octets

@@ -1,6 +1,7 @@
 -- An audit goes on behind the lines of the steps of a run.
 use Rattle.std.proofs.Common.{◌≡◌, ◌<◌, ◌+◌, ◌^◌, ℕ, List, [], ◌∷◌, ◌++◌, length, map}
-use Rattle.std.proofs.Common.{codes, Bool, true, false, Option, Some, None, refl, sym, ap, ◌∙◌, subst}
+use Rattle.std.proofs.Common.{codes, Bool, true, false, Option, Some, None, refl, sym, ap, ◌∙◌}
+use Rattle.std.proofs.Common.{subst}
 use Rattle.std.proofs.Common.{arith, if◌then◌else◌, nat_lt, drop}
 use Rattle.std.proofs.lemmas.Bool.Decides.{nat_tests}
 use Rattle.std.proofs.lemmas.Fmt.{decimal_nonempty}
@@ -92,7 +93,8 @@ number_mark n small outcome =
         ++ output_text outcome.output) none.0
 
 pub event_mark : (event : Event) → is_remark (event_text event) ≡ false
-event_mark (Datagram source bytes moment) = no_remark 97 (drop 1 (datagram_text source bytes moment)) refl
+event_mark (Datagram source bytes moment) =
+    no_remark 97 (drop 1 (datagram_text source bytes moment)) refl
 event_mark (Turn moment) = no_remark 116 (drop 1 (turn_text moment)) refl
 
 -- ---- how an audit goes on
@@ -120,7 +122,8 @@ module _ (said : Said) where
       goes_on (awaiting s event) (at mid) new (outcome_text number outcome) lines
       (made (event, outcome) ∷ []) others
       (number_mark number few outcome) told.short_outcome
-      (subst (λ (r : Option ShownOutcome). Ends s (change.Event event) r (awaiting s event) (at mid))
+      (subst (λ (r : Option ShownOutcome). Ends s (change.Event event) r (awaiting s event)
+      (at mid))
       (sym back) (mid, record { next = refl; step = whole }, refl))
       (ap (step_shown s (change.Event event)) back
       ∙ ap (λ (g : Option (List ℕ)). (change.Event event, record outcome { given = g }) ∷ [])

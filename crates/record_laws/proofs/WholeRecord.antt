@@ -1,5 +1,6 @@
 -- An audit of the record of a run finds the steps of the run.
-use Rattle.std.proofs.Common.{None, ◌≡◌, ◌≤◌, ◌<◌, ◌+◌, ℕ, List, [], ◌∷◌, ◌++◌, length, map, codes, Option}
+use Rattle.std.proofs.Common.{None, ◌≡◌, ◌≤◌, ◌<◌, ◌+◌, ℕ, List, [], ◌∷◌, ◌++◌, length, map, codes}
+use Rattle.std.proofs.Common.{Option}
 use Rattle.std.proofs.Common.{Result, refl, sym, ap, ◌∙◌, append_assoc}
 use Rattle.std.proofs.Common.{arith, subst, ◌^◌}
 use Rattle.zone_config.specs.Keys.{all_keys}

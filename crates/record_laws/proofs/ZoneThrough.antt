@@ -63,12 +63,14 @@ module _ (zone : List ℕ × Address) (lines : List (List ℕ)) (steps : Steps) 
       → AreRead (map Pool entries) (map pool_line_text entries)
       → AreShort (map pool_line_text entries)
       → GoesThrough (describing zone settings (before ++ entries)) lines steps new
-      → GoesThrough (describing zone settings before) (map pool_line_text entries ++ lines) steps new
+      → GoesThrough (describing zone settings before) (map pool_line_text entries ++ lines) steps
+      new
   pools_through settings [] before few read short rest =
       subst (λ (ps : List PoolEntry). GoesThrough (describing zone settings ps) lines steps new)
       (append-nil before) rest
   pools_through settings (entry ∷ entries) before few read short rest =
-      goes_on (describing zone settings before) (describing zone settings (before ++ entry ∷ [])) new
+      goes_on (describing zone settings before) (describing zone settings (before ++ entry ∷ []))
+      new
       (pool_line_text entry) (map pool_line_text entries ++ lines) [] steps
       (no_remark 112 (drop 1 (pool_line_text entry)) refl) short.0
       (taken (describing zone settings before) (describing zone settings (before ++ entry ∷ []))

@@ -27,8 +27,8 @@ recorded step = (script.Event step.0, step.1)
 abbrev pub made : Event × Outcome → Change × Outcome
 made step = (change.Event step.0, step.1)
 
--- What the lines of a step from this state can tell: what the types keep, names of one word, no more
--- octets than a line may have, and an identifier that is handed out as the reply tells it.
+-- What the lines of a step from this state can tell: what the types keep, names of one word, no
+-- more octets than a line may have, and an identifier that is handed out as the reply tells it.
 pub record AreTold (s : State) (event : Event) (outcome : Outcome) : Type 0 where
   pub event_is : IsEvent event
   pub outcome_is : IsOutcome outcome
@@ -46,7 +46,7 @@ ToldRun s (step ∷ steps) after =
 abbrev pub opened : ZoneParts → State
 opened zone = opening zone.config (figures_of (map account_of zone.pools))
 
--- a zone that can be recorded, whose pools make a set, and whose lines are no longer than lines may be
+-- a zone that can be recorded, whose pools make a set, and whose lines are short enough
 pub record IsToldZone (zone : ZoneParts) : Type 0 where
   pub zone_is : IsZone zone
   pub pools : are_pools_of zone.config (map account_of zone.pools) ≡ true
@@ -57,8 +57,8 @@ abbrev pub zone_behind : List (Event × Outcome) → State → Option State
 zone_behind [] after = None
 zone_behind (step ∷ steps) after = Some after
 
--- an audit goes on behind each line of the record of these steps, finds these steps in them, and comes
--- to this state, with no event left without its outcome
+-- an audit goes on behind each line of the record of these steps, finds these steps in them, and
+-- comes to this state, with no event left without its outcome
 pub record IsFoundAgain (zone : ZoneParts) (steps : List (Event × Outcome)) (after : State)
     : Type 0 where
   pub standing : Standing
