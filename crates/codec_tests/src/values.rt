@@ -255,13 +255,11 @@ fn a_33rd_alias_is_too_many(rt: HostRuntime) -> Result<(), Fail> {
 }
 
 #[test]
-fn a_list_with_memory_for_many_keeps_memory_for_few(rt: HostRuntime) -> Result<(), Fail> {
+fn one_alias_of_a_list_with_memory_for_many_is_kept(rt: HostRuntime) -> Result<(), Fail> {
     let mut items = Vec::with_capacity(rt.alloc(), 1350)?;
     items.push(digits("101")?)?;
     let few = ReplyAliases::new(AliasList::from_vec(items))?.ok_or("one alias is few")?;
-    let kept = few.into_list().into_vec();
-    assert_eq!(rt; kept.len(), 1);
-    assert!(rt; kept.capacity() <= ReplyAliases::MOST);
+    assert!(rt; few.as_slice() == [digits("101")?].as_slice());
     Ok(())
 }
 
@@ -296,29 +294,5 @@ fn octets_come_and_go_as_vectors(rt: HostRuntime) -> Result<(), Fail> {
     let copy = octets.copy()?;
     assert!(rt; copy == octets);
     assert_eq!(rt; copy.into_vec().as_slice(), [1, 2, 3].as_slice());
-    Ok(())
-}
-
-/// Whether these aliases, in this order, are left once later doubles are dropped.
-fn is_left(list: &AliasList, expected: &[Alias]) -> Result<bool, AllocError> {
-    let distinct = list.distinct()?;
-    Ok(distinct.as_slice() == expected)
-}
-
-fn list_of(alloc: Global, aliases: &[Alias]) -> Result<AliasList, AllocError> {
-    let mut list = AliasList::new(alloc);
-    for alias in aliases {
-        list.push(*alias)?;
-    }
-    Ok(list)
-}
-
-#[test]
-fn later_doubles_are_dropped(rt: HostRuntime) -> Result<(), Fail> {
-    let (a, b, c) = (digits("101")?, digits("102")?, digits("103")?);
-    let list = list_of(rt.alloc(), &[a, b, a, c, b])?;
-    let is_left = is_left(&list, &[a, b, c]);
-    drop(list);
-    assert!(rt; is_left?);
     Ok(())
 }

@@ -36,19 +36,6 @@ fn octets(alloc: Global) -> Result<(), &'static str> {
     Ok(())
 }
 
-/// A list without its doubles.
-fn distinct(alloc: Global) -> Result<(), &'static str> {
-    let list = doubled(alloc)?;
-    let distinct = list
-        .distinct()
-        .or_else(|_| list.distinct())
-        .map_err(|_| TWICE)?;
-    if distinct.len() != 1 {
-        return Err(OTHERWISE);
-    }
-    Ok(())
-}
-
 /// An AdmissionRequest in its box. If its memory is refused, the list is let go.
 fn admission(
     alloc: Global,
@@ -99,12 +86,10 @@ fn reply(alloc: Global, seq: RequestSeqNum) -> Result<(), &'static str> {
     Ok(())
 }
 
-/// A datagram's octets, a request and a reply with aliases are copied, and a list without its
-/// doubles.
+/// A datagram's octets, a request and a reply with aliases are copied.
 pub fn copies(alloc: Global) -> Result<(), &'static str> {
     let seq = RequestSeqNum::new(1).ok_or("no number")?;
     octets(alloc)?;
-    distinct(alloc)?;
     request(alloc, seq)?;
     reply(alloc, seq)
 }

@@ -3,7 +3,7 @@
 ghost use Rattle.std.specs.Prelude.{◌≡◌, ◌↔◌, ◌++◌, ◌∷◌, ◌≤◌, [], length, IfOk};
 ghost use Rattle.std.specs.Prelude.{OnOk, OnErr, IsTrue, MatchOption, ◌<◌, ◌*◌, vec_capacity};
 ghost use Rattle.std.specs.Cmp.Lexicographic.{pointwise};
-ghost use Rattle.ras_module.specs.Aliases.{same_alias, has_alias, without_doubles};
+ghost use Rattle.ras_module.specs.Aliases.{same_alias};
 ghost use Rattle.ras_module.specs.Rooms.{aliases_room};
 ghost use Rattle.ras_module.specs.Same.{aliases_equivalence, aliases_partial_equivalence};
 
@@ -77,26 +77,6 @@ impl AliasList {
     {
         self.items.push(alias)?;
         Ok(())
-    }
-
-    /// Whether an alias is among them.
-    fn has(&self, alias: &Alias) -> bool
-        ensures { result ≡ has_alias self.now alias.now }
-    {
-        self.items.iter().any(|kept| kept == alias)
-    }
-
-    /// The aliases, each once: later doubles are dropped.
-    pub fn distinct(&self) -> Result<Self, AllocError>
-        ensures { IfOk result (λ distinct. distinct ≡ without_doubles self.now) }
-    {
-        let mut kept = AliasList::new(*self.items.allocator());
-        for alias in &self.items {
-            if !kept.has(alias) {
-                kept.push(*alias)?;
-            }
-        }
-        Ok(kept)
     }
 
     /// An equal list.
@@ -183,14 +163,6 @@ impl ReplyAliases {
             room += alias.room();
         }
         room
-    }
-
-    /// The list of the aliases. This takes no memory.
-    pub fn into_list(self) -> AliasList
-        ensures { result ≡ self }
-    {
-        let ReplyAliases { items } = self;
-        AliasList { items }
     }
 
     /// An equal list.

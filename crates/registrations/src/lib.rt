@@ -1,7 +1,7 @@
 //! The endpoints that are registered, by identifier.
 //!
-//! proved: a finite map; a new endpoint gets an unused identifier (`Registrations::add`); an ended
-//! silence is told (`silent`)
+//! proved: a finite map, in which a new endpoint gets an unused identifier (`Registrations::add`);
+//! an endpoint whose silence has ended is told (`silent`)
 #![tactic(auto)]
 
 mod fault;

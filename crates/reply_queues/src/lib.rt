@@ -2,7 +2,8 @@
 //! puts datagrams and one that takes them, which may stand in two threads. No call waits, and none
 //! but `rings` takes memory.
 //!
-//! proved: if a ring settles as whole, what was taken is what was put (`Inlet::settle`)
+//! proved: if a ring is found to be whole at its end, what was taken is what was put
+//! (`Inlet::settle`)
 //! tested: that there is a mark
 #![tactic(auto)]
 

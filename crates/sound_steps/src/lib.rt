@@ -1,7 +1,7 @@
 //! Laws of all steps and runs, whatever code makes them. From a sound state each step leads to a
 //! sound one. Nothing here makes a step.
 //!
-//! proved: each state of a run from a sound one is within the limit
+//! proved: each state of a run from a sound one is within the limit, if its moments are below 2^53
 //! (`every_state_of_a_run_is_within_the_limit`)
 #![tactic(auto)]
 

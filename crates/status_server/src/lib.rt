@@ -1,8 +1,8 @@
 //! A server of the status pages of a running zone over HTTP, for a thread of its own. It answers
 //! reads and nothing else.
 //!
-//! proved: that it is safe; status, fields and body are those of a response; rows that aren't told
-//! again are the zone's
+//! proved: that it is safe; status, header fields and body are those of the page; its rows are the
+//! zone's, unless they are sent again from memory
 //! tested: the built program
 #![tactic(auto)]
 
