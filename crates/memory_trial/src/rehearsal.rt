@@ -10,7 +10,7 @@ use crate::worlds::act_out;
 use pools::{Pool, PoolSet, StandardPool};
 use ras_core::{Change, Event, Outcome, Snapshot, StepFault, Zone};
 use registrations::Registration;
-use script::{Events, Input, Script, ScriptEvent, ScriptFault, read_script, write_outcomes};
+use script::{Events, Input, Script, ScriptEvent, ScriptFault, read_script, write_outcome};
 use std::alloc::{AllocError, AllocFailed, Global};
 use std::io;
 use std::rt::Clock;
@@ -277,9 +277,16 @@ fn perform<P: Pool + Send, R: Print + Threads + Wait + Clock + Sync>(
     let (stage, events) = stage_of(alloc, script, pools)?;
     let mut outcomes = Vec::with_capacity(alloc, events.len())?;
     hand_over(rt, alloc, stage, &events, &mut outcomes, way)?;
-    write_outcomes(&outcomes, &mut io::writer(rt)).map_err(|_| Trouble::Otherwise(
-        "standard output failed",
-    ))
+    print_outcomes(rt, &outcomes).map_err(|_| Trouble::Otherwise("standard output failed"))
+}
+
+/// Prints a line for each outcome, numbered from 1.
+fn print_outcomes<R: Print>(rt: &R, outcomes: &[Outcome]) -> io::Result<()> {
+    let mut out = io::writer(rt);
+    for (i, outcome) in outcomes.iter().enumerate() {
+        write_outcome(i + 1, outcome, &mut out)?;
+    }
+    Ok(())
 }
 
 fn script_of(alloc: Global, text: &[u8]) -> Result<Script, Trouble> {

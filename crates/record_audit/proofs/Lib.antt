@@ -1,8 +1,8 @@
 mod Ending
 mod Following
 mod MadePools
-mod OneRun
+pub mod OneRun
 mod Reaching
-mod ReadingBack
+pub mod ReadingBack
 mod Runs
 mod Whole

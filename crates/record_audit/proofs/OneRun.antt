@@ -23,7 +23,7 @@ use Rattle.record_audit.specs.Audits.{IsNoRecord, StopsAt, first_reading}
 use Rattle.record_audit.specs.Records.{Calls, Describes, Ends, Goes, GoesThrough, GoesUnless}
 use Rattle.record_audit.specs.Records.{IsRunTo, Opens, ShowsStep, Standing, Takes, beginning}
 use Rattle.record_audit.specs.Records.{completed, is_remark, most_octets, opening_of, script_in}
-use Rattle.record_audit.specs.Records.{steps_of}
+use Rattle.record_audit.specs.Records.{step_by, steps_of}
 
 abbrev Steps : Type 0
 Steps = List (Change × Outcome)
@@ -96,6 +96,18 @@ through_one (line ∷ lines) s t old x y p q =
     (subst (λ (mid : Standing). GoesThrough mid lines q.2 y)
     (one_place old q.0 p.0 line q.1 p.1) q.3)
 
+-- and so the steps that are recorded in lines are the same, however an audit goes on
+pub one_record : (lines : List (List ℕ)) (s t : Steps) (old x y : Standing)
+    → GoesThrough old lines s x → GoesThrough old lines t y → s ≡ t
+one_record [] s t old x y p q = p.1 ∙ sym q.1
+one_record (line ∷ lines) s t old x y p q =
+    p.4
+    ∙ ap (λ (others : Steps). step_by old line ++ others)
+    (one_record lines p.2 q.2 p.0 x y p.3
+    (subst (λ (mid : Standing). GoesThrough mid lines q.2 y)
+    (one_place old q.0 p.0 line q.1 p.1) q.3))
+    ∙ sym q.4
+
 -- ---- a line that an audit doesn't pass
 
 -- an audit that goes on behind all these goes on behind the next one, too
@@ -140,7 +152,7 @@ module _ (now steps : ℕ) (outcome : Outcome) (after : State) where
   counted_if true e is = counted_at e is
   counted_if false e is = absurd (cc is)
 
-counted_step : (s : State) (what : Change) (outcome : Outcome) (after : State)
+pub counted_step : (s : State) (what : Change) (outcome : Outcome) (after : State)
     → ChangeStep s what outcome after → after.steps ≡ s.steps + 1
 counted_step s (change.Event event) outcome after step =
     counted_if (moment_of s event) (s.steps + 1) outcome after (nat_lt s.steps most_steps)

@@ -24,26 +24,12 @@ use Rattle.record_audit.specs.Written.{datagram_text, event_text, turn_text}
 use Rattle.recording.proofs.LineWords.{Without, number_without}
 use Rattle.record_laws.specs.Outcomes.{outcome_text}
 use Rattle.record_laws.specs.WholeRecords.{AreTold, ToldRun, made}
-use Rattle.record_laws.proofs.EventsRead.{event_line_is}
+use Rattle.record_audit.proofs.OneRun.{counted_step}
+use Rattle.record_audit.proofs.ReadingBack as reading
 use Rattle.record_laws.proofs.OutcomesRead.{read_back}
 use Rattle.record_laws.proofs.RecordLines.{Steps, goes_on, no_remark}
 
 -- ---- each step is counted
-
-steps_in : Ending → ℕ
-steps_in None = 0
-steps_in (Some ending) = ending.1.steps
-
-module _ (now steps : ℕ) (outcome : Outcome) (after : State) where
-  counted_at : (e : Ending) → at_moment now steps e ≡ Some (outcome, after) → after.steps ≡ steps
-  unfolding steps_in
-  counted_at None is = absurd (cc is)
-  counted_at (Some e) is = sym (ap steps_in is)
-
-  counted_if : (b : Bool) (e : Ending) → (if b then at_moment now steps e else None)
-      ≡ Some (outcome, after) → after.steps ≡ steps
-  counted_if true e is = counted_at e is
-  counted_if false e is = absurd (cc is)
 
 may_step : (b : Bool) (e : Ending) (last : Outcome × State)
     → (if b then e else None) ≡ Some last → b ≡ true
@@ -63,9 +49,7 @@ few_steps s event outcome after step =
 pub counted : (s : State) (event : Event) (outcome : Outcome) (after : State)
     → Step s event outcome after → after.steps ≡ s.steps + 1
 counted s event outcome after step =
-    counted_if (moment_of s event) (s.steps + 1) outcome after (nat_lt s.steps most_steps)
-    (course_ending s (moment_of s event) (course s event (choices_of outcome)) (choices_of outcome))
-    step.makes
+    counted_step s (change.Event event) outcome after step
 
 -- ---- the lines of steps
 
@@ -153,7 +137,7 @@ module _ (said : Said) where
       (outcome_text number step.1 ∷ texts_from (number + 1) steps) [] (map made (step ∷ steps))
       (event_mark step.0) run.0.short_event
       (subst (λ (line : Option Line). Calls (at s) line (awaiting s step.0))
-      (sym (event_line_is step.0 run.0.event_is).back) refl)
+      (sym (reading.read_back step.0 run.0.event_is).back) refl)
       refl
       (after_event step steps s run.1 after number is run.0 run.2
       (steps_through steps run.1 after (number + 1)

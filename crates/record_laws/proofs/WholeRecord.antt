@@ -20,6 +20,8 @@ use Rattle.record_audit.specs.Records.{nothing_said}
 use Rattle.record_audit.specs.Lines.{begun_behind, lines_behind}
 use Rattle.record_audit.specs.Records.{most_octets}
 use Rattle.record_audit.specs.Written.{event_text}
+use Rattle.record_audit.proofs.OneRun.{one_record}
+use Rattle.record_audit.proofs.ReadingBack as reading
 use Rattle.recording.specs.Records.{record_text, step_lines}
 use Rattle.recording.specs.Zones.{ZoneParts, pool_line_text, setting_text, with_ends, zone_lines}
 use Rattle.recording.specs.Zones.{zone_texts}
@@ -28,7 +30,7 @@ use Rattle.recording.proofs.WholeZones.{settings_in}
 use Rattle.record_laws.specs.Outcomes.{outcome_text}
 use Rattle.record_laws.specs.WholeRecords.{IsFoundAgain, IsToldZone, ToldRun, made, opened}
 use Rattle.record_laws.specs.WholeRecords.{recorded, zone_behind}
-use Rattle.record_laws.proofs.EventsRead.{event_line_is}
+use Rattle.record_laws.proofs.EventsRead.{event_is_a_line}
 use Rattle.record_laws.proofs.OutcomesRead.{outcome_flat, read_back}
 use Rattle.record_laws.proofs.RecordLines.{AreLines, Steps, ends_append, goes_on, lines_append}
 use Rattle.record_laws.proofs.RecordLines.{lines_are, none_begun}
@@ -63,7 +65,7 @@ steps_are_lines [] s after number is run = tt
 steps_are_lines (step ∷ steps) s after number is run =
     let small : number < 2 ^ 64 =
     omega (arith, is, few_steps s step.0 step.1 run.1 run.2) in (
-      (event_line_is step.0 run.0.event_is).no_end,
+      event_is_a_line step.0 run.0.event_is,
       (
         (read_back number step.1 small run.0.outcome_is).no_end,
         steps_are_lines steps run.1 after (number + 1)
@@ -132,7 +134,7 @@ module _ (zone : ZoneParts) (told : IsToldZone zone) where
       (outcome_text 1 step.1 ∷ texts_from 2 steps) [] (map made (step ∷ steps))
       (event_mark step.0) run.0.short_event
       (subst (λ (line : Option Line). Describes behind_zone line mid)
-      (sym (event_line_is step.0 run.0.event_is).back)
+      (sym (reading.read_back step.0 run.0.event_is).back)
       (subst (λ (r : Result Script ScriptFault). Opens r (script.Event step.0) mid)
       (sym head.made) (told.pools, refl)))
       refl
@@ -158,19 +160,23 @@ found_again zone steps after told run =
     (are_lines (head_lines (named_in zone) (entries_in zone) (settings_in zone)) (zone_texts zone)
     head.read)
     (steps_are_lines steps (opened zone) after 1 refl run) in
+    let through = subst (λ (t : List ℕ). GoesThrough beginning (lines_behind [] t) (map made steps)
+    (behind zone told steps after)) (sym text)
+    (subst (λ (ls : List (List ℕ)). GoesThrough beginning ls (map made steps)
+    (behind zone told steps after)) (sym (lines_are texts lines))
+    (head_through zone told (texts_from 1 steps) (map made steps)
+    (behind zone told steps after) (record_through zone told steps after run))) in
     record {
       standing = behind zone told steps after;
       is_record = record {
-        through = subst (λ (t : List ℕ). GoesThrough beginning (lines_behind [] t) (map made steps)
-            (behind zone told steps after)) (sym text)
-            (subst (λ (ls : List (List ℕ)). GoesThrough beginning ls (map made steps)
-            (behind zone told steps after)) (sym (lines_are texts lines))
-            (head_through zone told (texts_from 1 steps) (map made steps)
-            (behind zone told steps after) (record_through zone told steps after run)));
+        through = through;
         few = subst (λ (t : List ℕ). length (begun_behind [] t) ≤ most_octets) (sym text)
             (subst (λ (b : List ℕ). length b ≤ most_octets) (sym (none_begun texts lines))
             (omega arith));
       };
       zone_is = zone_known zone told steps after;
       whole = none_awaited zone told steps after;
+      alone = λ others other is_record.
+          one_record (lines_behind [] (record_text zone (map recorded steps))) others
+          (map made steps) beginning other (behind zone told steps after) is_record.through through;
     }

@@ -57,11 +57,13 @@ abbrev pub zone_behind : List (Event × Outcome) → State → Option State
 zone_behind [] after = None
 zone_behind (step ∷ steps) after = Some after
 
--- an audit goes on behind each line of the record of these steps, finds these steps in them, and
--- comes to this state, with no event left without its outcome
+-- an audit goes on behind each line of the record of these steps, finds these steps in them and no
+-- others, and comes to this state, with no event left without its outcome
 pub record IsFoundAgain (zone : ZoneParts) (steps : List (Event × Outcome)) (after : State)
     : Type 0 where
   pub standing : Standing
   pub is_record : IsRecord (record_text zone (map recorded steps)) (map made steps) standing
   pub zone_is : standing.zone ≡ zone_behind steps after
   pub whole : standing.awaited ≡ None
+  pub alone : (others : List (Change × Outcome)) → (other : Standing)
+      → IsRecord (record_text zone (map recorded steps)) others other → others ≡ map made steps

@@ -19,12 +19,12 @@ pub fn written_outcomes_are_read_again()
 {}
 
 /// The record of a fresh zone and of events that are a run of it is a record of that run: an audit
-/// goes on behind each of its lines, finds these steps, and comes to the state to which they lead.
-/// The lines have to be able to tell the zone and each step: names are one word, no line is too
-/// long, and each reply tells the identifier that its step handed out.
+/// goes on behind each of its lines, finds these steps and no others, and comes to the state to
+/// which they lead. The lines have to be able to tell the zone and each step: names are one word,
+/// no line is too long, and each reply tells the identifier that its step handed out.
 ///
-/// promise recorded-run-is-found-again: The record of a run of events is a record of that run to an
-/// audit, if its lines can tell zone and steps (`IsFoundAgain`, `IsToldZone`, `ToldRun`).
+/// promise recorded-run-is-found-again: The record of a run of events is a record of that run alone
+/// to an audit, if its lines can tell zone and steps (`IsFoundAgain`, `IsToldZone`, `ToldRun`).
 pub fn recorded_run_is_found_again()
     ensures { (zone : ZoneParts) (steps : List (Event × Outcome)) (after : State)
         → IsToldZone zone → ToldRun (opened zone) steps after → IsFoundAgain zone steps after }

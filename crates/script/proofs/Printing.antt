@@ -1,13 +1,11 @@
 -- Texts are written a part at a time.
 use Rattle.std.proofs.Common.{◌≡◌, ℕ, ◌+◌, ◌<◌, ◌/◌, ◌%◌, List, [], ◌∷◌, ◌++◌, length, take, get_or}
 use Rattle.std.proofs.Common.{slice_index, refl, sym, ap, ◌∙◌, append_assoc, append-nil, add-zero}
-use Rattle.std.proofs.Common.{length-take-le, arith}
+use Rattle.std.proofs.Common.{arith}
 use Rattle.std.proofs.lemmas.List.{take_more, map_more}
 use Rattle.std.specs.Prelude.{encode_utf8, encode_utf8_all, map}
 use Rattle.hex.specs.Hex.{encode_upper, encode_with, upper_digits}
-use Rattle.zone_events.specs.declared.outcome.Outcome.{Outcome}
-use Rattle.script.specs.Prints.{character_of, identifier_text, outcome_line, outcome_lines}
-use Rattle.script.specs.Prints.{lines_from}
+use Rattle.script.specs.Prints.{character_of, identifier_text, lines_from}
 
 encode_utf8_all-append : (xs ys : List ℕ)
     → encode_utf8_all (xs ++ ys) ≡ encode_utf8_all xs ++ encode_utf8_all ys
@@ -68,16 +66,6 @@ lines_push line xs x =
     lines-append line 1 xs (x ∷ [])
     ∙ ap (λ (m : ℕ). lines_from line 1 xs ++ (line m x ++ [])) number
     ∙ ap (λ (t : List ℕ). lines_from line 1 xs ++ t) (append-nil (line (length xs + 1) x))
-
-pub lines_more : (xs : List Outcome) (i : ℕ) (outcome : Outcome) → i < length xs
-    → outcome ≡ get_or xs i outcome
-    → outcome_lines (take (i + 1) xs) ≡ outcome_lines (take i xs) ++ outcome_line (i + 1) outcome
-lines_more xs i outcome below is =
-    ap outcome_lines (take_more xs i outcome below
-    ∙ ap (λ (o : Outcome). take i xs ++ o ∷ []) (sym is))
-    ∙ lines_push outcome_line (take i xs) outcome
-    ∙ ap (λ (n : ℕ). outcome_lines (take i xs) ++ outcome_line (n + 1) outcome)
-    (length-take-le i xs (omega (arith, below)))
 
 pub refusal_flat : (number words fault end : List ℕ)
     → number ++ (words ++ (fault ++ end)) ≡ number ++ words ++ fault ++ end

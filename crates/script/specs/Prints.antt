@@ -98,10 +98,6 @@ abbrev pub lines_from : {A : Type 0} → (ℕ → A → List ℕ) → ℕ → Li
 lines_from line number [] = []
 lines_from line number (x ∷ xs) = line number x ++ lines_from line (number + 1) xs
 
--- a line for each outcome, numbered from 1
-abbrev pub outcome_lines : List Outcome → List ℕ
-outcome_lines outcomes = lines_from outcome_line 1 outcomes
-
 -- the line of an event with this number, whose fresh pool is refused: `N not replaced K`, with the
 -- number of the fault
 abbrev pub refusal_line : ℕ → ReplaceFault → List ℕ

@@ -31,6 +31,6 @@ pub use input::Input;
 pub use line::{Line, line_of};
 pub use outcome::{ShownOutcome, outcome_of};
 pub use output::Output;
-pub use print::{write_outcome, write_outcomes};
+pub use print::write_outcome;
 pub use read::{Script, read_script};
 pub use run::{run_script, zone_of};

@@ -6,7 +6,7 @@ ghost use Rattle.std.specs.Io.KnownBytes.{Appends};
 ghost use Rattle.hex.specs.Hex.{encode_upper};
 ghost use Rattle.script.specs.Prints.{character_of, identifier_text, cause_text, item_text};
 ghost use Rattle.script.specs.Prints.{note_text, answer_text, dropped_text, address_text};
-ghost use Rattle.script.specs.Prints.{output_text, outcome_line, outcome_lines, refusal_line};
+ghost use Rattle.script.specs.Prints.{output_text, outcome_line, refusal_line};
 
 use crate::hex_digits::put_digits;
 use crate::short_text::ShortText;
@@ -323,15 +323,4 @@ pub(crate) fn write_refusal<W: Write>(
         (refusal_line number fault)) }
 {
     writeln!(out, "{number} not replaced {}", fault.number())
-}
-
-/// Writes a line for each outcome, numbered from 1.
-pub fn write_outcomes<W: Write>(outcomes: &[Outcome], out: &mut W) -> io::Result<()>
-    ensures { OnOk result (Appends (W.contents out.old) (W.contents out.new)
-        (outcome_lines outcomes.now)) }
-{
-    for (i, outcome) in outcomes.iter().enumerate() {
-        write_outcome(i + 1, outcome, out)?;
-    }
-    Ok(())
 }

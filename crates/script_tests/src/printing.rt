@@ -3,14 +3,14 @@
 use pools::Lend;
 use ras_core::{Datagram, DueItem, IgnoredCause, Note, Outcome};
 use ras_module::{Address, EndpointId, Name, Octets};
-use script::write_outcomes;
+use script::write_outcome;
 use std::alloc::Global;
 use std::test::Fail;
 
 /// What is printed of an outcome that is the first of its run.
 fn line_of(alloc: Global, outcome: Outcome) -> Result<Vec<u8>, Fail> {
     let mut out = Vec::new(alloc);
-    write_outcomes(&[outcome], &mut out)?;
+    write_outcome(1, &outcome, &mut out)?;
     Ok(out)
 }
 
@@ -131,7 +131,9 @@ fn answer_and_dropped_entry_and_output_follow_the_note(rt: HostRuntime) -> Resul
         })?;
     }
     let mut out = Vec::new(rt.alloc());
-    write_outcomes(&outcomes, &mut out)?;
+    for (i, outcome) in outcomes.iter().enumerate() {
+        write_outcome(i + 1, outcome, &mut out)?;
+    }
     let lines = b"1 served wait dropped 0 > 10.0.0.255:1719 0480AF\n2 done retry 7 lent 1280\n\
         3 done retry 7 refused\n4 done retry 7 dropped 1280\n\
         5 done retry 7 lent 4294967295 dropped 18446744073709551615\n";

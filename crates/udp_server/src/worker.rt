@@ -276,10 +276,7 @@ impl<D: Hall, T: Ledger, U: Ledger, V: Ledger, C: Moments> Worker<D, T, U, V, C>
             ≡ standing self.old.seat self.old.outlet self.old.counts }
     {
         let Some(buffer) = buffer else {
-            return match output_of(receipt) {
-                Some(reply) => Some(self.short(reply)),
-                None => None,
-            };
+            return output_of(receipt);
         };
         let reply = match &receipt.outcome.output {
             Some(output) => Some(output.copy_into(buffer)),
@@ -296,21 +293,6 @@ impl<D: Hall, T: Ledger, U: Ledger, V: Ledger, C: Moments> Worker<D, T, U, V, C>
             ≡ standing self.old.seat self.old.outlet self.old.counts }
     {
         self.receipts.push_reserved(receipt);
-    }
-
-    /// The same reply in memory of its own length, if there is any: the seat gets the buffer back,
-    /// in which there is room for the longest one.
-    fn short(&mut self, reply: Datagram) -> Datagram
-        ensures reply { result ≡ reply }
-        ensures same { standing self.new.seat self.new.outlet self.new.counts
-            ≡ standing self.old.seat self.old.outlet self.old.counts }
-    {
-        let Ok(bytes) = reply.bytes.copy() else {
-            return reply;
-        };
-        let Datagram { to, bytes: buffer } = reply;
-        self.seat.give_back(buffer.into_vec());
-        Datagram { to, bytes }
     }
 
     /// Hands what is sent to the sender, if anything is.

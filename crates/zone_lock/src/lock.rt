@@ -190,8 +190,8 @@ impl<P: Pool, D: Hall, T: Ledger, U: Ledger, V: Ledger> ZoneLock<P, D, T, U, V> 
         ensures memory { result ≡ Err StepFault.Memory → IsOpen D.opened }
         ensures err { OnErr result (seat.new ≡ seat.old) }
     {
-        match Order::new(self.alloc, prepared, seat) {
-            Ok(order) => make_step(&mut *self.inner.lock(rt), seat, order),
+        match Order::with_told(self.alloc, prepared, seat) {
+            Ok((order, told)) => make_step(&mut *self.inner.lock(rt), seat, order, told),
             Err(_) => Err(fault_without_order(&*self.inner.lock(rt))),
         }
     }

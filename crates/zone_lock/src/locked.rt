@@ -1,10 +1,9 @@
 //! What stands behind the lock, and what is done with it by whoever holds it.
 
 ghost use Rattle.std.specs.Prelude.{◌≡◌, ◌≤◌, ◌<◌, ◌+◌, ◌*◌, ◌^◌, ◌++◌, ◌∷◌, [], ◌↔◌, length};
-ghost use Rattle.std.specs.Prelude.{IfOk, OnErr, Err, vec_capacity};
+ghost use Rattle.std.specs.Prelude.{IfOk, OnErr, OnOk, Err, vec_capacity};
 ghost use Rattle.ras_module.specs.declared.reply.TheConstants.Reply as reply_octets;
 ghost use Rattle.ras_machine.specs.Machine.{most_steps};
-ghost use Rattle.ras_machine.specs.Steps.{HasFewOctets};
 ghost use Rattle.ras_core.specs.Runs.{RunningStep};
 ghost use Rattle.zone_lock.specs.Held.{IsKept, entry_by, receipt_at};
 ghost use Rattle.zone_lock.specs.Listings.{IsListing};
@@ -16,7 +15,7 @@ use crate::order::Order;
 use crate::seat::{Hall, Seat};
 use books::{Entry, Receipt, SharedSnapshot, StepKind, Totals};
 use pools::Pool;
-use ras_core::{Change, Outcome, Prepared, StepFault, Zone};
+use ras_core::{Change, Note, Outcome, Prepared, StepFault, Zone};
 use std::alloc::AllocError;
 use std::marker::Model;
 use std::sync::ledger::Ledger;
@@ -107,18 +106,19 @@ pub fn apply_locked<P: Pool, D: Hall, T: Ledger, U: Ledger, V: Ledger>(
     if locked.zone.is_closed() {
         return Err(StepFault::Closed);
     }
-    let order = Order::new(*locked.entries.allocator(), prepared, seat)?;
-    make_step(locked, seat, order)
+    let (order, told) = Order::with_told(*locked.entries.allocator(), prepared, seat)?;
+    make_step(locked, seat, order, told)
 }
 
-/// The step of an order.
+/// The step of an order, with its receipt, which tells this event.
 pub(crate) fn make_step<P: Pool, D: Hall, T: Ledger, U: Ledger, V: Ledger>(
     locked: &mut Locked<P, D, T, U, V>,
     seat: &mut Seat<D, T, U, V>,
     order: Order,
+    told: Change,
 ) -> Result<Receipt, StepFault>
     requires kept { order.kept ≡ Change.Event order.prepared }
-    requires told { order.told ≡ Change.Event order.prepared }
+    requires told { told ≡ Change.Event order.prepared }
     requires empty { order.buffer.items ≡ [] }
     requires room { reply_octets.MOST ≤ vec_capacity order.buffer }
     ensures step { IfOk result (λ receipt.
@@ -142,6 +142,49 @@ pub(crate) fn make_step<P: Pool, D: Hall, T: Ledger, U: Ledger, V: Ledger>(
     ensures before { IsKept D.opened locked.old }
     ensures kept { IsKept D.opened locked.new }
 {
+    let (number, call) = (seat.number, seat.calls);
+    let place = locked.first + locked.entries.len();
+    let mut outcome = Outcome::noted(Note::Idle, None);
+    enter_step(locked, seat, order, &mut outcome)?;
+    Ok(Receipt {
+        seat: number,
+        call,
+        place,
+        event: told,
+        outcome,
+    })
+}
+
+/// The step of an order, which is the last entry afterwards. Its outcome is made where the caller
+/// wants it; the entry has a copy. After a refusal what stands in place of the outcome means
+/// nothing.
+pub(crate) fn enter_step<P: Pool, D: Hall, T: Ledger, U: Ledger, V: Ledger>(
+    locked: &mut Locked<P, D, T, U, V>,
+    seat: &mut Seat<D, T, U, V>,
+    order: Order,
+    outcome: &mut Outcome,
+) -> Result<(), StepFault>
+    requires kept { order.kept ≡ Change.Event order.prepared }
+    requires empty { order.buffer.items ≡ [] }
+    requires room { reply_octets.MOST ≤ vec_capacity order.buffer }
+    ensures step { OnOk result
+        (RunningStep locked.old.zone order.prepared outcome.new locked.new.zone) }
+    ensures entry { OnOk result (locked.new.entries ≡ locked.old.entries
+        ++ entry_by seat.old.number seat.old.calls (Change.Event order.prepared)
+        outcome.new ∷ []) }
+    ensures seat { OnOk result
+        (seat.new ≡ seated_after seat.old (Change.Event order.prepared) outcome.new) }
+    ensures first { locked.new.first ≡ locked.old.first }
+    ensures carried { locked.new.carried ≡ locked.old.carried }
+    ensures base { locked.new.base ≡ locked.old.base }
+    ensures recorded { locked.new.is_recorded ≡ locked.old.is_recorded }
+    ensures closed { (result ≡ Err StepFault.Closed)
+        ↔ (locked.old.zone.state.steps ≡ most_steps) }
+    ensures err { OnErr result (locked.new ≡ locked.old) }
+    ensures err_seat { OnErr result (seat.new ≡ seat.old) }
+    ensures before { IsKept D.opened locked.old }
+    ensures kept { IsKept D.opened locked.new }
+{
     if locked.zone.is_closed() {
         return Err(StepFault::Closed);
     }
@@ -150,27 +193,19 @@ pub(crate) fn make_step<P: Pool, D: Hall, T: Ledger, U: Ledger, V: Ledger>(
     let Order {
         prepared,
         kept,
-        told,
         buffer,
     } = order;
-    let outcome = locked.zone.step_prepared(prepared)?;
-    let receipt = Receipt {
-        seat: seat.number,
-        call: seat.calls,
-        place: locked.first + locked.entries.len(),
-        event: told,
-        outcome: copy_of(&outcome, buffer),
-    };
+    locked.zone.step_into(prepared, outcome)?;
     let kind = StepKind::of(&kept);
     locked.so_far = locked.so_far.with_step(kind, outcome.answer);
-    locked.ledgers.count(seat, kind, outcome.answer);
     locked.entries.push_reserved(Entry {
-        seat: receipt.seat,
-        call: receipt.call,
+        seat: seat.number,
+        call: seat.calls,
         event: kept,
-        outcome,
+        outcome: seat.copy_of(outcome, buffer),
     });
-    Ok(receipt)
+    locked.ledgers.count(seat, kind, outcome.answer);
+    Ok(())
 }
 
 /// Why no step is made if there is no memory for what it needs: as many steps were made as there
@@ -187,16 +222,6 @@ pub(crate) fn fault_without_order<P: Pool, D: Hall, T: Ledger, U: Ledger, V: Led
     } else {
         StepFault::Memory
     }
-}
-
-/// An equal outcome, of which what is sent stands in this buffer.
-fn copy_of(outcome: &Outcome, buffer: Vec<u8>) -> Outcome
-    requires empty { buffer.items ≡ [] }
-    requires few { HasFewOctets outcome.now.output }
-    requires room { reply_octets.MOST ≤ vec_capacity buffer }
-    ensures { result ≡ outcome.now }
-{
-    outcome.copy_into(buffer)
 }
 
 /// Lists what the locked zone has.

@@ -1,9 +1,12 @@
 //! Seats: who may make steps of a zone behind a lock.
 
-ghost use Rattle.std.specs.Prelude.{◌≡◌, ℕ, []};
+ghost use Rattle.std.specs.Prelude.{◌≡◌, ◌≤◌, ℕ, [], vec_capacity};
+ghost use Rattle.ras_machine.specs.Steps.{HasFewOctets};
 ghost use Rattle.ras_machine.specs.State.{State};
 ghost use Rattle.zone_lock.specs.Held.{idle_state};
 
+use ras_core::Outcome;
+use ras_module::Reply;
 use std::marker::{Brand, Model};
 use std::sync::ledger::{Ledger, Share};
 
@@ -22,7 +25,7 @@ impl Hall for Brand {
 }
 
 /// One who may make steps: its number, how many steps it made, and its shares of the four ledgers.
-/// It may have a buffer for the octets of its next receipt, of which contracts see nothing.
+/// It may have a buffer with room for what any step sends, of which contracts see nothing.
 #[derive(Drop)]
 pub struct Seat<D: Hall, T: Ledger, U: Ledger, V: Ledger> {
     pub(crate) number: usize,
@@ -49,11 +52,26 @@ impl<D: Hall, T: Ledger, U: Ledger, V: Ledger> Model for Seat<D, T, U, V> {
 }
 
 impl<D: Hall, T: Ledger, U: Ledger, V: Ledger> Seat<D, T, U, V> {
-    /// Gives the seat a buffer that is needed no more. The octets of its next receipt stand there,
-    /// so that no memory is requested for them if there is room for `Reply::MOST`.
-    pub fn give_back(&mut self, buffer: Vec<u8>)
-        ensures { self.new ≡ self.old }
+    /// An equal outcome. What is sent stands in memory of its own length, and the seat has the
+    /// buffer for its next step. If that memory is refused, what is sent stands in the buffer: a
+    /// step that was made is told in any case.
+    pub(crate) fn copy_of(&mut self, outcome: &Outcome, buffer: Vec<u8>) -> Outcome
+        requires empty { buffer.items ≡ [] }
+        requires few { HasFewOctets outcome.now.output }
+        requires room { Reply.MOST ≤ vec_capacity buffer }
+        ensures seat { self.new ≡ self.old }
+        ensures copy { result ≡ outcome.now }
     {
-        self.buffer = buffer;
+        let Some(output) = &outcome.output else {
+            self.buffer = buffer;
+            return outcome.copy_into(Vec::new(*self.buffer.allocator()));
+        };
+        match Vec::with_capacity(*buffer.allocator(), output.bytes.len()) {
+            Ok(room) => {
+                self.buffer = buffer;
+                outcome.copy_into(room)
+            }
+            Err(_) => outcome.copy_into(buffer),
+        }
     }
 }

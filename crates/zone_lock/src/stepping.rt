@@ -6,9 +6,10 @@ ghost use Rattle.ras_core.specs.Runs.{RunningStep};
 ghost use Rattle.zone_lock.specs.Held.{IsEntered, IsKept, entry_by, goes_on};
 ghost use Rattle.zone_lock.specs.Seats.{seated_after};
 
-use crate::locked::{Locked, apply_locked};
+use crate::locked::{Locked, enter_step};
+use crate::order::Order;
 use crate::seat::{Hall, Seat};
-use books::{Receipt, StepKind};
+use books::StepKind;
 use pools::Pool;
 use ras_core::{Change, Outcome, Prepared, StepFault};
 use std::sync::ledger::Ledger;
@@ -95,22 +96,9 @@ fn step_recorded<P: Pool, D: Hall, T: Ledger, U: Ledger, V: Ledger>(
     ensures before { IsKept D.opened locked.old }
     ensures kept { IsKept D.opened locked.new }
 {
-    let _ = &locked.zone;
-    let receipt = apply_locked(locked, seat, prepared)?;
-    *outcome = outcome_of(receipt);
-    Ok(())
-}
-
-/// The outcome that a receipt tells.
-fn outcome_of(receipt: Receipt) -> Outcome
-    ensures { result ≡ receipt.outcome }
-{
-    let Receipt {
-        seat: _,
-        call: _,
-        place: _,
-        event: _,
-        outcome,
-    } = receipt;
-    outcome
+    if locked.zone.is_closed() {
+        return Err(StepFault::Closed);
+    }
+    let order = Order::new(*locked.entries.allocator(), prepared, seat)?;
+    enter_step(locked, seat, order, outcome)
 }
