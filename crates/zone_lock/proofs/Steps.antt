@@ -45,6 +45,15 @@ pub longer_by : (old new : Held) (entry : Entry) → new.first ≡ old.first
 longer_by old new entry first carried base recorded entries =
     λ i. cut_so (first i) (carried i) (base i) (recorded i) (entries i) new.zone
 
+-- an entry that was put behind others, with its outcome and these as they are known elsewhere
+pub put_behind : (es before others : List Entry) (seat call : ℕ) (event : Change)
+    (copy outcome : Outcome) → es ≡ others ++ entry_by seat call event copy ∷ [] → copy ≡ outcome
+    → others ≡ before → es ≡ before ++ entry_by seat call event outcome ∷ []
+put_behind es before others seat call event copy outcome is same were =
+    is
+    ∙ ap (λ (o : Outcome). others ++ entry_by seat call event o ∷ []) same
+    ∙ ap (λ (xs : List Entry). xs ++ entry_by seat call event outcome ∷ []) were
+
 -- the entry stands behind the others, since steps are recorded
 pub entered_recorded : (opened : State) (old : Held) (entry : Entry) (after : Running) (new : Held)
     → IsKept opened old → RunningChange old.zone entry.event entry.outcome after
@@ -62,6 +71,26 @@ entered_recorded opened old entry after new kept step on is =
       recorded = λ _. record { entries = refl; first = refl; carried = refl };
       unrecorded = λ off. absurd (cc (recorded, off));
     })
+
+-- The same of a call that made the step or failed, of the seat and the event that were handed in.
+pub entered_if_made : {T E : Type 0} (opened : State) (r : Result T E) (old new : Held)
+    (t s : Seated) (made event : Change) (outcome : Outcome) → t ≡ s → made ≡ event
+    → IsKept opened old → goes_on old ≡ true
+    → OnOk r (RunningChange old.zone made outcome new.zone)
+    → OnOk r (new.entries ≡ old.entries ++ entry_by t.number t.calls made outcome ∷ [])
+    → new.first ≡ old.first → new.carried ≡ old.carried → new.base ≡ old.base
+    → new.is_recorded ≡ old.is_recorded
+    → OnOk r (IsEntered opened old (entry_by s.number s.calls event outcome) new)
+entered_if_made opened (Ok done) old new t s made event outcome same_seat same kept on step entries
+    first carried base recorded =
+    subst (λ (x : Seated). IsEntered opened old (entry_by x.number x.calls event outcome) new)
+    same_seat
+    (subst (λ (e : Change). IsEntered opened old (entry_by t.number t.calls e outcome) new) same
+    (entered_recorded opened old (entry_by t.number t.calls made outcome) new.zone new kept step on
+    (longer_by old new (entry_by t.number t.calls made outcome) first carried base recorded
+    entries)))
+entered_if_made opened (Err fault) old new t s made event outcome same_seat same kept on step
+    entries first carried base recorded = tt
 
 -- what is in use after a step, and what was lent up to it
 pub backed_on : (opened : State) (h : Held) (sums next : Totals) (units d t u v : ℕ)

@@ -66,7 +66,7 @@ impl<D: Hall, T: Ledger, U: Ledger, V: Ledger> Seat<D, T, U, V> {
             self.buffer = buffer;
             return outcome.copy_into(Vec::new(*self.buffer.allocator()));
         };
-        match Vec::with_capacity(*buffer.allocator(), output.bytes.len()) {
+        match Vec::with_capacity(*buffer.allocator(), output.bytes.as_slice().len()) {
             Ok(room) => {
                 self.buffer = buffer;
                 outcome.copy_into(room)
