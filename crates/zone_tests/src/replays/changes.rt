@@ -1,6 +1,7 @@
 //! Whether a book is a run, and no longer one once an entry of it is changed.
 
-use crate::fixtures::{ENDPOINT, call, zone};
+use crate::fixtures::{ENDPOINT, zone};
+use crate::replays::fixtures::call;
 use book_audit::replays;
 use books::{Book, Entry};
 use facts::ensure_of;

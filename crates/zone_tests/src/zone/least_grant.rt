@@ -1,9 +1,9 @@
 //! The least grant: a loan that leaves a call with less than that, and with less than it wants,
 //! goes back in the step that took it, and the request is rejected.
 
-use crate::counting::{CountingPool, Met};
 use crate::fixtures::{CALL, LIMIT, POOL, event, event_from, parts, sent, source, zone_over};
 use crate::messages::{ACF_720, ACF_OF_900, ARQ_OF_100, ARQ_OF_900, BCF_1900, RIP_OF_100};
+use crate::zone::counting::{CountingPool, Met};
 use facts::{ensure, ensure_of};
 use pools::{Figures, FixedPool, Lend, PacedPool, Pool};
 use ras_core::Zone;

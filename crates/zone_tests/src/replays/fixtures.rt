@@ -1,18 +1,12 @@
 //! A zone in which two endpoints register and one calls the other, with the book of its steps.
 
+use crate::fixtures::event;
 use books::{Book, Entry};
 use pools::FixedPool;
 use ras_core::{Change, Event, Moment, Zone};
-use ras_module::{Octets, Source};
 use std::alloc::Global;
 use std::test::Fail;
 use vectors::requests::{ARQ, GRQ, RRQ_101, RRQ_102};
-pub use worked_zone::ENDPOINT;
-
-/// A zone of 3,000 units, of which a call may have 2,000, over a pool of 2,500.
-pub fn zone(alloc: Global) -> Result<Zone<FixedPool>, Fail> {
-    zone_of(alloc, 3_000, 0)
-}
 
 /// A zone of so many units, of which a call may have 2,000, with this least grant, over a pool of
 /// 2,500.
@@ -35,19 +29,13 @@ fn record(book: &mut Book, zone: &mut Zone<FixedPool>, event: Event) -> Result<(
     Ok(())
 }
 
-pub fn datagram(alloc: Global, bytes: &[u8], milliseconds: u64) -> Result<Event, Fail> {
-    let moment = Moment::new(milliseconds).ok_or("a moment")?;
-    let bytes = Octets::from_vec(bytes.to_vec(alloc)?);
-    Ok(Event::Datagram(ENDPOINT, bytes, moment))
-}
-
 /// Two endpoints register, the first one calls the second, its request comes again, and a turn
 /// finds nothing that is due.
 pub fn call(alloc: Global, book: &mut Book, zone: &mut Zone<FixedPool>) -> Result<(), Fail> {
-    record(book, zone, datagram(alloc, &GRQ, 0)?)?;
-    record(book, zone, datagram(alloc, &RRQ_101, 1)?)?;
-    record(book, zone, datagram(alloc, &RRQ_102, 2)?)?;
-    record(book, zone, datagram(alloc, &ARQ, 3)?)?;
-    record(book, zone, datagram(alloc, &ARQ, 4)?)?;
+    record(book, zone, event(alloc, &GRQ, 0)?)?;
+    record(book, zone, event(alloc, &RRQ_101, 1)?)?;
+    record(book, zone, event(alloc, &RRQ_102, 2)?)?;
+    record(book, zone, event(alloc, &ARQ, 3)?)?;
+    record(book, zone, event(alloc, &ARQ, 4)?)?;
     record(book, zone, Event::Turn(Moment::new(5).ok_or("a moment")?))
 }

@@ -1,9 +1,9 @@
 //! How often pools have their turn, and how often units come back to them, by pools that count for
 //! themselves.
 
-use crate::counting::{CountingPool, Kind, Met, fixed_zone, make_turns, send};
 use crate::fixtures::{CALL, POOL, parts};
 use crate::messages::SECOND_ACF_1280;
+use crate::zone::counting::{CountingPool, Kind, Met, fixed_zone, make_turns, send};
 use facts::ensure;
 use pools::FixedPool;
 use ras_core::{ConfigParts, Note, Zone};

@@ -1,7 +1,7 @@
 //! Pools that give way to others while they have something lent.
 
-use crate::marked::{MarkedPool, Seen};
-use crate::sets::{Boxed, ask, counted, marked, shown};
+use crate::pool::marked::{MarkedPool, Seen};
+use crate::pool::sets::{Boxed, ask, counted, marked, shown};
 use pools::{Figures, FixedPool, Lend, PacedPool, Pool, PoolSet, ReplaceFault, StepPool};
 use std::alloc::Global;
 use std::sync::Arc;

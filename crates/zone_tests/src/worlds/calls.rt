@@ -1,7 +1,8 @@
 //! Two calls of one endpoint that the pool can't carry together: whichever comes first under the
 //! zone's lock is lent what it asks for, and the other one is refused.
 
-use crate::fixtures::{
+use crate::messages::SECOND_ACF_1280;
+use crate::worlds::fixtures::{
     Looked, apply, event, event_from, find_run, post, receive, serve, take, take_to, world,
 };
 use facts::expect;
@@ -16,12 +17,6 @@ const CALLED: Source = Address {
     ip: [10, 0, 0, 6],
     port: 1719,
 };
-
-/// AdmissionConfirm of the second call with 1280 units, to 10.0.0.6.
-const ACF_OF_A_SECOND_CALL: [u8; 22] = [
-    0x2A, 0x00, 0x00, 0x06, 0x40, 0x05, 0x00, 0x00, 0x0A, 0x00, 0x00, 0x06, 0x06, 0xB8, 0x14, 0x00,
-    0xC0, 0x01, 0x00, 0x02, 0x00, 0x00,
-];
 
 /// AdmissionReject of the first call, requestDenied.
 const ARJ_OF_THE_FIRST_CALL: [u8; 4] = [0x2C, 0x00, 0x02, 0x20];
@@ -73,7 +68,7 @@ fn tell(world: &mut World<FixedPool>, first: usize) -> Looked {
         send(world, 1, &ARJ)
     } else {
         send(world, 0, &ARJ_OF_THE_FIRST_CALL)?;
-        send(world, 1, &ACF_OF_A_SECOND_CALL)
+        send(world, 1, &SECOND_ACF_1280)
     }
 }
 

@@ -1,6 +1,6 @@
 //! A pool that is replaced in a world.
 
-use crate::fixtures::{Looked, MEMORY, event, event_from, find_run, serve, zone};
+use crate::worlds::fixtures::{Looked, MEMORY, event, event_from, find_run, serve, zone};
 use facts::expect;
 use history::World;
 use pools::{FixedPool, Pool, ReplaceFault};

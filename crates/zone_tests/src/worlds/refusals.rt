@@ -1,6 +1,6 @@
 //! What a world refuses, and that it stays as it was.
 
-use crate::fixtures::{Looked, MEMORY, event, receive, serve, turn, world, zone};
+use crate::worlds::fixtures::{Looked, MEMORY, event, receive, serve, turn, world, zone};
 use facts::expect;
 use history::{World, WorldFault, WorldStep};
 use pools::FixedPool;

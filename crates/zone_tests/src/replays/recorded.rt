@@ -1,6 +1,7 @@
 //! The check of one recorded step after the other.
 
-use crate::fixtures::{call, zone};
+use crate::fixtures::zone;
+use crate::replays::fixtures::call;
 use books::Book;
 use facts::ensure;
 use pools::FixedPool;

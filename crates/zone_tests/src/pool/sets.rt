@@ -1,6 +1,6 @@
 //! Sets of pools, of one kind and behind boxes.
 
-use crate::marked::{MarkedPool, Seen};
+use crate::pool::marked::{MarkedPool, Seen};
 use pools::{Figures, FixedPool, Lend, PacedPool, Pool, PoolFault, PoolSet};
 use std::alloc::Global;
 use std::sync::Arc;

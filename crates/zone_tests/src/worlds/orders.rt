@@ -1,6 +1,6 @@
 //! What comes of orders in which workers act.
 
-use crate::fixtures::{
+use crate::worlds::fixtures::{
     Looked, apply, event, find_run, make_step, post, receive, serve, take, turn, world,
 };
 use books::Entry;

@@ -1,7 +1,8 @@
 //! Whether a book in which a pool was replaced is a run, and no longer one once that entry is
 //! changed.
 
-use crate::fixtures::{call, zone};
+use crate::fixtures::zone;
+use crate::replays::fixtures::call;
 use book_audit::replays;
 use books::{Book, Entry};
 use facts::ensure_of;

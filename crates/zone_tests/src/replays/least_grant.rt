@@ -1,6 +1,8 @@
 //! The check of a recorded step whose pool lent, as the least grant has it.
 
-use crate::fixtures::{ENDPOINT, datagram, zone_of};
+use crate::fixtures::{ENDPOINT, event};
+use crate::messages::ACF_720;
+use crate::replays::fixtures::zone_of;
 use facts::ensure;
 use pools::{FixedPool, Lend};
 use ras_core::{Change, Datagram, Outcome, Snapshot, Zone};
@@ -10,12 +12,6 @@ use std::test::Fail;
 use step_check::{accepts, same};
 use vectors::replies::ARJ;
 use vectors::requests::{ARQ, ARQ_OF_A_SECOND_CALL, RRQ_101, RRQ_102};
-
-/// AdmissionConfirm of the second call with 720 units.
-const ACF_720: [u8; 22] = [
-    0x2A, 0x00, 0x00, 0x06, 0x40, 0x02, 0xD0, 0x00, 0x0A, 0x00, 0x00, 0x06, 0x06, 0xB8, 0x14, 0x00,
-    0xC0, 0x01, 0x00, 0x02, 0x00, 0x00,
-];
 
 /// The units that the pool lends to the second call: all that the zone has left.
 const LEFT: u64 = 720;
@@ -78,12 +74,12 @@ fn accept_second_call(
 ) -> Result<(), Fail> {
     let requests: [&[u8]; 3] = [&RRQ_101, &RRQ_102, &ARQ];
     for request in requests {
-        zone.step(datagram(alloc, request, 0)?)?;
+        zone.step(event(alloc, request, 0)?)?;
     }
     let mut snapshot = zone.snapshot()?;
-    let event = datagram(alloc, &ARQ_OF_A_SECOND_CALL, 1)?;
-    let mut outcome = zone.step(event.copy()?)?;
-    let event = Change::Event(event);
+    let request = event(alloc, &ARQ_OF_A_SECOND_CALL, 1)?;
+    let mut outcome = zone.step(request.copy()?)?;
+    let event = Change::Event(request);
     accept_as_recorded(
         alloc,
         &mut snapshot,

@@ -1,8 +1,8 @@
 //! How often a zone asks its pools, by pools that count for themselves.
 
-use crate::counting::{CountingPool, Kind, Met, fixed_zone, make_turns, paced_zone, send};
 use crate::fixtures::{POOL, parts};
 use crate::messages::{KEEP_ALIVE_0001, LESS_BCF, LESS_BRQ, SAME_CALL_ACF, SAME_CALL_ARQ, UCF};
+use crate::zone::counting::{CountingPool, Kind, Met, fixed_zone, make_turns, paced_zone, send};
 use facts::{ensure, ensure_of};
 use pools::{FixedPool, PacedPool};
 use ras_core::{IgnoredCause, Note, Zone};

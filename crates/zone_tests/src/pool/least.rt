@@ -1,6 +1,6 @@
 //! Loans of no fewer units than the least that is of use.
 
-use crate::sets::{Boxed, ask};
+use crate::pool::sets::{Boxed, ask};
 use pools::{FixedPool, Lend, PacedPool, Pool, PoolSet};
 use std::test::Fail;
 
