@@ -1,6 +1,6 @@
 //! The texts of the pages.
 
-use crate::memory_zone::{address, call_row, endpoint_row, identifier, small_zone};
+use crate::pages::memory_zone::{address, call_row, endpoint_row, identifier, small_zone};
 use status_page::{
     About, CallList, Content, EndpointList, Overview, Query, Status, calls_after, calls_json,
     endpoints_after, endpoints_json, home, metrics, zone_json,

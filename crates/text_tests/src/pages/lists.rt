@@ -1,6 +1,6 @@
 //! Lists, some rows at a time.
 
-use crate::memory_zone::{identifier, small_zone};
+use crate::pages::memory_zone::{identifier, small_zone};
 use ras_module::{CallKey, EndpointId};
 use status_page::{CallList, EndpointList, calls_after, endpoints_after};
 use std::test::Fail;
