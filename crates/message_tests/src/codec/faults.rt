@@ -1,6 +1,6 @@
 //! Octets that are cut short, changed, late, or not as short as they could be.
 
-use crate::requests::is_read;
+use crate::codec::requests::is_read;
 use ras_codec::{ReadFault, read};
 use ras_module::{Boxed, GatekeeperRequest, Request, RequestSeqNum};
 use std::alloc::Global;
