@@ -1,7 +1,7 @@
 //! Entries of a book that are recorded together.
 
-use crate::failing::Short;
-use crate::fixtures::{STEPS, audited, entries_of_call, record_within, recorded_zone};
+use crate::writing::failing::Short;
+use crate::writing::fixtures::{STEPS, audited, entries_of_call, record_within, recorded_zone};
 use books::Entry;
 use pools::Figures;
 use ras_core::Moment;

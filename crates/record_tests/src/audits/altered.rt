@@ -1,6 +1,6 @@
 //! Records that were altered.
 
-use crate::fixtures::{audited, record};
+use crate::audits::fixtures::{audited, record};
 use record_audit::{AuditFault, LineFault};
 use std::alloc::Global;
 use std::test::Fail;

@@ -1,8 +1,8 @@
 //! A record of a zone, and its audit.
 
+use crate::shared::datagram;
 use pools::FixedPool;
 use ras_core::{Event, Moment, Zone};
-use ras_module::{Octets, Source};
 use record_audit::{AuditFault, audit_record};
 use script::{Input, ScriptEvent, write_event, write_outcome};
 use std::alloc::Global;
@@ -31,11 +31,6 @@ fn record_step(
         write_outcome(number, &outcome, text)?;
     }
     Ok(())
-}
-
-fn datagram(alloc: Global, source: Source, bytes: &[u8], at: u64) -> Result<Event, Fail> {
-    let moment = Moment::new(at).ok_or("a moment")?;
-    Ok(Event::Datagram(source, Octets::from_vec(bytes.to_vec(alloc)?), moment))
 }
 
 /// Two endpoints register, the first one calls the second, its request comes again, a turn finds

@@ -1,6 +1,6 @@
 //! Records whose stream fails.
 
-use crate::fixtures::{
+use crate::writing::fixtures::{
     LINES_OF_THE_ZONE, STEPS, audited, record_call, record_within, recorded_zone,
 };
 use record_audit::Audited;

@@ -1,6 +1,6 @@
 //! Records that are written to their end, or up to their bound.
 
-use crate::fixtures::{
+use crate::writing::fixtures::{
     Call, LINES_OF_THE_ZONE, STEPS, audited, record_call, record_within, recorded_zone,
 };
 use record_audit::Audited;

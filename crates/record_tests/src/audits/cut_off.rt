@@ -1,6 +1,6 @@
 //! Records that are cut off, that come in pieces, and whose lines are too long.
 
-use crate::fixtures::{LINES_OF_THE_ZONE, record};
+use crate::audits::fixtures::{LINES_OF_THE_ZONE, record};
 use record_audit::{AuditFault, Audited, LineFault, MOST_OCTETS, audit_record};
 use script::Input;
 use std::alloc::Global;

@@ -1,9 +1,9 @@
 //! The worked zone, whose steps are recorded as they are made.
 
+use crate::shared::datagram;
 use books::Entry;
 use pools::{FixedPool, PoolSpec, PoolSpecs};
 use ras_core::{Config, Event, Moment, Zone};
-use ras_module::{Octets, Source};
 use record_audit::{AuditFault, Audited, audit_record};
 use recording::{RecordWriter, Recorded, RecordedZone};
 use script::{Input, Output, ScriptEvent};
@@ -29,11 +29,6 @@ pub fn recorded_zone(alloc: Global) -> Result<RecordedZone, Fail> {
     let mut pools = Vec::new(alloc);
     pools.push(PoolSpec::Fixed { limit: POOL })?;
     Ok(RecordedZone::new(config, PoolSpecs::from_vec(pools))?)
-}
-
-fn datagram(alloc: Global, source: Source, bytes: &[u8], at: u64) -> Result<Event, Fail> {
-    let moment = Moment::new(at).ok_or("a moment")?;
-    Ok(Event::Datagram(source, Octets::from_vec(bytes.to_vec(alloc)?), moment))
 }
 
 /// Two endpoints register, the first one calls the second, its request comes again, a turn finds
