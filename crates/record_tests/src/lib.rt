@@ -1,9 +1,10 @@
-//! Tests of records: what was recorded of a zone is audited, as it is and altered.
+//! Tests of records: what was recorded of a zone is audited, as it is and altered, and so is each
+//! record that is written.
 #![tactic(auto)]
 
 #[cfg(test)]
-mod altered;
+mod audits;
 #[cfg(test)]
-mod cut_off;
+mod shared;
 #[cfg(test)]
-mod fixtures;
+mod writing;

@@ -1,27 +1,14 @@
-//! Tests of the server, over ends in memory and over a UDP socket of this machine.
+//! Tests of what a running server stands on, and of the server: what a zone tells, the rings, the
+//! lock, and the server over ends in memory and over a UDP socket of this machine.
 #![tactic(auto)]
 
 #[cfg(test)]
-mod audits;
+mod lock;
 #[cfg(test)]
-mod clocks;
+mod rings;
 #[cfg(test)]
-mod counts;
+mod server;
 #[cfg(test)]
-mod ends;
+mod shared;
 #[cfg(test)]
-mod failing;
-#[cfg(test)]
-mod fixtures;
-#[cfg(test)]
-mod handing;
-#[cfg(test)]
-mod loopback;
-#[cfg(test)]
-mod meeting;
-#[cfg(test)]
-mod replacing;
-#[cfg(test)]
-mod timers;
-#[cfg(test)]
-mod two_at_once;
+mod view;

@@ -1,28 +1,17 @@
-//! Tests of the zone, octet for octet, with pools that count their calls. They stand above
-//! `ras_core`, so that the zone needn't be proved once more for them.
+//! Tests of the zone, octet for octet, with pools that count their calls; of pools and of sets of
+//! pools; of recorded steps; and of worlds. They stand above the libraries, so that none of these
+//! needs to be proved once more for them.
 #![tactic(auto)]
 
 #[cfg(test)]
-mod calls;
-#[cfg(test)]
-mod counting;
-#[cfg(test)]
-mod endpoints;
-#[cfg(test)]
 mod fixtures;
-#[cfg(test)]
-mod in_use;
-#[cfg(test)]
-mod least_grant;
 #[cfg(test)]
 mod messages;
 #[cfg(test)]
-mod pools_asked;
+mod pool;
 #[cfg(test)]
-mod pools_turned;
+mod replays;
 #[cfg(test)]
-mod replacing;
+mod worlds;
 #[cfg(test)]
-mod settings;
-#[cfg(test)]
-mod steps;
+mod zone;

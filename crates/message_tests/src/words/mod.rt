@@ -1,0 +1,4 @@
+//! Tests of what is told of datagrams and of probes.
+
+mod lines;
+mod probes;

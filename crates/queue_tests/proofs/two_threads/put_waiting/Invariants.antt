@@ -1,5 +1,0 @@
-use Rattle.reply_queues.specs.Rings.{SameOutlet}
-use Rattle.queue_tests.proofs.two_threads.put_waiting.Given as goal
-
-abbrev pub invariant-loop : goal.invariant-loop
-invariant-loop g l = SameOutlet l.initial.outlet l.outlet

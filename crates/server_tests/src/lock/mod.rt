@@ -1,0 +1,15 @@
+//! Tests of a zone's lock with its history: seats, lists, chapters, and threads.
+
+mod audits;
+mod chapters;
+mod discarding;
+mod fixtures;
+mod handing;
+mod least_grant;
+mod listing;
+mod locks;
+mod replacing;
+mod seats;
+mod threads;
+mod turns;
+mod unrecorded;

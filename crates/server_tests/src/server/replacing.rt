@@ -1,0 +1,240 @@
+//! Orders that are carried out while a server runs.
+
+ghost use Rattle.std.specs.Prelude.{◌≡◌, ◌≤◌, length};
+ghost use Rattle.udp_server.specs.Ends.{IsWithin};
+
+use crate::server::fixtures::{
+    CALL, CALL_LIMIT, CALLED, ENDPOINT, Looked, NOT_SERVED, PLAN, POOL, zone,
+};
+use book_audit::audit;
+use facts::expect;
+use pools::{FixedPool, Pool};
+use ras_core::Moment;
+use ras_module::Source;
+use std::alloc::Global;
+use std::rt::Clock;
+use std::sync::Wait;
+use std::sync::atomic::{AtomicU64, Ordering};
+use std::thread;
+use std::thread::Threads;
+use std::time::Duration;
+use udp_server::{Datagrams, DeviceFault, Moments, Open, PoolOrder, Received, Report, serve_zone};
+use vectors::requests::{ARQ, RRQ_101, RRQ_102};
+use zone_events::Datagram;
+
+/// How many requests there are: two registrations, and an admission of 1,280 units.
+const REQUESTS: u64 = 3;
+
+/// For how many milliseconds the end waits for the replies at most.
+const PATIENCE: u64 = 10_000;
+
+/// The units of the fresh pool.
+const FRESH: u64 = CALL_LIMIT;
+
+/// An end that gives `left` requests, is quiet until each has its reply, and then has stopped.
+#[derive(Drop)]
+struct Caller<'a, R> {
+    rt: &'a R,
+    sent: &'a AtomicU64,
+    left: u64,
+    patience: u64,
+}
+
+impl<R: Clock> Datagrams for Caller<'_, R> {
+    ghost faults = { λ end. 0 };
+
+    fn receive(&mut self, buffer: &mut [u8; 4_097]) -> Result<Received, DeviceFault> {
+        if self.left == 0 {
+            if self.sent.load(Ordering::SeqCst) >= REQUESTS || self.patience == 0 {
+                return Ok(Received::Stopped);
+            }
+            self.patience -= 1;
+            thread::sleep(self.rt, Duration::from_millis(1));
+            return Ok(Received::Quiet);
+        }
+        self.left -= 1;
+        Ok(match REQUESTS.saturating_sub(self.left) {
+            1 => given(buffer, ENDPOINT, &RRQ_101),
+            2 => given(buffer, CALLED, &RRQ_102),
+            _ => given(buffer, ENDPOINT, &ARQ),
+        })
+    }
+
+    fn send(&mut self, _datagram: &Datagram) -> Result<(), DeviceFault> {
+        self.sent.fetch_add(1, Ordering::SeqCst);
+        Ok(())
+    }
+
+    fn failures(&self) -> u64 {
+        0
+    }
+}
+
+/// A datagram with these octets.
+fn given(buffer: &mut [u8; 4_097], source: Source, octets: &[u8]) -> Received
+    requires { length octets.now ≤ 4097 }
+    ensures { IsWithin result }
+{
+    buffer[..octets.len()].copy_from_slice(octets);
+    Received::Datagram(source, octets.len())
+}
+
+/// A clock that stands at the start, and a second later once this many replies were sent.
+#[derive(Drop)]
+struct Late<'a> {
+    sent: &'a AtomicU64,
+    awaited: u64,
+}
+
+impl Moments for Late<'_> {
+    fn now(&mut self) -> Moment {
+        if self.sent.load(Ordering::SeqCst) < self.awaited {
+            return Moment::START;
+        }
+        Moment::new(1_000).unwrap_or(Moment::START)
+    }
+}
+
+/// From this millisecond on, a pool of this limit is to take the place of that one.
+fn order(at: u64, pool: usize, limit: u64) -> Option<PoolOrder<FixedPool>> {
+    Some(PoolOrder {
+        at: Moment::new(at)?,
+        pool,
+        fresh: FixedPool::new(limit),
+    })
+}
+
+/// What a server leaves that was given the three requests, and these orders: its timers' clock
+/// stands a second behind the start once all three were answered.
+fn report<R: Threads + Wait + Clock + Sync>(
+    rt: &R,
+    alloc: Global,
+    orders: Vec<PoolOrder<FixedPool>>,
+) -> Option<Report<FixedPool>> {
+    let sent = AtomicU64::new(0);
+    let caller = |left: u64| Caller {
+        rt,
+        sent: &sent,
+        left,
+        patience: PATIENCE,
+    };
+    let mut receivers = Vec::new(alloc);
+    receivers.push(caller(REQUESTS)).ok()?;
+    let mut clocks = Vec::new(alloc);
+    for awaited in [u64::MAX, REQUESTS] {
+        let sent = &sent;
+        clocks.push(Late { sent, awaited }).ok()?;
+    }
+    let zone = zone(alloc)?;
+    let sender = caller(0);
+    serve_zone(
+        rt, alloc, zone, receivers, sender, &Open, clocks, orders, PLAN,
+    )
+    .ok()
+}
+
+/// Compares a report with that of three datagrams, of the call's units lent and none returned, and
+/// of one pool that was replaced. The call's units are in use.
+fn compare_report<P: Pool>(report: &Report<P>) -> Looked {
+    let Ok(totals) = audit(&report.chapters, &report.finished, &report.receipts) else {
+        return Err("the receipts agree with the history");
+    };
+    expect(report.changes == 1, "the report counts one replaced pool")?;
+    expect(report.refused == 0, "no step was refused")?;
+    expect(
+        totals.datagrams == REQUESTS,
+        "the audit counts three datagrams",
+    )?;
+    expect(
+        totals.lent == u128::from(CALL),
+        "it counts the call's units as lent",
+    )?;
+    expect(totals.returned == 0, "it counts none as returned")?;
+    expect(totals.changes == 1, "it counts one replaced pool")?;
+    expect(
+        report.finished.zone().in_use() == CALL,
+        "the call's units are in use",
+    )
+}
+
+/// Whether this came back for an order: the pool's number, this pool with nothing lent, and whether
+/// it is the old one.
+fn is_back(back: &(usize, FixedPool, bool), pool: usize, limit: u64, is_old: bool) -> bool {
+    let (number, fixed, was_old) = back;
+    *number == pool && fixed.limit() == limit && fixed.lent() == 0 && *was_old == is_old
+}
+
+/// Compares what came back with the old pool alone.
+fn compare_one_box(boxes: &[(usize, FixedPool, bool)]) -> Looked {
+    let [back] = boxes else {
+        return Err("one pool comes back");
+    };
+    expect(
+        is_back(back, 0, POOL, true),
+        "it is the old one, with nothing lent",
+    )
+}
+
+/// Carries out one order once the call is open: the old pool comes back.
+fn carry_out<R: Threads + Wait + Clock + Sync>(rt: &R, alloc: Global) -> Looked {
+    let mut orders = Vec::new(alloc);
+    let order = order(1, 0, FRESH).ok_or("an order")?;
+    orders.push(order).ok().ok_or(NOT_SERVED)?;
+    let report = report(rt, alloc, orders).ok_or(NOT_SERVED)?;
+    let has_old = compare_one_box(&report.boxes);
+    let compared = compare_report(&report);
+    drop(report);
+    has_old.and(compared)
+}
+
+#[test]
+fn an_order_is_carried_out_over_a_live_call(rt: HostRuntime) -> Looked {
+    carry_out(&rt, rt.alloc())
+}
+
+/// Compares what came back with the fresh pools of three orders, and with the old pool of the one
+/// between them.
+fn compare_four_boxes(boxes: &[(usize, FixedPool, bool)]) -> Looked {
+    let [nowhere, made, small, late] = boxes else {
+        return Err("four pools come back");
+    };
+    expect(
+        is_back(nowhere, 7, 900, false),
+        "the first one is for a pool that isn't there",
+    )?;
+    expect(
+        is_back(made, 0, POOL, true),
+        "the second one is the old pool",
+    )?;
+    expect(
+        is_back(small, 0, CALL - 1, false),
+        "the third one has too few units",
+    )?;
+    expect(is_back(late, 0, 5_000, false), "the fourth one is too late")
+}
+
+/// Hands back the fresh pools of orders that can't be carried out: for a pool that isn't there, of
+/// fewer units than are lent, and at a moment that doesn't come. The one between them is carried
+/// out.
+fn hand_back<R: Threads + Wait + Clock + Sync>(rt: &R, alloc: Global) -> Looked {
+    let mut orders = Vec::new(alloc);
+    for (at, pool, limit) in [
+        (1, 7, 900),
+        (2, 0, FRESH),
+        (3, 0, CALL - 1),
+        (60_000, 0, 5_000),
+    ] {
+        let order = order(at, pool, limit).ok_or("an order")?;
+        orders.push(order).ok().ok_or(NOT_SERVED)?;
+    }
+    let report = report(rt, alloc, orders).ok_or(NOT_SERVED)?;
+    let are_back = compare_four_boxes(&report.boxes);
+    let compared = compare_report(&report);
+    drop(report);
+    are_back.and(compared)
+}
+
+#[test]
+fn orders_that_cannot_be_carried_out_are_handed_back(rt: HostRuntime) -> Looked {
+    hand_back(&rt, rt.alloc())
+}

@@ -1,0 +1,7 @@
+//! Tests of settings.
+
+mod listing;
+mod numbers;
+mod reading;
+mod status;
+mod unknown;
