@@ -4,5 +4,13 @@ mod OutcomesRead
 mod EventsRead
 mod RecordLines
 mod ZoneThrough
+mod ToldParts
+mod ToldConfirms
+mod ReadRegistrations
+mod ToldTables
+mod ToldPlans
+mod ToldSteps
+mod OpenedSound
+mod Reached
 mod StepsThrough
 mod WholeRecord

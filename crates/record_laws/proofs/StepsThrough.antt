@@ -27,6 +27,7 @@ use Rattle.record_laws.specs.WholeRecords.{AreTold, ToldRun, made}
 use Rattle.record_audit.proofs.OneRun.{counted_step}
 use Rattle.record_audit.proofs.ReadingBack as reading
 use Rattle.record_laws.proofs.OutcomesRead.{read_back}
+use Rattle.record_laws.proofs.Reached.{IsReached, given_is_told, next_reached}
 use Rattle.record_laws.proofs.RecordLines.{Steps, goes_on, no_remark}
 
 -- ---- each step is counted
@@ -92,17 +93,19 @@ module _ (said : Said) where
 
   -- the line of an outcome ends the step that is awaited
   pub ended : (s mid : State) (event : Event) (outcome : Outcome) → AreTold s event outcome
-      → Step s event outcome mid → (lines : List (List ℕ)) (others : Steps) (new : Standing)
+      → IsReached s → Step s event outcome mid
+      → (lines : List (List ℕ)) (others : Steps) (new : Standing)
       → GoesThrough (at mid) lines others new
       → GoesThrough (awaiting s event) (outcome_text (s.steps + 1) outcome ∷ lines)
       (made (event, outcome) ∷ others) new
-  ended s mid event outcome told step lines others new rest =
+  ended s mid event outcome told reached step lines others new rest =
       let number = s.steps + 1 in
+      let given = given_is_told s event outcome mid told reached step in
       let few = few_steps s event outcome mid step in
       let back = (read_back number outcome few told.outcome_is).back in
       let whole : Step s event (record outcome { given = handed_out s outcome.note outcome.output })
       mid = subst (λ (g : Option (List ℕ)). Step s event (record outcome { given = g }) mid)
-      (sym told.given) step in
+      (sym given) step in
       goes_on (awaiting s event) (at mid) new (outcome_text number outcome) lines
       (made (event, outcome) ∷ []) others
       (number_mark number few outcome) told.short_outcome
@@ -111,45 +114,48 @@ module _ (said : Said) where
       (sym back) (mid, record { next = refl; step = whole }, refl))
       (ap (step_shown s (change.Event event)) back
       ∙ ap (λ (g : Option (List ℕ)). (change.Event event, record outcome { given = g }) ∷ [])
-      told.given)
+      given)
       rest
 
   -- behind the line of an event, if an audit goes on behind the lines of the further steps
   after_event : (step : Event × Outcome) (steps : List (Event × Outcome)) (s mid after : State)
-      (number : ℕ) → number ≡ s.steps + 1 → AreTold s step.0 step.1 → Step s step.0 step.1 mid
+      (number : ℕ) → number ≡ s.steps + 1 → AreTold s step.0 step.1 → IsReached s
+      → Step s step.0 step.1 mid
       → GoesThrough (at mid) (texts_from (number + 1) steps) (map made steps) (at after)
       → GoesThrough (awaiting s step.0)
       (outcome_text number step.1 ∷ texts_from (number + 1) steps) (map made (step ∷ steps))
       (at after)
-  after_event step steps s mid after number is told makes rest =
+  after_event step steps s mid after number is told reached makes rest =
       subst (λ (n : ℕ). GoesThrough (awaiting s step.0)
       (outcome_text n step.1 ∷ texts_from (number + 1) steps) (map made (step ∷ steps)) (at after))
       (sym is)
-      (ended s mid step.0 step.1 told makes (texts_from (number + 1) steps) (map made steps)
-      (at after) rest)
+      (ended s mid step.0 step.1 told reached makes (texts_from (number + 1) steps)
+      (map made steps) (at after) rest)
 
   steps_through : (steps : List (Event × Outcome)) (s after : State) (number : ℕ)
-      → number ≡ s.steps + 1 → ToldRun s steps after
+      → number ≡ s.steps + 1 → IsReached s → ToldRun s steps after
       → GoesThrough (at s) (texts_from number steps) (map made steps) (at after)
-  steps_through [] s after number is run = (ap at run, refl)
-  steps_through (step ∷ steps) s after number is run =
+  steps_through [] s after number is reached run = (ap at run, refl)
+  steps_through (step ∷ steps) s after number is reached run =
       goes_on (at s) (awaiting s step.0) (at after) (event_text step.0)
       (outcome_text number step.1 ∷ texts_from (number + 1) steps) [] (map made (step ∷ steps))
       (event_mark step.0) run.0.short_event
       (subst (λ (line : Option Line). Calls (at s) line (awaiting s step.0))
       (sym (reading.read_back step.0 run.0.event_is).back) refl)
       refl
-      (after_event step steps s run.1 after number is run.0 run.2
+      (after_event step steps s run.1 after number is run.0 reached run.2
       (steps_through steps run.1 after (number + 1)
-      (omega (arith, is, counted s step.0 step.1 run.1 run.2)) run.3))
+      (omega (arith, is, counted s step.0 step.1 run.1 run.2))
+      (next_reached s step.0 step.1 run.1 run.0 reached run.2) run.3))
 
   -- behind the line of the first event
   pub event_through : (step : Event × Outcome) (steps : List (Event × Outcome)) (s after : State)
-      (number : ℕ) → number ≡ s.steps + 1 → ToldRun s (step ∷ steps) after
+      (number : ℕ) → number ≡ s.steps + 1 → IsReached s → ToldRun s (step ∷ steps) after
       → GoesThrough (awaiting s step.0)
       (outcome_text number step.1 ∷ texts_from (number + 1) steps) (map made (step ∷ steps))
       (at after)
-  event_through step steps s after number is run =
-      after_event step steps s run.1 after number is run.0 run.2
+  event_through step steps s after number is reached run =
+      after_event step steps s run.1 after number is run.0 reached run.2
       (steps_through steps run.1 after (number + 1)
-      (omega (arith, is, counted s step.0 step.1 run.1 run.2)) run.3)
+      (omega (arith, is, counted s step.0 step.1 run.1 run.2))
+      (next_reached s step.0 step.1 run.1 run.0 reached run.2) run.3)

@@ -32,6 +32,7 @@ use Rattle.record_laws.specs.WholeRecords.{IsFoundAgain, IsToldZone, ToldRun, ma
 use Rattle.record_laws.specs.WholeRecords.{recorded, zone_behind}
 use Rattle.record_laws.proofs.EventsRead.{event_is_a_line}
 use Rattle.record_laws.proofs.OutcomesRead.{outcome_flat, read_back}
+use Rattle.record_laws.proofs.Reached.{opening_reached}
 use Rattle.record_laws.proofs.RecordLines.{AreLines, Steps, ends_append, goes_on, lines_append}
 use Rattle.record_laws.proofs.RecordLines.{lines_are, none_begun}
 use Rattle.record_laws.proofs.StepsThrough.{at, awaiting, counted, event_mark, event_through}
@@ -138,7 +139,8 @@ module _ (zone : ZoneParts) (told : IsToldZone zone) where
       (subst (λ (r : Result Script ScriptFault). Opens r (script.Event step.0) mid)
       (sym head.made) (told.pools, refl)))
       refl
-      (event_through nothing_said step steps (opened zone) after 1 refl run)
+      (event_through nothing_said step steps (opened zone) after 1 refl
+      (opening_reached zone told) run)
 
   zone_known : (steps : List (Event × Outcome)) (after : State)
       → (behind steps after).zone ≡ zone_behind steps after

@@ -1,6 +1,6 @@
 -- Records of steps that are a run of their zone, and what an audit finds in them.
-use Rattle.std.specs.Prelude.{◌≡◌, ◌≤◌, ◌+◌, List, [], ◌∷◌, length, map, true, Option}
-use Rattle.std.specs.Prelude.{Some, None}
+use Rattle.std.specs.Prelude.{◌≡◌, ◌≤◌, ◌<◌, ◌+◌, ℕ, List, [], ◌∷◌, length, map, true, Option}
+use Rattle.std.specs.Prelude.{IfSome, Some, None}
 use Rattle.std.specs.List.{AllByRecursion}
 use Rattle.pools.specs.Specs.{account_of}
 use Rattle.ras_machine.specs.State.{State, opening}
@@ -13,7 +13,7 @@ use Rattle.zone_events.specs.declared.event.Event.{Event}
 use Rattle.zone_events.specs.declared.outcome.Outcome.{Outcome}
 use Rattle.zone_tables.specs.Pools.{figures_of}
 use Rattle.record_audit.specs.Audits.{IsRecord}
-use Rattle.record_audit.specs.Records.{Standing, handed_out, most_octets}
+use Rattle.record_audit.specs.Records.{Standing, most_octets}
 use Rattle.record_audit.specs.Written.{IsEvent, event_text}
 use Rattle.recording.specs.Again.{IsZone}
 use Rattle.recording.specs.Records.{RecordedStep, record_text}
@@ -27,14 +27,18 @@ recorded step = (script.Event step.0, step.1)
 abbrev pub made : Event × Outcome → Change × Outcome
 made step = (change.Event step.0, step.1)
 
--- What the lines of a step from this state can tell: what the types keep, names of one word, no
--- more octets than a line may have, and an identifier that is handed out as the reply tells it.
+-- what the type of an identifier keeps, if one is handed out: its characters have 16 bits
+abbrev pub HasCharacters : Option (List ℕ) → Type 0
+HasCharacters given = IfSome given (AllByRecursion (λ c. c < 65536))
+
+-- What the lines of a step from this state can tell: what the types keep, names of one word, and no
+-- more octets than a line may have.
 pub record AreTold (s : State) (event : Event) (outcome : Outcome) : Type 0 where
   pub event_is : IsEvent event
   pub outcome_is : IsOutcome outcome
   pub short_event : length (event_text event) ≤ most_octets
   pub short_outcome : length (outcome_text (s.steps + 1) outcome) ≤ most_octets
-  pub given : handed_out s outcome.note outcome.output ≡ outcome.given
+  pub given : HasCharacters outcome.given
 
 -- step after step from this state, each of which its lines can tell
 abbrev pub ToldRun : State → List (Event × Outcome) → State → Type 0
