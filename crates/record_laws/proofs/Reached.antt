@@ -38,13 +38,13 @@ module _ (s : State) (event : Event) (outcome : Outcome) (after : State)
     (step : Step s event outcome after) where
   pub given_is_told : handed_out s outcome.note outcome.output ≡ outcome.given
   given_is_told =
-      (step_is_told s event outcome after reached.sound reached.tellable told.given step).told
+      (step_is_told s event outcome after reached.sound reached.tellable told.characters step).told
 
   pub next_reached : IsReached after
   next_reached = record {
     sound = change_is_sound s (change.Event event) outcome after
         (few_moments event told.event_is) reached.sound step;
-    tellable = (step_is_told s event outcome after reached.sound reached.tellable told.given
+    tellable = (step_is_told s event outcome after reached.sound reached.tellable told.characters
         step).tables_are;
   }
 

@@ -38,7 +38,7 @@ pub record AreTold (s : State) (event : Event) (outcome : Outcome) : Type 0 wher
   pub outcome_is : IsOutcome outcome
   pub short_event : length (event_text event) ≤ most_octets
   pub short_outcome : length (outcome_text (s.steps + 1) outcome) ≤ most_octets
-  pub given : HasCharacters outcome.given
+  pub characters : HasCharacters outcome.given
 
 -- step after step from this state, each of which its lines can tell
 abbrev pub ToldRun : State → List (Event × Outcome) → State → Type 0

@@ -21,7 +21,8 @@ pub fn written_outcomes_are_read_again()
 /// The record of a fresh zone and of events that are a run of it is a record of that run: an audit
 /// goes on behind each of its lines, finds these steps and no others, and comes to the state to
 /// which they lead. The lines have to be able to tell the zone and each step: names are one word,
-/// and no line is too long. (An identifier that a step hands out is told by its reply alone.)
+/// and no line is too long. (That a reply tells the identifier that its step handed out is proved
+/// of every step.)
 ///
 /// promise recorded-run-is-found-again: The record of a run of events is a record of that run alone
 /// to an audit, if its lines can tell zone and steps (`IsFoundAgain`, `IsToldZone`, `ToldRun`).
