@@ -1,10 +1,9 @@
 -- The identifier that a step hands out is the one that its reply tells; and after the step the
 -- registrations can be told as before it.
-use Rattle.std.proofs.Common.{◌≡◌, ◌<◌, ◌+◌, ℕ, Bool, true, false, List, refl, sym, ap, ◌∙◌, subst}
+use Rattle.std.proofs.Common.{◌≡◌, ◌+◌, ℕ, Bool, true, false, List, refl, sym, ap, ◌∙◌, subst}
 use Rattle.std.proofs.Common.{Some, None}
 use Rattle.std.specs.Prelude.{IfSome, Option, Result, Ok, Err, if◌then◌else◌, is_some}
 use Rattle.std.specs.Prelude.{length, nat_lt}
-use Rattle.std.specs.List.{AllByRecursion}
 use Rattle.std.specs.FinMap.{get}
 use Rattle.keyed.proofs.Decide.{same_some}
 use Rattle.ras_module.specs.declared.address.Address.{Address}
