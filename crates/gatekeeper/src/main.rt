@@ -5,7 +5,7 @@
 //! tested: the built program, signals
 #![tactic(auto)]
 
-ghost use Rattle.std.specs.Prelude.{◌≡◌};
+ghost use Rattle.std.specs.Prelude.{◌≡◌, if◌then◌else◌};
 ghost use Rattle.commands.specs.Inputs.{input_status};
 ghost use Rattle.commands.specs.Replays.{status_of};
 
@@ -210,9 +210,11 @@ fn serve_source<
     }
 }
 
-/// The exit status once the report is printed, if the server was asked to end, and if it wasn't: then
-/// each receiver gave up.
-fn end_status(rt: &impl Log, was_asked: bool) -> u8 {
+/// The exit status once the report is printed. If the server wasn't asked to end, each receiver gave
+/// up, and a line of the log tells so.
+fn end_status(rt: &impl Log, was_asked: bool) -> u8
+    ensures { result ≡ (if was_asked then 0 else 4) }
+{
     if was_asked {
         return 0;
     }
