@@ -1,7 +1,7 @@
 //! The replies that are kept for repeats, and the requests that wait. A request that is sent again
 //! gets the same reply (H.225.0, RAS timers and request in progress).
 //!
-//! proved: a finite map; Busy if and only if full and nothing is over (`Kept::reserve`)
+//! proved: a finite map; a reply that is over is told if and only if there is one (`Kept::over`)
 #![tactic(auto)]
 
 mod birth_places;

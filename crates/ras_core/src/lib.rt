@@ -1,8 +1,7 @@
 //! The zone: the machine with choices of its own, always sound, its runs and its laws. Nothing
 //! here waits, prints or reads a clock: moments are handed in.
 //!
-//! proved: outcome and zone are the RAS machine's (`Zone::step`, `run`, `replace`), and always
-//! sound
+//! proved: outcome and zone are the RAS machine's (`Zone::step_into`, `replace`), and always sound
 //! tested: replies octet for octet
 #![tactic(auto)]
 

@@ -1,7 +1,7 @@
 //! The endpoints that are registered, by identifier.
 //!
-//! proved: a finite map, in which a new endpoint gets an unused identifier (`Registrations::add`);
-//! an endpoint whose silence has ended is told (`silent`)
+//! proved: a finite map; an identifier that no registration has is told (`Registrations::unused`),
+//! and an endpoint whose silence has ended (`silent`)
 #![tactic(auto)]
 
 mod fault;

@@ -2,7 +2,7 @@
 //! to have been chosen, and with pools that repeat the recorded answer. There is no second
 //! machine.
 //!
-//! proved: a recorded step is accepted if and only if the machine has it (`accepts`)
+//! proved: a recorded step is accepted if and only if the machine has it (`redo`)
 //! tested: altered books
 #![tactic(auto)]
 

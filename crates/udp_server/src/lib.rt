@@ -2,8 +2,8 @@
 //! for the turns of the timers and the pools that are replaced, and a sender. Each worker makes its
 //! steps under the lock and hands replies to the sender over a ring of its own.
 //!
-//! proved: all steps are a run with the headline (`serve`, `the_headline`); each turn of a loop
-//! serves just what came (`serve_next`)
+//! proved: all steps are a run with the headline (`serve_zone_watched`, `the_headline`); each turn
+//! of a loop serves just what came (`serve_next`)
 //! tested: workers at once, orders
 #![tactic(auto)]
 
