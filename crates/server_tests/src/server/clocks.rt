@@ -29,3 +29,20 @@ pub fn clocks<'a>(alloc: Global, ends: usize, reads: &'a AtomicU64) -> Option<Ve
     clocks.push(Still { reads: Some(reads) }).ok()?;
     Some(clocks)
 }
+
+/// A clock that stands at the start, and at this millisecond once this many replies were sent.
+#[derive(Drop)]
+pub struct Leap<'a> {
+    pub sent: &'a AtomicU64,
+    pub awaited: u64,
+    pub to: u64,
+}
+
+impl Moments for Leap<'_> {
+    fn now(&mut self) -> Moment {
+        if self.sent.load(Ordering::SeqCst) < self.awaited {
+            return Moment::START;
+        }
+        Moment::new(self.to).unwrap_or(Moment::START)
+    }
+}

@@ -1,8 +1,10 @@
 //! Ends in memory.
 
-ghost use Rattle.std.specs.Prelude.{◌≡◌};
+ghost use Rattle.std.specs.Prelude.{◌≤◌, length};
+ghost use Rattle.udp_server.specs.Ends.{IsWithin};
 
 use crate::server::fixtures::{ENDPOINT, discovery};
+use ras_module::Source;
 use std::alloc::Global;
 use std::rt::Clock;
 use std::sync::atomic::{AtomicU64, Ordering};
@@ -114,4 +116,13 @@ pub fn givers<'a, R: Clock>(
             .ok()?;
     }
     Some(all)
+}
+
+/// A datagram with these octets.
+pub fn given(buffer: &mut [u8; 4_097], source: Source, octets: &[u8]) -> Received
+    requires { length octets.now ≤ 4097 }
+    ensures { IsWithin result }
+{
+    buffer[..octets.len()].copy_from_slice(octets);
+    Received::Datagram(source, octets.len())
 }

@@ -1,8 +1,7 @@
 //! Orders that are carried out while a server runs.
 
-ghost use Rattle.std.specs.Prelude.{◌≡◌, ◌≤◌, length};
-ghost use Rattle.udp_server.specs.Ends.{IsWithin};
-
+use crate::server::clocks::Leap;
+use crate::server::ends::given;
 use crate::server::fixtures::{
     CALL, CALL_LIMIT, CALLED, ENDPOINT, Looked, NOT_SERVED, PLAN, POOL, zone,
 };
@@ -10,7 +9,6 @@ use book_audit::audit;
 use facts::expect;
 use pools::{FixedPool, Pool};
 use ras_core::Moment;
-use ras_module::Source;
 use std::alloc::Global;
 use std::rt::Clock;
 use std::sync::Wait;
@@ -18,7 +16,7 @@ use std::sync::atomic::{AtomicU64, Ordering};
 use std::thread;
 use std::thread::Threads;
 use std::time::Duration;
-use udp_server::{Datagrams, DeviceFault, Moments, Open, PoolOrder, Received, Report, serve_zone};
+use udp_server::{Datagrams, DeviceFault, Open, PoolOrder, Received, Report, serve_zone};
 use vectors::requests::{ARQ, RRQ_101, RRQ_102};
 use zone_events::Datagram;
 
@@ -27,6 +25,9 @@ const REQUESTS: u64 = 3;
 
 /// For how many milliseconds the end waits for the replies at most.
 const PATIENCE: u64 = 10_000;
+
+/// The millisecond at which the clock of the timers stands once each request has its reply.
+const SECOND: u64 = 1_000;
 
 /// The units of the fresh pool.
 const FRESH: u64 = CALL_LIMIT;
@@ -70,31 +71,6 @@ impl<R: Clock> Datagrams for Caller<'_, R> {
     }
 }
 
-/// A datagram with these octets.
-fn given(buffer: &mut [u8; 4_097], source: Source, octets: &[u8]) -> Received
-    requires { length octets.now ≤ 4097 }
-    ensures { IsWithin result }
-{
-    buffer[..octets.len()].copy_from_slice(octets);
-    Received::Datagram(source, octets.len())
-}
-
-/// A clock that stands at the start, and a second later once this many replies were sent.
-#[derive(Drop)]
-struct Late<'a> {
-    sent: &'a AtomicU64,
-    awaited: u64,
-}
-
-impl Moments for Late<'_> {
-    fn now(&mut self) -> Moment {
-        if self.sent.load(Ordering::SeqCst) < self.awaited {
-            return Moment::START;
-        }
-        Moment::new(1_000).unwrap_or(Moment::START)
-    }
-}
-
 /// From this millisecond on, a pool of this limit is to take the place of that one.
 fn order(at: u64, pool: usize, limit: u64) -> Option<PoolOrder<FixedPool>> {
     Some(PoolOrder {
@@ -123,7 +99,8 @@ fn report<R: Threads + Wait + Clock + Sync>(
     let mut clocks = Vec::new(alloc);
     for awaited in [u64::MAX, REQUESTS] {
         let sent = &sent;
-        clocks.push(Late { sent, awaited }).ok()?;
+        let to = SECOND;
+        clocks.push(Leap { sent, awaited, to }).ok()?;
     }
     let zone = zone(alloc)?;
     let sender = caller(0);

@@ -1,15 +1,14 @@
 //! What is due at a tick is done at that tick, and what it sends is sent. A datagram has the moment
 //! at which it came.
 
-ghost use Rattle.std.specs.Prelude.{◌≤◌, length};
-ghost use Rattle.udp_server.specs.Ends.{IsWithin};
 ghost use Rattle.udp_server.specs.Plans.{IsPlan};
 
+use crate::server::clocks::Leap;
+use crate::server::ends::given;
 use crate::server::fixtures::{CALLED, ENDPOINT, Looked, NOT_SERVED, PLAN, discovery, zone};
 use facts::expect;
 use pools::Pool;
 use ras_core::{Change, Event, Moment};
-use ras_module::Source;
 use std::alloc::Global;
 use std::rt::Clock;
 use std::sync::Wait;
@@ -17,9 +16,7 @@ use std::sync::atomic::{AtomicBool, AtomicU64, Ordering};
 use std::thread;
 use std::thread::Threads;
 use std::time::Duration;
-use udp_server::{
-    Datagrams, DeviceFault, Gate, Moments, Open, Plan, Received, Report, Stage, serve_zone,
-};
+use udp_server::{Datagrams, DeviceFault, Gate, Open, Plan, Received, Report, Stage, serve_zone};
 use vectors::requests::{ARQ, GRQ, RRQ_101, RRQ_102};
 use zone_events::Datagram;
 
@@ -77,31 +74,6 @@ impl<R: Clock> Datagrams for Caller<'_, R> {
     }
 }
 
-/// A datagram with these octets.
-fn given(buffer: &mut [u8; 4_097], source: Source, octets: &[u8]) -> Received
-    requires { length octets.now ≤ 4097 }
-    ensures { IsWithin result }
-{
-    buffer[..octets.len()].copy_from_slice(octets);
-    Received::Datagram(source, octets.len())
-}
-
-/// A clock that stands at the start, and once this many replies were sent, far ahead.
-#[derive(Drop)]
-struct Leap<'a> {
-    sent: &'a AtomicU64,
-    awaited: u64,
-}
-
-impl Moments for Leap<'_> {
-    fn now(&mut self) -> Moment {
-        if self.sent.load(Ordering::SeqCst) < self.awaited {
-            return Moment::START;
-        }
-        Moment::new(AHEAD).unwrap_or(Moment::START)
-    }
-}
-
 /// A gate that holds the worker of the timers once for a while, before the first step at which its
 /// clock is ahead: the other worker has ended by then, and the sender waits for this one alone.
 #[derive(Drop)]
@@ -152,7 +124,11 @@ fn do_all<R: Threads + Wait + Clock + Sync>(rt: &R, alloc: Global, plan: Plan) -
     let mut clocks = Vec::new(alloc);
     for awaited in [u64::MAX, REQUESTS] {
         let sent = &sent;
-        clocks.push(Leap { sent, awaited }).ok().ok_or(NOT_SERVED)?;
+        let to = AHEAD;
+        clocks
+            .push(Leap { sent, awaited, to })
+            .ok()
+            .ok_or(NOT_SERVED)?;
     }
     let gate = Late {
         rt,
@@ -244,7 +220,11 @@ fn serve_one<R: Threads + Wait + Clock + Sync>(rt: &R, alloc: Global) -> Looked 
     for _worker in 0..2 {
         let sent = &passed;
         clocks
-            .push(Leap { sent, awaited: 1 })
+            .push(Leap {
+                sent,
+                awaited: 1,
+                to: AHEAD,
+            })
             .ok()
             .ok_or(NOT_SERVED)?;
     }
