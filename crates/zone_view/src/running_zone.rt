@@ -13,7 +13,7 @@ use pools::Figures;
 /// Rows are told by falling places, some of them at a time. An endpoint or a call that stays while
 /// all places are told is told; one that comes or goes meanwhile may be missing, or be told twice.
 pub trait RunningZone: Drop {
-    ghost use Rattle.std.specs.Prelude.{List};
+    ghost use Rattle.std.specs.Prelude.{ℕ, List};
     ghost use Rattle.pools.specs.declared.interface.Figures.{Figures};
     ghost use Rattle.zone_view.specs.declared.figures.ZoneFigures.{ZoneFigures};
     ghost use Rattle.zone_view.specs.declared.rows.CallRow.{CallRow};
@@ -27,6 +27,15 @@ pub trait RunningZone: Drop {
 
     /// At some moment it has a call with this row.
     ghost has_call: { Self → CallRow → Type 0 };
+
+    /// At some moment these are rows of its endpoints below the first place, and the next ones
+    /// stand below the second one.
+    ghost has_endpoints_below: { Self → ℕ → List EndpointRow → ℕ → Type 0 } = { λ _ _ _ _.
+        Unit {0} };
+
+    /// At some moment these are rows of its calls below the first place, and the next ones stand
+    /// below the second one.
+    ghost has_calls_below: { Self → ℕ → List CallRow → ℕ → Type 0 } = { λ _ _ _ _. Unit {0} };
 
     /// Its figures now, and those of its pools, in order, at the same moment: they are put into
     /// `pools`, which has none yet, and room for 16, of which a zone has no more.
@@ -48,11 +57,13 @@ pub trait RunningZone: Drop {
     /// Puts rows of endpoints at places below this one into `rows`, which has none yet: as many as
     /// there is room for. Returns the place below which the next ones stand; 0 if there are none.
     ///
-    /// promise shown-rows-are-of-the-zone: Each row is of an endpoint that the zone has at some
-    /// moment; likewise of calls, by `calls_below`.
+    /// promise shown-rows-are-of-the-zone: Rows that are told together are of endpoints that the
+    /// zone has at some moment, below the given place, and its next ones stand below the place that
+    /// is returned; likewise of calls, by `calls_below`.
     fn endpoints_below(&self, place: usize, rows: &mut Vec<EndpointRow>) -> usize
         requires empty { rows.old.items ≡ [] }
         ensures rows { All (has_endpoint self.now) rows.new.items }
+        ensures told { has_endpoints_below self.now place rows.new.items result }
         ensures room { vec_capacity rows.new ≡ vec_capacity rows.old };
 
     /// Puts rows of calls at places below this one into `rows`, which has none yet: as many as
@@ -60,6 +71,7 @@ pub trait RunningZone: Drop {
     fn calls_below(&self, place: usize, rows: &mut Vec<CallRow>) -> usize
         requires empty { rows.old.items ≡ [] }
         ensures rows { All (has_call self.now) rows.new.items }
+        ensures told { has_calls_below self.now place rows.new.items result }
         ensures room { vec_capacity rows.new ≡ vec_capacity rows.old };
 
     /// Whether it is no longer served: nothing more happens in it.
