@@ -1,7 +1,7 @@
 -- What is told of a zone to those who look at it.
 use Rattle.std.specs.Prelude.{◌≡◌, ◌≤◌, ◌+◌, ℕ, List, [], ◌∷◌, All, Option, None, Some, length}
-use Rattle.std.specs.Prelude.{min, take}
-use Rattle.std.specs.FinMap as map
+use Rattle.std.specs.Prelude.{drop, map, min, reverse, take}
+use Rattle.std.specs.FinMap as fin
 use Rattle.admission.specs.Calls.{in_use, legs_of}
 use Rattle.admission.specs.declared.call.Call.{Call}
 use Rattle.admission.specs.declared.leg.Leg.{Leg}
@@ -9,6 +9,7 @@ use Rattle.pools.specs.declared.interface.Figures.{Figures}
 use Rattle.ras_machine.specs.State.{State}
 use Rattle.ras_module.specs.declared.call_key.CallKey.{CallKey}
 use Rattle.registrations.specs.declared.registration.Registration.{Registration}
+use Rattle.registrations.specs.Registry.{IsNumbered, Registry}
 use Rattle.zone_tables.specs.Tables.{Tables}
 use Rattle.zone_lock.specs.Held.{Held, IsKept}
 use Rattle.zone_view.specs.declared.figures.ZoneFigures.{ZoneFigures}
@@ -20,9 +21,9 @@ use Rattle.zone_view.specs.declared.rows.EndpointRow.{EndpointRow}
 pub record AreFigures (s : State) (f : ZoneFigures) (pools : List Figures) : Type 0 where
   pub clock : f.clock ≡ s.clock
   pub steps : f.steps ≡ s.steps
-  pub endpoints : f.endpoints ≡ map.len s.tables.live
-  pub calls : f.calls ≡ map.len s.tables.calls
-  pub kept : f.kept ≡ map.len s.kept
+  pub endpoints : f.endpoints ≡ fin.len s.tables.live
+  pub calls : f.calls ≡ fin.len s.tables.calls
+  pub kept : f.kept ≡ fin.len s.kept
   pub in_use : f.in_use ≡ in_use s.tables.calls
   pub limit : f.limit ≡ s.tables.config.limit
   pub within : f.in_use ≤ f.limit
@@ -44,8 +45,22 @@ endpoint_row registration legs = record {
 -- the row is that of an endpoint that is registered
 pub record IsEndpointRow (tables : Tables) (row : EndpointRow) : Type 0 where
   pub registration : Registration
-  pub live : map.get tables.live row.identifier ≡ Some registration
+  pub live : fin.get tables.live row.identifier ≡ Some registration
   pub row_is : row ≡ endpoint_row registration (legs_of tables.calls row.identifier)
+
+-- the row of an endpoint that is registered in these tables
+abbrev pub row_in : Tables → Registration → EndpointRow
+row_in tables registration =
+    endpoint_row registration (legs_of tables.calls registration.identifier)
+
+-- The rows of the endpoints with numbers below this place, from the highest one down to that of the
+-- next place, below which the others stand. The table numbers each endpoint once.
+pub record AreRowsBelow (tables : Tables) (place : ℕ) (rows : List EndpointRow) (next : ℕ) : Type 0
+  where
+    pub table : Registry
+    pub live : table.live ≡ tables.live
+    pub numbered : IsNumbered table
+    pub rows_are : rows ≡ reverse (map (row_in tables) (drop next (take place table.order)))
 
 -- the endpoint that was admitted first to a call with these legs
 abbrev pub first_of : List Leg → List ℕ
@@ -71,7 +86,7 @@ call_row key call = record {
 -- the row is that of an open call
 pub record IsCallRow (tables : Tables) (row : CallRow) : Type 0 where
   pub call : Call
-  pub is_open : map.get tables.calls row.key ≡ Some call
+  pub is_open : fin.get tables.calls row.key ≡ Some call
   pub row_is : row ≡ call_row row.key call
 
 -- What follows is told of what stood behind the lock of a zone, which was locked in this state.
@@ -83,13 +98,14 @@ pub record AreFiguresUnderLock (opened : State) (f : ZoneFigures) (pools : List 
     pub figures : AreFigures held.zone.state f pools
 
 -- Rows of endpoints at places below this one, and the place below which the next ones stand: all of
--- one moment, one for each place between.
+-- one moment, one for each place between, and each endpoint has one place.
 pub record AreEndpointsUnderLock (opened : State) (place : ℕ) (rows : List EndpointRow) (next : ℕ)
     : Type 0 where
   pub held : Held
   pub kept : IsKept opened held
   pub each : All (IsEndpointRow held.zone.state.tables) rows
-  pub count : length rows + next ≡ min place (map.len held.zone.state.tables.live)
+  pub by_place : AreRowsBelow held.zone.state.tables place rows next
+  pub count : length rows + next ≡ min place (fin.len held.zone.state.tables.live)
 
 -- the same of calls
 pub record AreCallsUnderLock (opened : State) (place : ℕ) (rows : List CallRow) (next : ℕ) : Type 0
@@ -97,7 +113,7 @@ pub record AreCallsUnderLock (opened : State) (place : ℕ) (rows : List CallRow
     pub held : Held
     pub kept : IsKept opened held
     pub each : All (IsCallRow held.zone.state.tables) rows
-    pub count : length rows + next ≡ min place (map.len held.zone.state.tables.calls)
+    pub count : length rows + next ≡ min place (fin.len held.zone.state.tables.calls)
 
 pub record IsEndpointUnderLock (opened : State) (row : EndpointRow) : Type 0 where
   pub held : Held

@@ -6,8 +6,8 @@ ghost use Rattle.std.specs.Prelude.{IfSome, Some, vec_capacity, vec_len};
 ghost use Rattle.std.specs.FinMap as map;
 ghost use Rattle.admission.specs.Calls.{legs_of};
 ghost use Rattle.zone_lock.specs.Held.{IsKept};
-ghost use Rattle.zone_lock.specs.Views.{AreFigures, IsCallRow, IsEndpointRow};
-ghost use Rattle.zone_lock.specs.Views.{endpoint_row, first_of, second_of};
+ghost use Rattle.zone_lock.specs.Views.{AreFigures, AreRowsBelow, IsCallRow, IsEndpointRow};
+ghost use Rattle.zone_lock.specs.Views.{endpoint_row, first_of, row_in, second_of};
 
 use crate::locked::Locked;
 use crate::seat::Hall;
@@ -63,6 +63,7 @@ pub fn endpoints_locked<P: Pool, D: Hall, T: Ledger, U: Ledger, V: Ledger>(
 ) -> usize
     requires empty { rows.old.items ≡ [] }
     ensures rows { All (IsEndpointRow locked.now.zone.state.tables) rows.new.items }
+    ensures by_place { AreRowsBelow locked.now.zone.state.tables place rows.new.items result }
     ensures count { length rows.new.items + result
         ≡ min place (map.len locked.now.zone.state.tables.live) }
     ensures full { 0 < result → vec_len rows.new ≡ vec_capacity rows.new }
@@ -72,27 +73,29 @@ pub fn endpoints_locked<P: Pool, D: Hall, T: Ledger, U: Ledger, V: Ledger>(
     put_endpoints(locked.zone.machine().tables(), place, rows)
 }
 
+#[tactic(auto, using(crate::proofs::Numbered::no_rows, crate::proofs::Numbered::next_row, crate::proofs::Numbered::row_of_live))]
 fn put_endpoints(tables: &ZoneTables, place: usize, rows: &mut Vec<EndpointRow>) -> usize
     requires empty { rows.old.items ≡ [] }
     ensures rows { All (IsEndpointRow tables.now) rows.new.items }
+    ensures by_place { AreRowsBelow tables.now place rows.new.items result }
     ensures count { length rows.new.items + result ≡ min place (map.len tables.now.live) }
     ensures full { 0 < result → vec_len rows.new ≡ vec_capacity rows.new }
     ensures room { vec_capacity rows.new ≡ vec_capacity rows.old }
 {
-    let mut left = place.min(tables.registrations().len());
+    let registrations = tables.registrations();
+    let mut left = place.min(registrations.len());
     while left > 0 && rows.len() < rows.capacity() {
         left -= 1;
-        rows.push_reserved(endpoint_row_at(tables, left));
+        let registration = registrations.nth(left).unwrap();
+        rows.push_reserved(endpoint_row_of(tables, registration));
     }
     left
 }
 
-/// The row of the endpoint with this number.
-fn endpoint_row_at(tables: &ZoneTables, number: usize) -> EndpointRow
-    requires { number < map.len tables.now.live }
-    ensures { IsEndpointRow tables.now result }
+/// The row of an endpoint that is registered in these tables.
+fn endpoint_row_of(tables: &ZoneTables, registration: &Registration) -> EndpointRow
+    ensures { result ≡ row_in tables.now registration.now }
 {
-    let registration = tables.registrations().nth(number).unwrap();
     let legs = tables.legs_of(&registration.identifier);
     endpoint_row(registration, legs)
 }

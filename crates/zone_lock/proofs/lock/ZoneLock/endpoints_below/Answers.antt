@@ -6,6 +6,7 @@ returns-clause-rows g c = record {
   held = _;
   kept = c.endpoints_locked.ensures.kept;
   each = c.endpoints_locked.ensures.rows;
+  by_place = c.endpoints_locked.ensures.by_place;
   count = c.endpoints_locked.ensures.count;
 }
 
