@@ -1,3 +1,4 @@
 pub mod Entries
+pub mod Gathered
 pub mod Parted
 pub mod Written

@@ -6,6 +6,7 @@ pub mod HomeParts
 pub mod HomeRows
 pub mod JsonRows
 pub mod JsonZone
+pub mod Keeping
 pub mod Lists
 pub mod Metrics
 pub mod Queries

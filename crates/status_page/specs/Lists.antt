@@ -1,11 +1,17 @@
 -- Lists of endpoints and of calls.
-use Rattle.std.specs.Prelude.{ℕ, ◌≡◌, ◌<◌, ◌⊎◌, Bool, true, List, map, Option, Some, None, Box}
+use Rattle.std.specs.Prelude.{ℕ, ◌≡◌, ◌<◌, ◌⊎◌, nat_lt, Bool, true, cond, List, [], ◌∷◌, ◌++◌}
+use Rattle.std.specs.Prelude.{length, map, take, All, Option, Some, None, Box}
+use Rattle.std.specs.BTreeMap.{insert_entry}
 use Rattle.std.specs.Cmp.Lexicographic.{slice_cmp}
 use Rattle.std.specs.Global.{Global}
+use Rattle.std.specs.List.{fold}
+use Rattle.std.specs.Map.{values_of}
 use Rattle.std.specs.Ordering.{is_lt, nat_cmp}
 use Rattle.ras_module.specs.declared.call_key.CallKey.{CallKey}
 use Rattle.zone_view.specs.declared.rows.CallRow.{CallRow}
 use Rattle.zone_view.specs.declared.rows.EndpointRow.{EndpointRow}
+use Rattle.status_page.specs.declared.lists.CallList.{CallList}
+use Rattle.status_page.specs.declared.lists.EndpointList.{EndpointList}
 
 -- the identifiers of endpoints, in order
 abbrev pub identifiers_of : List (Box EndpointRow Global) → List (List ℕ)
@@ -39,3 +45,48 @@ IsEndpointEntry after IsTold entry = (entry.0 ≡ entry.1.value.identifier)
 abbrev pub IsCallEntry : Option CallKey → (CallRow → Type 0) → List ℕ × Box CallRow Global → Type 0
 IsCallEntry after IsTold entry = (entry.0 ≡ entry.1.value.key.octets)
     × (is_call_after after entry.1.value.key ≡ true) × IsTold entry.1.value
+
+-- one more endpoint that was told, under its identifier, if that stands behind the given one; a row
+-- that was told later takes the place of an earlier one
+abbrev pub with_endpoint : Option (List ℕ) → List (List ℕ × EndpointRow) → EndpointRow
+    → List (List ℕ × EndpointRow)
+with_endpoint after entries row =
+    cond (is_endpoint_after after row.identifier)
+    (insert_entry (slice_cmp nat_cmp) entries row.identifier row) entries
+
+-- the endpoints behind the given one, of those that were told, by rising identifiers
+abbrev pub endpoints_told : Option (List ℕ) → List EndpointRow → List EndpointRow
+endpoints_told after told = values_of (fold (with_endpoint after) [] told)
+
+-- The list has the first of the endpoints behind the given one that were told, and says whether
+-- there are more of them; `told` is what was read of the zone, in order.
+abbrev pub AreFirstEndpoints : (EndpointRow → Type 0) → Option (List ℕ) → ℕ → EndpointList
+    → Type 0
+AreFirstEndpoints IsTold after most list =
+    (told : List EndpointRow) × All IsTold told
+    × (map (λ row. row.value) list.rows.items ≡ take most (endpoints_told after told))
+    × (list.is_more ≡ nat_lt most (length (endpoints_told after told)))
+
+-- the same of calls
+abbrev pub with_call : Option CallKey → List (List ℕ × CallRow) → CallRow
+    → List (List ℕ × CallRow)
+with_call after entries row =
+    cond (is_call_after after row.key)
+    (insert_entry (slice_cmp nat_cmp) entries row.key.octets row) entries
+
+abbrev pub calls_told : Option CallKey → List CallRow → List CallRow
+calls_told after told = values_of (fold (with_call after) [] told)
+
+abbrev pub AreFirstCalls : (CallRow → Type 0) → Option CallKey → ℕ → CallList → Type 0
+AreFirstCalls IsTold after most list =
+    (told : List CallRow) × All IsTold told
+    × (map (λ row. row.value) list.rows.items ≡ take most (calls_told after told))
+    × (list.is_more ≡ nat_lt most (length (calls_told after told)))
+
+-- The last of the rows that were read is taken. If there are none left, others were read first, at
+-- lower places, unless there are none.
+abbrev pub IsNextOf : {A : Type 0} → ℕ → List A → ℕ → List A → Option A → Type 0
+IsNextOf place rows new_place new_rows (Some row) =
+    ((new_place ≡ place) × (rows ≡ new_rows ++ row ∷ [])) ⊎ ((rows ≡ []) × (new_place < place))
+IsNextOf place rows new_place new_rows None =
+    (rows ≡ []) × ((place ≡ 0) ⊎ (new_place < place))

@@ -1,8 +1,8 @@
 //! The lowest entries of many.
 
-ghost use Rattle.std.specs.Prelude.{◌≡◌, ◌≤◌, ◌<◌, ◌+◌, ◌↔◌, take, IsTrue, IfOk, OnOk, Box};
-ghost use Rattle.std.specs.Global.{Global};
-ghost use Rattle.std.specs.BTreeMap.{IsOrdered, btree_map_len, insert_entry, values};
+ghost use Rattle.std.specs.Prelude.{◌≡◌, ◌≤◌, IfOk, OnOk};
+ghost use Rattle.std.specs.BTreeMap.{IsOrdered, btree_map_len, values};
+ghost use Rattle.status_page.specs.Keeping.{IsKept};
 
 use std::alloc::{AllocError, Global};
 use std::collections::BTreeMap;
@@ -20,8 +20,8 @@ where
     K: Ord + Drop,
     V: Drop,
     requires few { btree_map_len entries.old ≤ most }
-    ensures entries { OnOk result ((kept : Box V Global) × (kept.value ≡ value)
-        × (entries.new.entries ≡ take most (insert_entry K.cmp entries.old.entries key kept))) }
+    ensures kept { IfOk result (
+        IsKept K.cmp most entries.old.entries key value entries.new.entries) }
     ensures ordered { OnOk result (IsOrdered K.cmp entries.new) }
     ensures few { OnOk result (btree_map_len entries.new ≤ most) }
 {

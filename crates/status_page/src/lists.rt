@@ -4,8 +4,9 @@ ghost use Rattle.std.specs.Prelude.{◌≡◌, ◌≤◌, All, IfOk, IfSome, IsT
 ghost use Rattle.std.specs.Cmp.Lexicographic.{slice_cmp};
 ghost use Rattle.std.specs.List.Sorted.{IsStrictlySortedBy};
 ghost use Rattle.std.specs.Ordering.{nat_cmp};
-ghost use Rattle.status_page.specs.Lists.{identifiers_of, is_call_after, is_endpoint_after};
-ghost use Rattle.status_page.specs.Lists.{IsNearer, call_keys_of};
+ghost use Rattle.status_page.specs.Lists.{AreFirstCalls, AreFirstEndpoints, IsNearer, IsNextOf};
+ghost use Rattle.status_page.specs.Lists.{call_keys_of, identifiers_of};
+ghost use Rattle.status_page.specs.Lists.{is_call_after, is_endpoint_after};
 
 use crate::keeping::{keep, values_of};
 use ras_module::{CallKey, EndpointId};
@@ -34,10 +35,12 @@ pub struct CallList {
 
 /// The endpoints behind this one, or from the first one on, by rising identifiers: at most so many.
 /// One that stays while the zone tells them all isn't left out. One that comes or goes meanwhile
-/// may be missing.
+/// may be missing. The clauses speak of the rows that were read; that the zone told no others, none
+/// of them says.
 ///
-/// promise lists-are-of-told-rows: Rows rise behind the given identifier, at most as many as asked
-/// for, and each is one that the zone told; likewise of calls.
+/// promise lists-are-of-told-rows: The rows are the first of those that were read of the zone behind
+/// the given identifier, rising, at most as many as asked for, and it is told whether there are more;
+/// likewise of calls.
 pub fn endpoints_after<Z: RunningZone>(
     alloc: Global,
     zone: &Z,
@@ -51,6 +54,7 @@ pub fn endpoints_after<Z: RunningZone>(
     ensures told { IfOk result (λ list.
         All (λ row. Z.has_endpoint zone.now row.value) list.rows.items) }
     ensures most { IfOk result (λ list. vec_len list.rows ≤ most) }
+    ensures first { IfOk result (AreFirstEndpoints (Z.has_endpoint zone.now) after most) }
 {
     let mut entries = BTreeMap::new(alloc);
     let mut told = Vec::with_capacity(alloc, ROWS_AT_ONCE)?;
@@ -80,6 +84,7 @@ fn next_endpoint<Z: RunningZone>(
     ensures row { IfSome result (Z.has_endpoint zone.now) }
     ensures nearer { IfSome result (λ _.
         IsNearer place.old (vec_len told.old) place.new (vec_len told.new)) }
+    ensures next { IsNextOf place.old told.old.items place.new told.new.items result }
 {
     if told.is_empty() && *place > 0 {
         let below = zone.endpoints_below(*place, told);
@@ -114,6 +119,7 @@ pub fn calls_after<Z: RunningZone>(
     ensures told { IfOk result (λ list.
         All (λ row. Z.has_call zone.now row.value) list.rows.items) }
     ensures most { IfOk result (λ list. vec_len list.rows ≤ most) }
+    ensures first { IfOk result (AreFirstCalls (Z.has_call zone.now) after most) }
 {
     let mut entries = BTreeMap::new(alloc);
     let mut told = Vec::with_capacity(alloc, ROWS_AT_ONCE)?;
@@ -143,6 +149,7 @@ fn next_call<Z: RunningZone>(
     ensures row { IfSome result (Z.has_call zone.now) }
     ensures nearer { IfSome result (λ _.
         IsNearer place.old (vec_len told.old) place.new (vec_len told.new)) }
+    ensures next { IsNextOf place.old told.old.items place.new told.new.items result }
 {
     if told.is_empty() && *place > 0 {
         let below = zone.calls_below(*place, told);
