@@ -1,3 +1,4 @@
 pub mod Numbers
 pub mod InRange
 pub mod PoolLists
+pub mod Listed

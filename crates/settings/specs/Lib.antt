@@ -8,3 +8,4 @@ pub mod ServeTables
 pub mod Pools
 pub mod Settings
 pub mod Unknown
+pub mod Listing

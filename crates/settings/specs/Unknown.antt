@@ -1,6 +1,6 @@
 -- The keys of a document that are passed over, since they aren't known.
 use Rattle.std.specs.Prelude.{ℕ, ◌≡◌, ◌==◌, ◌&&◌, ◌++◌, Bool, not, List, [], ◌∷◌, map, codes}
-use Rattle.std.specs.Prelude.{Option, Some, None, string_bytes, if◌then◌else◌}
+use Rattle.std.specs.Prelude.{Option, Some, None, option_map, string_bytes, if◌then◌else◌}
 use Rattle.std.specs.List.{list_any}
 use Rattle.std.specs.Str.{bytes_eq}
 use Rattle.toml.specs.Data.{Data, Items, item, no_items, Members, member, no_members}
@@ -73,6 +73,10 @@ unknown_paths document =
     unknown_in [] document ++ unknown_at (codes "zone.") (get_member (codes "zone") document)
     ++ unknown_at (codes "serve.") (get_member (codes "serve") document)
     ++ unknown_in_pools (get_member (codes "pool") document)
+
+-- those of a text; none if it is no TOML document
+abbrev pub unknown_of : List ℕ → Option (List (List ℕ))
+unknown_of text = option_map unknown_paths (parse_document text)
 
 abbrev pub paths_of : List UnknownKey → List (List ℕ)
 paths_of unknown = map (λ k. string_bytes k.path) unknown

@@ -1,8 +1,9 @@
 //! The settings of the gatekeeper's program, read from a TOML document: what is set for the zone
 //! (`[zone]`), for the server (`[serve]`) and for the pools of bandwidth (`[[pool]]`).
 //!
-//! proved: a file is read if and only if its keys pass; else the first fault (`read_settings`)
-//! tested: listings, texts of faults
+//! proved: a file is read if and only if its keys pass; else the first fault (`read_settings`); what
+//! is written of settings (`write_settings`)
+//! tested: that a listing is read as the same settings, texts of faults
 #![tactic(auto)]
 
 mod fault;

@@ -1,16 +1,15 @@
 //! The keys of a text that are passed over.
 
-ghost use Rattle.std.specs.Prelude.{◌≡◌, ◌==◌, ◌++◌, codes, option_map, string_bytes, IfErr, IfOk};
+ghost use Rattle.std.specs.Prelude.{◌≡◌, ◌==◌, ◌++◌, codes, string_bytes, IfErr, IfOk};
 ghost use Rattle.std.specs.Prelude.{OnOk};
 ghost use Rattle.std.specs.List.{list_any};
 ghost use Rattle.std.specs.Str.{bytes_eq};
 ghost use Rattle.toml.specs.Data.{get_member};
-ghost use Rattle.toml.specs.Parse.{parse_document};
 ghost use Rattle.toml.specs.View.{items_view, table_view, view};
 ghost use Rattle.settings.specs.SettingKeys.{path_of};
 ghost use Rattle.settings.specs.Unknown.{is_known, paths_of, unknown_at, unknown_in, unknown_key};
 ghost use Rattle.settings.specs.Unknown.{unknown_in_pools, unknown_of_pools, unknown_paths};
-ghost use Rattle.settings.specs.Unknown.{unknown_under, IsUnread};
+ghost use Rattle.settings.specs.Unknown.{unknown_of, unknown_under, IsUnread};
 
 use crate::fault::{SettingsFault, SyntaxError};
 use crate::setting_key::SettingKey;
@@ -203,7 +202,7 @@ fn unknown_in(alloc: Global, document: &Table) -> Result<Vec<UnknownKey>, AllocE
 /// (`unknown_paths`).
 pub fn unknown_keys(alloc: Global, text: &str) -> Result<Vec<UnknownKey>, SettingsFault>
     ensures ok { IfOk result (λ unknown.
-        Some (paths_of unknown.items) ≡ option_map unknown_paths (parse_document text.now)) }
+        Some (paths_of unknown.items) ≡ unknown_of text.now) }
     ensures err { IfErr result (IsUnread text.now) }
 {
     match toml::table_from_str(alloc, text) {
