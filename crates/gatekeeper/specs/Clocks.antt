@@ -1,19 +1,7 @@
 -- What a server's clock tells.
-use Rattle.std.specs.Prelude.{ℕ, ◌-◌, ◌/◌, ◌^◌, min, Option, Some, None, nat_lt, if◌then◌else◌}
+use Rattle.std.specs.Prelude.{ℕ, ◌^◌, Option, Some, None, nat_lt, if◌then◌else◌}
 use Rattle.std.specs.declared.time.Instant.{Instant}
-use Rattle.std.specs.Time.{instant_nanos}
 use Rattle.gatekeeper.specs.declared.stopwatch.Stopwatch.{Stopwatch}
-
--- the whole milliseconds of so many nanoseconds, or the greatest u64 if they are more
-abbrev pub milliseconds_of : ℕ → ℕ
-milliseconds_of nanoseconds = min (nanoseconds / 1000000) (2 ^ 64 - 1)
-
--- the milliseconds from a moment to a later one, if the system's clock could be read at both; 0 if
--- the later one is before it
-abbrev pub milliseconds_between : Option Instant → Option Instant → Option ℕ
-milliseconds_between (Some start) (Some now) =
-    Some (milliseconds_of (instant_nanos now - instant_nanos start))
-milliseconds_between start now = None
 
 -- what a clock tells that told the last moment before: the moment after so many milliseconds, if
 -- they are known and are a moment; else the last one again

@@ -1,15 +1,11 @@
 -- What a record gets of the entries that leave a zone's history while it is served.
 use Rattle.std.specs.Prelude.{ℕ, ◌==◌, ◌&&◌, Bool, true, false, List, Result}
-use Rattle.std.specs.declared.io.ErrorKind.{ErrorKind}
-use Rattle.std.specs.declared.io.ErrorKind.TheVariants.{OutOfMemory}
 use Rattle.books.specs.declared.book.Entry.{Entry}
 use Rattle.zone_lock.specs.declared.handing.HandedOut.{HandedOut}
 use Rattle.recording.specs.declared.writer.Recorded.{Recorded}
 use Rattle.recording.specs.declared.writer.End.TheVariants.{Overrun}
 use Rattle.recording.specs.Records.{AreAnswered, IsEndAnswer}
 use Rattle.recording.specs.Standings.{Standing}
-use Rattle.gatekeeper.specs.declared.serving_fault.RunningFault.{RunningFault}
-use Rattle.gatekeeper.specs.declared.serving_fault.RunningFault.TheVariants.{Memory, Record}
 
 -- the entries are the next ones of the history, and more may come
 abbrev pub go_on : ℕ → HandedOut → Bool
@@ -24,8 +20,3 @@ IsPutDownIf false old entries result new = IsEndAnswer Overrun old result new
 abbrev pub IsPutDown : {E : Type 0} → Standing → HandedOut → Result Recorded E → Standing → Type 0
 IsPutDown old handed result new =
     IsPutDownIf (go_on old.steps handed) old handed.entries.items result new
-
--- the fault if the first lines of a record aren't written
-abbrev pub begin_fault : ErrorKind → RunningFault
-begin_fault OutOfMemory = Memory
-begin_fault _ = Record

@@ -2,12 +2,12 @@
 
 ghost use Rattle.std.specs.Prelude.{◌≡◌, ◌≤◌, All, IfOk, vec_len};
 ghost use Rattle.gatekeeper.specs.Clocks.{beginning};
+ghost use Rattle.gatekeeper.specs.Serves.{running_fault_of};
 ghost use Rattle.udp_server.specs.Plans.{IsPlan};
 ghost use Rattle.udp_server.specs.Served.{IsServed};
 ghost use Rattle.udp_socket.specs.Limits.{receives_left};
 
 use crate::service::Service;
-use crate::serving_fault::RunningFault;
 use crate::stopwatch::Stopwatch;
 use log::{Log, warn};
 use pools::Pool;
@@ -17,7 +17,8 @@ use std::rt::Clock;
 use std::sync::Wait;
 use std::thread::Threads;
 use std::time::Instant;
-use udp_server::{Open, Report, Watcher, serve_zone_watched};
+use surroundings::RunningFault;
+use udp_server::{Open, Report, ServeFault, Watcher, serve_zone_watched};
 use udp_socket::{BoundSocket, SocketEnd, Stop};
 
 /// Asks for the buffer that is set, and warns if less is granted.
@@ -36,7 +37,7 @@ pub fn ask_for_buffer<R: Log>(rt: &R, socket: &BoundSocket, octets: u64) {
 /// `count` clocks that began at this moment.
 ///
 /// promise server-has-its-clocks: As many clocks as asked for, each with the given beginning;
-/// likewise ends, by `ends_of`.
+/// likewise `ends_of`.
 fn clocks_of<'a, R: Clock>(
     rt: &'a R,
     alloc: Global,
@@ -72,6 +73,16 @@ fn ends_of<'a, S: Stop>(
     Ok(ends)
 }
 
+/// Why there is no report, if the server ended with this fault.
+fn running_fault(fault: ServeFault) -> RunningFault
+    ensures { result ≡ running_fault_of fault }
+{
+    match fault {
+        ServeFault::Memory => RunningFault::Memory,
+        ServeFault::WrongCounts | ServeFault::NotFinished => RunningFault::NotFinished,
+    }
+}
+
 /// Serves a zone over a socket until its ends have stopped, or are told to. Those who look at it
 /// meanwhile are waited for at the end.
 pub fn serve_socket<
@@ -99,7 +110,7 @@ pub fn serve_socket<
     let sender = socket.end(None, stop);
     // the program replaces no pool
     let orders = Vec::new(alloc);
-    let report = serve_zone_watched(
+    let served = serve_zone_watched(
         rt,
         alloc,
         zone,
@@ -110,6 +121,9 @@ pub fn serve_socket<
         orders,
         service.plan,
         watchers,
-    )?;
-    Ok(report)
+    );
+    match served {
+        Ok(report) => Ok(report),
+        Err(fault) => Err(running_fault(fault)),
+    }
 }

@@ -1,37 +1,28 @@
 //! The record that is written while a zone is served.
 
-ghost use Rattle.std.specs.Prelude.{◌≡◌, [], Err, IfOk, OnErr, length, nat_le};
-ghost use Rattle.recording.specs.Zones.{zone_lines};
-ghost use Rattle.gatekeeper.specs.Recorders.{IsPutDown, begin_fault};
+ghost use Rattle.std.specs.Prelude.{◌≡◌, []};
+ghost use Rattle.gatekeeper.specs.Recorders.{IsPutDown};
 
-use crate::notices::{tell_no_record, tell_record, warn_of_end, warn_of_lost_record};
-use crate::serving_fault::RunningFault;
-use commands::Recording;
-use jiff::Timestamp;
 use log::Log;
-use recording::{End, RecordWriter, Recorded, RecordedZone};
-use script::Output;
+use recording::{End, RecordWriter, Recorded};
 use std::alloc::Global;
 use std::fs::File;
-use std::io::{self, BufWriter, ErrorKind, Write};
+use std::io::{self, Write};
 use std::rt::{Clock, Files};
 use std::sync::Wait;
 use std::thread;
 use std::time::Duration;
+use surroundings::{
+    PlannedRecord, RecordFile, RunningFault, begin_record, warn_of_end, warn_of_lost_record,
+};
 use udp_server::{HandedOut, RunningHistory, Watcher};
 use zone_view::RunningZone;
-
-/// How many octets are held before the system gets them.
-const BUFFER: usize = 65_536;
 
 /// How many milliseconds pass from one look at a zone to the next.
 const PAUSE: u64 = 5;
 
 /// If so many steps were made meanwhile, the next look follows at once.
 const MANY: usize = 4_096;
-
-/// What a record is written into.
-pub type RecordFile = BufWriter<File>;
 
 /// Writes down each step of a zone for as long as the zone is served.
 #[derive(Drop)]
@@ -42,101 +33,19 @@ pub struct Recorder<'a, R, W: Write + Drop> {
     record: RecordWriter<W>,
 }
 
-/// Why no file is made, as a person is told it.
-fn cause_of(kind: ErrorKind) -> &'static str {
-    match kind {
-        ErrorKind::AlreadyExists => "there is such a file",
-        ErrorKind::NotFound => "there is no such folder",
-        ErrorKind::PermissionDenied => "not permitted",
-        _ => "the system refuses it",
-    }
-}
-
-/// Makes a file for a record. If that fails, the log tells why.
-fn new_file<R: Files<File = File> + Log>(rt: &R, name: &str) -> Result<File, RunningFault>
-    ensures { OnErr result (result ≡ Err RunningFault.Record) }
-{
-    match File::create_new(rt, name) {
-        Ok(file) => Ok(file),
-        Err(error) => {
-            tell_no_record(rt, name, cause_of(error.kind()));
-            Err(RunningFault::Record)
-        }
-    }
-}
-
-/// When it is now, by the system's clock, to a millisecond.
-fn time_now<R: Clock>(rt: &R) -> Result<Timestamp, jiff::Error> {
-    Timestamp::from_millisecond(Timestamp::now(rt)?.as_millisecond())
-}
-
-/// Writes the first line of a record, which an audit passes over: when it begins.
-fn write_time<R: Clock, W: Write>(rt: &R, out: &mut W) -> io::Result<()> {
-    match time_now(rt) {
-        Ok(now) => writeln!(out, "# recorded from {now}"),
-        Err(_) => writeln!(out, "# recorded without a clock"),
-    }
-}
-
-/// Begins a record of a zone. What is told of the zone stands in the output then.
-fn begun<R: Clock, W: Write + Drop>(
-    rt: &R,
-    alloc: Global,
-    mut out: Output<W>,
-    zone: &RecordedZone,
-    most: u64,
-) -> io::Result<RecordWriter<W>>
-    ensures bound { IfOk result (λ writer. writer.most ≡ most) }
-    ensures open { IfOk result (λ writer. writer.is_open
-        ≡ nat_le (length (zone_lines zone.now)) most) }
-{
-    write_time(rt, &mut out)?;
-    let mut record = RecordWriter::begin(alloc, out, zone, most)?;
-    record.flush()?;
-    Ok(record)
-}
-
-/// Makes the file of a record and begins it. If that fails, the log tells why.
-pub fn begin_record<'a, R: Files<File = File> + Clock + Log>(
+/// Begins a record, and returns who is to write down what comes then.
+pub fn recorder_of<'a, R: Files<File = File> + Clock + Log>(
     rt: &'a R,
     alloc: Global,
-    zone: &RecordedZone,
-    recording: Recording<'a>,
+    planned: &PlannedRecord<'a>,
 ) -> Result<Recorder<'a, R, RecordFile>, RunningFault> {
-    let Recording { file: name, most } = recording;
-    let file = new_file(rt, name)?;
-    let Ok(buffer) = BufWriter::with_capacity(alloc, BUFFER, file) else {
-        return Err(RunningFault::Memory);
-    };
-    match begun(rt, alloc, Output::new(buffer), zone, most) {
-        Ok(record) => {
-            if record.is_open() {
-                tell_record(rt, name);
-            } else {
-                warn_of_end(rt, name, End::Full, 0);
-            }
-            Ok(Recorder {
-                rt,
-                alloc,
-                name,
-                record,
-            })
-        }
-        Err(error) => Err(refused(rt, name, error.kind())),
-    }
-}
-
-/// Why a record isn't begun in the file that was made for it. The log tells it, too.
-fn refused<R: Log>(rt: &R, name: &str, kind: ErrorKind) -> RunningFault
-    ensures { result ≡ begin_fault kind }
-{
-    match kind {
-        ErrorKind::OutOfMemory => RunningFault::Memory,
-        _ => {
-            tell_no_record(rt, name, "a write failed");
-            RunningFault::Record
-        }
-    }
+    let record = begin_record(rt, alloc, planned)?;
+    Ok(Recorder {
+        rt,
+        alloc,
+        name: planned.recording.file,
+        record,
+    })
 }
 
 /// Writes down entries that left a zone's history, if they follow those that are written and more

@@ -4,6 +4,7 @@ ghost use Rattle.std.specs.Prelude.{◌↔◌, IsTrue, OnOk};
 ghost use Rattle.std.specs.Io.KnownBytes.{Appends};
 ghost use Rattle.gatekeeper.specs.Reports.{HasFaults, count_line, report_text};
 
+use log::{Log, warn};
 use pools::Pool;
 use script::Output;
 use std::io::{self, Write};
@@ -49,4 +50,13 @@ pub fn has_faults<P: Pool>(report: &Report<P>) -> bool
         || report.refused != 0
         || report.receive_faults != 0
         || report.send_faults != 0
+}
+
+/// Warns if anything that should have been done wasn't.
+pub fn warn_of_faults<P: Pool, R: Log>(rt: &R, report: &Report<P>) {
+    if has_faults(report) {
+        warn!(rt; target: "serve", dropped = report.dropped, refused = report.refused,
+            receive_faults = report.receive_faults, send_faults = report.send_faults;
+            "not everything was done");
+    }
 }

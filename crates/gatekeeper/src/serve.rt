@@ -1,26 +1,22 @@
 //! Serving a zone over UDP.
 
-ghost use Rattle.std.specs.Prelude.{◌≡◌, ◌≤◌, IfOk, IfSome, map};
-ghost use Rattle.script.specs.Runs.{start_of};
-ghost use Rattle.gatekeeper.specs.Serves.{AreServed, IsReportWritten, IsServiceWritten, zone_set};
+ghost use Rattle.std.specs.Prelude.{◌≤◌, IfOk, IfSome};
+ghost use Rattle.gatekeeper.specs.Serves.{AreServed, IsReportWritten, IsServiceWritten};
 ghost use Rattle.settings.specs.Settings.{AreSettings};
+ghost use Rattle.surroundings.specs.Zones.{zone_set};
 ghost use Rattle.udp_server.specs.Plans.{IsPlan};
 ghost use Rattle.udp_server.specs.Served.{IsServed};
 
 use crate::attendants::attendants_of;
-use crate::notices::{tell_cause, tell_place, tell_zone, warn_of, warn_of_faults};
 use crate::over_socket::{ask_for_buffer, serve_socket};
-use crate::page_server::{bind_page, watcher_of};
-use crate::planned_record::{PlannedRecord, planned_record};
-use crate::recorder::begin_record;
-use crate::report::print_report;
+use crate::page_server::watcher_of;
+use crate::recorder::recorder_of;
+use crate::report::{print_report, warn_of_faults};
 use crate::service::{Service, Task};
-use crate::serving_fault::{RunningFault, ServingFault};
-use crate::source::Source;
-use commands::{ReadInput, Serving, are_new, pools_of, read_input};
+use commands::{ReadInput, Serving, pools_of, read_input};
 use log::Log;
-use pools::{Pool, PoolSet};
-use ras_core::{Config, NewFault, Zone};
+use pools::Pool;
+use ras_core::Zone;
 use ras_module::Address;
 use script::Output;
 use settings::Settings;
@@ -33,39 +29,12 @@ use std::random::RandomSource;
 use std::rt::{Clock, Files};
 use std::sync::Wait;
 use std::thread::Threads;
+use surroundings::{
+    PlannedRecord, RunningFault, ServingFault, Source, bind_page, planned_record, set_zone,
+    tell_cause, tell_place, tell_zone, warn_of,
+};
 use udp_server::Report;
 use udp_socket::{BoundSocket, Stop, bind_zone};
-
-/// The zone that is set, with these pools, before its first event.
-fn zone_of<P: Pool>(alloc: Global, config: Config, pools: Vec<P>) -> Result<Zone<P>, RunningFault>
-    ensures start { IfOk result
-        (λ zone. zone ≡ start_of config (map P.account pools.items)) }
-{
-    let Ok(set) = PoolSet::new(pools) else {
-        return Err(RunningFault::WrongPools);
-    };
-    match Zone::new(alloc, config, set) {
-        Ok(zone) => Ok(zone),
-        Err((_, NewFault::WrongPools)) => Err(RunningFault::WrongPools),
-        Err((_, NewFault::Memory)) => Err(RunningFault::Memory),
-    }
-}
-
-/// The zone that is set, before its first event, once it is seen that these pools are its pools.
-fn set_zone<P: Pool>(
-    alloc: Global,
-    settings: &Settings,
-    pools: Vec<P>,
-) -> Result<Zone<P>, RunningFault>
-    ensures start { IfOk result (λ zone. zone ≡ zone_set settings.now) }
-{
-    if !are_new(&pools, settings.pools.as_slice()) {
-        return Err(RunningFault::WrongPools);
-    }
-    let config = settings.config.copy()?;
-    let zone = zone_of(alloc, config, pools)?;
-    Ok(zone)
-}
 
 /// Serves a zone over a socket, its status page if that has an address, and writes its record if
 /// one is planned. The record is begun last, so that what can't be served leaves none.
@@ -99,9 +68,7 @@ fn serve_attended<
 {
     let listener = bind_page(rt, page)?;
     let recorder = match planned {
-        Some(PlannedRecord { zone, recording }) => {
-            Some(begin_record(rt, alloc, &zone, recording)?)
-        }
+        Some(planned) => Some(recorder_of(rt, alloc, &planned)?),
         None => None,
     };
     let page = watcher_of(rt, listener.as_ref(), about);
@@ -114,8 +81,8 @@ fn serve_attended<
 /// Serves the zone that is set with the pools that were made for it, once it is seen that they are
 /// its pools.
 ///
-/// promise served-zone-is-the-set-one: What the server leaves is a history of the zone of the
-/// settings (`IsServed`, `zone_set`).
+/// promise served-zone-is-the-set-one: What the server leaves is a history of the set zone
+/// (`IsServed`, `zone_set`).
 fn serve_pools<
     P: Pool + Send,
     R: Threads
@@ -155,7 +122,7 @@ fn serve_pools<
         Ok(socket) => socket,
         Err(fault) => {
             tell_cause(rt, address, fault.cause());
-            return Err(RunningFault::Bind(fault));
+            return Err(RunningFault::Bind);
         }
     };
     let about = About { name, address };

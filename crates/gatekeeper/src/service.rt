@@ -36,7 +36,7 @@ impl Service {
     /// What these settings say of it. Its history is let go, so that no chapter and no receipt is
     /// kept; its entries are handed out before, if a record is written of them.
     ///
-    /// promise server-has-its-numbers: The numbers for the server are those that are set.
+    /// promise server-has-its-numbers: The numbers for the server are those set.
     pub fn of(settings: &Settings, receives: Option<u64>, is_recorded: bool) -> Service
         requires { AreServeNumbers settings.now.receivers settings.now.ring settings.now.faults
             settings.now.tick settings.now.buffer }

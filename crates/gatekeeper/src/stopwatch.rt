@@ -3,9 +3,9 @@
 ghost use Rattle.std.specs.Prelude.{◌≡◌, IsNone};
 ghost use Rattle.gatekeeper.specs.Clocks.{beginning, last_moment, moment_told};
 
-use crate::elapsed::milliseconds_since;
 use std::rt::Clock;
 use std::time::Instant;
+use surroundings::milliseconds_since;
 use udp_server::Moments;
 use zone_config::Moment;
 

@@ -3,9 +3,9 @@
 ghost use Rattle.std.specs.Prelude.{◌≡◌};
 ghost use Rattle.commands.specs.Audits.{record_status};
 
+use crate::last_line::{out_of_memory, stream_failed};
 use crate::notices::tell_unreadable;
 use crate::source::open_file;
-use crate::{out_of_memory, stream_failed};
 use commands::{RecordFault, audit};
 use log::Log;
 use record_audit::AuditFault;

@@ -1,23 +1,22 @@
 //! Why serving ended without a report.
 
 ghost use Rattle.std.specs.Prelude.{◌≡◌};
-ghost use Rattle.gatekeeper.specs.Serves.{running_status, serve_status};
+ghost use Rattle.surroundings.specs.Faults.{running_status, serve_status};
 
 use commands::InputFault;
 use std::alloc::AllocError;
 use thiserror::Error;
-use udp_server::ServeFault;
-use udp_socket::BindFault;
 
-/// Why there is no report though the settings were read.
+/// Why there is no report though the settings were read. What a person has to know besides it, as
+/// why an address can't be bound, a line of the log tells before.
 #[derive(Clone, Copy, Debug, PartialEq, Eq, Error)]
 pub enum RunningFault {
     /// The address of the zone isn't bound.
-    #[error(transparent)]
-    Bind(BindFault),
+    #[error("bind failed")]
+    Bind,
     /// The address of the status page isn't bound.
-    #[error(transparent)]
-    BindPage(status_server::BindFault),
+    #[error("bind failed")]
+    BindPage,
     /// The record of the zone isn't begun.
     #[error("record failed")]
     Record,
@@ -42,7 +41,7 @@ impl RunningFault {
         ensures { result ≡ running_status self.now }
     {
         match self {
-            RunningFault::Bind(_) | RunningFault::BindPage(_) => 4,
+            RunningFault::Bind | RunningFault::BindPage => 4,
             RunningFault::Record | RunningFault::Stream => 4,
             RunningFault::Memory => 3,
             RunningFault::WrongPools | RunningFault::NotFinished => 1,
@@ -52,26 +51,12 @@ impl RunningFault {
 
 impl From<AllocError> for RunningFault {
     ghost use Rattle.std.specs.Prelude.{◌≡◌};
-    ghost use Rattle.gatekeeper.specs.declared.serving_fault.RunningFault.TheVariants.{Memory};
+    ghost use Rattle.surroundings.specs.declared.serving_fault.RunningFault.TheVariants.{Memory};
 
     ghost from_gives = { λ _ fault. fault ≡ Memory };
 
     fn from(_: AllocError) -> RunningFault {
         RunningFault::Memory
-    }
-}
-
-impl From<ServeFault> for RunningFault {
-    ghost use Rattle.std.specs.Prelude.{◌≡◌};
-    ghost use Rattle.gatekeeper.specs.Serves.{running_fault_of};
-
-    ghost from_gives = { λ fault own. own ≡ running_fault_of fault };
-
-    fn from(fault: ServeFault) -> RunningFault {
-        match fault {
-            ServeFault::Memory => RunningFault::Memory,
-            ServeFault::WrongCounts | ServeFault::NotFinished => RunningFault::NotFinished,
-        }
     }
 }
 

@@ -4,7 +4,7 @@ ghost use Rattle.std.specs.Prelude.{◌≡◌};
 ghost use Rattle.commands.specs.Inputs.{input_status};
 ghost use Rattle.probing.specs.Statuses.{probe_status};
 
-use crate::out_of_memory;
+use crate::last_line::{out_of_memory, stream_failed};
 use commands::{InputFault, explain};
 use probing::{Probe, ProbeFault, ask_gatekeeper};
 use script::Output;
@@ -12,9 +12,6 @@ use std::alloc::Global;
 use std::io::{self, BufWriter};
 use std::net::Net;
 use std::rt::Clock;
-
-/// The exit status if a stream failed.
-const STREAM_FAILED: u8 = 4;
 
 /// Tells what the datagrams on standard input are.
 pub fn explain_input<R: Input + Print + Eprint>(rt: &R, alloc: Global) -> u8 {
@@ -46,10 +43,7 @@ pub fn probe_gatekeeper<R: Net + Clock + Print + Eprint>(
     match ask_gatekeeper(rt, alloc, probe, &mut words) {
         Ok(true) => match print!(rt; "{words}") {
             Ok(()) => 0,
-            Err(_) => {
-                let _ = rt.eprintln("stream failed");
-                STREAM_FAILED
-            }
+            Err(_) => stream_failed(rt),
         },
         Ok(false) => {
             let _ = eprint!(rt; "{words}");

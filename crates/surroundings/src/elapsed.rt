@@ -2,7 +2,7 @@
 
 ghost use Rattle.std.specs.Prelude.{◌≡◌, IsNone};
 ghost use Rattle.std.specs.Duration.{as_nanos};
-ghost use Rattle.gatekeeper.specs.Clocks.{milliseconds_between, milliseconds_of};
+ghost use Rattle.surroundings.specs.Elapsed.{milliseconds_between, milliseconds_of};
 
 use std::rt::Clock;
 use std::time::{Duration, Instant};

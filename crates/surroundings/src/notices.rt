@@ -1,15 +1,12 @@
-//! What the server tells by its log.
+//! What the program tells by its log.
 
-use crate::report::has_faults;
 use crate::source::{SETTINGS, Source};
 use commands::{InputFault, PassedOver};
 use log::{Log, error, info, warn};
-use pools::Pool;
 use ras_module::{Address, Name};
 use recording::{End, ZoneFault};
 use settings::SettingsFault;
 use std::fmt;
-use udp_server::Report;
 
 /// A name as people read it.
 #[derive(Drop)]
@@ -114,13 +111,4 @@ pub fn warn_of_end<R: Log>(rt: &R, name: &str, why: End, steps: u64) {
 /// Warns that a record goes no further since it can't be written.
 pub fn warn_of_lost_record<R: Log>(rt: &R, name: &str) {
     warn!(rt; target: RECORD, "{name} ends: a write of it failed");
-}
-
-/// Warns if anything that should have been done wasn't.
-pub fn warn_of_faults<P: Pool, R: Log>(rt: &R, report: &Report<P>) {
-    if has_faults(report) {
-        warn!(rt; target: "serve", dropped = report.dropped, refused = report.refused,
-            receive_faults = report.receive_faults, send_faults = report.send_faults;
-            "not everything was done");
-    }
 }

@@ -7,7 +7,6 @@ use std::fs;
 use std::rt::{Clock, Files};
 use std::sync::atomic::{AtomicBool, AtomicU64, Ordering};
 use std::time::Instant;
-use udp_socket::Stop;
 
 /// What the system tells of this program.
 const STATUS: &str = "/proc/self/status";
@@ -61,10 +60,9 @@ impl<'a, R: Clock + Files> StopSignal<'a, R> {
             Err(_) => false,
         }
     }
-}
 
-impl<R: Clock + Files> Stop for StopSignal<'_, R> {
-    fn is_over(&self) -> bool {
+    /// Whether a signal has asked the program to end.
+    pub fn has_come(&self) -> bool {
         if self.was_asked.load(Ordering::SeqCst) {
             return true;
         }
@@ -74,10 +72,10 @@ impl<R: Clock + Files> Stop for StopSignal<'_, R> {
             return false;
         }
         self.next.store(now.saturating_add(PAUSE), Ordering::SeqCst);
-        let is_over = self.looks();
-        if is_over {
+        let is_asked = self.looks();
+        if is_asked {
             self.was_asked.store(true, Ordering::SeqCst);
         }
-        is_over
+        is_asked
     }
 }

@@ -1,0 +1,3 @@
+pub mod Elapsed
+pub mod Faults
+pub mod Zones

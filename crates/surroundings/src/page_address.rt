@@ -1,0 +1,33 @@
+//! The address of the status page.
+
+ghost use Rattle.std.specs.Prelude.{◌≢◌, None, OnErr};
+
+use crate::notices::{tell_cause, tell_page};
+use crate::serving_fault::RunningFault;
+use log::Log;
+use ras_module::Address;
+use status_server::{BoundListener, bind_status};
+use std::net::{Net, TcpListener, TcpStream};
+
+/// Binds the address of the page, if there is to be one, and tells where it is served, or why it
+/// can't be bound.
+pub fn bind_page<R: Net<Listener = TcpListener, Stream = TcpStream> + Log>(
+    rt: &R,
+    address: Option<Address>,
+) -> Result<Option<BoundListener>, RunningFault>
+    ensures { OnErr result (address ≢ None) }
+{
+    let Some(address) = address else {
+        return Ok(None);
+    };
+    match bind_status(rt, address) {
+        Ok(listener) => {
+            tell_page(rt, address);
+            Ok(Some(listener))
+        }
+        Err(fault) => {
+            tell_cause(rt, address, fault.cause());
+            Err(RunningFault::BindPage)
+        }
+    }
+}

@@ -1,0 +1,115 @@
+//! The file of a record, and what stands in it before the first step.
+
+ghost use Rattle.std.specs.Prelude.{◌≡◌, Err, IfOk, OnErr, length, nat_le};
+ghost use Rattle.recording.specs.Zones.{zone_lines};
+ghost use Rattle.surroundings.specs.Faults.{begin_fault};
+
+use crate::notices::{tell_no_record, tell_record, warn_of_end};
+use crate::planned_record::PlannedRecord;
+use crate::serving_fault::RunningFault;
+use jiff::Timestamp;
+use log::Log;
+use recording::{End, RecordWriter, RecordedZone};
+use script::Output;
+use std::alloc::Global;
+use std::fs::File;
+use std::io::{self, BufWriter, ErrorKind, Write};
+use std::rt::{Clock, Files};
+
+/// How many octets are held before the system gets them.
+const BUFFER: usize = 65_536;
+
+/// What a record is written into.
+pub type RecordFile = BufWriter<File>;
+
+/// Why no file is made, as a person is told it.
+fn cause_of(kind: ErrorKind) -> &'static str {
+    match kind {
+        ErrorKind::AlreadyExists => "there is such a file",
+        ErrorKind::NotFound => "there is no such folder",
+        ErrorKind::PermissionDenied => "not permitted",
+        _ => "the system refuses it",
+    }
+}
+
+/// Makes a file for a record. If that fails, the log tells why.
+fn new_file<R: Files<File = File> + Log>(rt: &R, name: &str) -> Result<File, RunningFault>
+    ensures { OnErr result (result ≡ Err RunningFault.Record) }
+{
+    match File::create_new(rt, name) {
+        Ok(file) => Ok(file),
+        Err(error) => {
+            tell_no_record(rt, name, cause_of(error.kind()));
+            Err(RunningFault::Record)
+        }
+    }
+}
+
+/// When it is now, by the system's clock, to a millisecond.
+fn time_now<R: Clock>(rt: &R) -> Result<Timestamp, jiff::Error> {
+    Timestamp::from_millisecond(Timestamp::now(rt)?.as_millisecond())
+}
+
+/// Writes the first line of a record, which an audit passes over: when it begins.
+fn write_time<R: Clock, W: Write>(rt: &R, out: &mut W) -> io::Result<()> {
+    match time_now(rt) {
+        Ok(now) => writeln!(out, "# recorded from {now}"),
+        Err(_) => writeln!(out, "# recorded without a clock"),
+    }
+}
+
+/// Begins a record of a zone. What is told of the zone stands in the output then.
+fn begun<R: Clock, W: Write + Drop>(
+    rt: &R,
+    alloc: Global,
+    mut out: Output<W>,
+    zone: &RecordedZone,
+    most: u64,
+) -> io::Result<RecordWriter<W>>
+    ensures bound { IfOk result (λ writer. writer.most ≡ most) }
+    ensures open { IfOk result (λ writer. writer.is_open
+        ≡ nat_le (length (zone_lines zone.now)) most) }
+{
+    write_time(rt, &mut out)?;
+    let mut record = RecordWriter::begin(alloc, out, zone, most)?;
+    record.flush()?;
+    Ok(record)
+}
+
+/// Why a record isn't begun in the file that was made for it. The log tells it, too.
+fn refused<R: Log>(rt: &R, name: &str, kind: ErrorKind) -> RunningFault
+    ensures { result ≡ begin_fault kind }
+{
+    match kind {
+        ErrorKind::OutOfMemory => RunningFault::Memory,
+        _ => {
+            tell_no_record(rt, name, "a write failed");
+            RunningFault::Record
+        }
+    }
+}
+
+/// Makes the file of a record and begins it. If that fails, the log tells why.
+pub fn begin_record<R: Files<File = File> + Clock + Log>(
+    rt: &R,
+    alloc: Global,
+    planned: &PlannedRecord<'_>,
+) -> Result<RecordWriter<RecordFile>, RunningFault> {
+    let name = planned.recording.file;
+    let file = new_file(rt, name)?;
+    let Ok(buffer) = BufWriter::with_capacity(alloc, BUFFER, file) else {
+        return Err(RunningFault::Memory);
+    };
+    let most = planned.recording.most;
+    match begun(rt, alloc, Output::new(buffer), &planned.zone, most) {
+        Ok(record) => {
+            if record.is_open() {
+                tell_record(rt, name);
+            } else {
+                warn_of_end(rt, name, End::Full, 0);
+            }
+            Ok(record)
+        }
+        Err(error) => Err(refused(rt, name, error.kind())),
+    }
+}
