@@ -1,6 +1,6 @@
 //! The address of the status page.
 
-ghost use Rattle.std.specs.Prelude.{◌≢◌, None, OnErr};
+ghost use Rattle.std.specs.Prelude.{◌≡◌, ◌↔◌, IfErr, IfOk, IsSome, OnErr};
 
 use crate::notices::{tell_cause, tell_page};
 use crate::serving_fault::RunningFault;
@@ -15,7 +15,9 @@ pub fn bind_page<R: Net<Listener = TcpListener, Stream = TcpStream> + Log>(
     rt: &R,
     address: Option<Address>,
 ) -> Result<Option<BoundListener>, RunningFault>
-    ensures { OnErr result (address ≢ None) }
+    ensures bound { IfOk result (λ listener. IsSome listener ↔ IsSome address) }
+    ensures asked { OnErr result (IsSome address) }
+    ensures fault { IfErr result (λ fault. fault ≡ RunningFault.BindPage) }
 {
     let Some(address) = address else {
         return Ok(None);

@@ -1,7 +1,8 @@
 //! What is to be recorded of a zone.
 
-ghost use Rattle.std.specs.Prelude.{◌≡◌, ◌↔◌, IfOk, IfSome, IsSome, Ok};
+ghost use Rattle.std.specs.Prelude.{◌≡◌, ◌↔◌, IfErr, IfOk, IfSome, IsSome, Ok, OnErr};
 ghost use Rattle.recording.specs.Zones.{recorded_zone};
+ghost use Rattle.surroundings.specs.Faults.{IsPlanFault};
 
 use crate::notices::tell_unrecordable;
 use crate::serving_fault::RunningFault;
@@ -29,6 +30,8 @@ pub fn planned_record<'a, R: Log>(
     ensures zone { IfOk result (λ planned. IfSome planned
         (λ it. recorded_zone config.now specs ≡ Ok it.zone)) }
     ensures planned { IfOk result (λ planned. IsSome planned ↔ IsSome recording.entry) }
+    ensures asked { OnErr result (IsSome recording.entry) }
+    ensures fault { IfErr result (IsPlanFault (recorded_zone config.now specs)) }
 {
     let Some(recording) = recording else {
         return Ok(None);

@@ -1,8 +1,8 @@
 //! The file of a record, and what stands in it before the first step.
 
-ghost use Rattle.std.specs.Prelude.{◌≡◌, Err, IfOk, OnErr, length, nat_le};
+ghost use Rattle.std.specs.Prelude.{◌≡◌, Err, IfErr, IfOk, OnErr, length, nat_le};
 ghost use Rattle.recording.specs.Zones.{zone_lines};
-ghost use Rattle.surroundings.specs.Faults.{begin_fault};
+ghost use Rattle.surroundings.specs.Faults.{IsBeginFault, begin_fault};
 
 use crate::notices::{tell_no_record, tell_record, warn_of_end};
 use crate::planned_record::PlannedRecord;
@@ -94,7 +94,12 @@ pub fn begin_record<R: Files<File = File> + Clock + Log>(
     rt: &R,
     alloc: Global,
     planned: &PlannedRecord<'_>,
-) -> Result<RecordWriter<RecordFile>, RunningFault> {
+) -> Result<RecordWriter<RecordFile>, RunningFault>
+    ensures bound { IfOk result (λ writer. writer.most ≡ planned.now.recording.most) }
+    ensures open { IfOk result (λ writer. writer.is_open
+        ≡ nat_le (length (zone_lines planned.now.zone)) planned.now.recording.most) }
+    ensures fault { IfErr result IsBeginFault }
+{
     let name = planned.recording.file;
     let file = new_file(rt, name)?;
     let Ok(buffer) = BufWriter::with_capacity(alloc, BUFFER, file) else {
