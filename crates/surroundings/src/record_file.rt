@@ -5,7 +5,7 @@ ghost use Rattle.recording.specs.Zones.{zone_lines};
 ghost use Rattle.surroundings.specs.Faults.{IsBeginFault, begin_fault};
 
 use crate::notices::{tell_no_record, tell_record, warn_of_end};
-use crate::planned_record::PlannedRecord;
+use crate::record_plan::PlannedRecord;
 use crate::serving_fault::RunningFault;
 use jiff::Timestamp;
 use log::Log;
