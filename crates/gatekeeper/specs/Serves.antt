@@ -1,12 +1,14 @@
 -- What serving returns and writes.
-use Rattle.std.specs.Prelude.{ℕ, ◌≡◌, List, Result, Ok, Err, IsTrue}
+use Rattle.std.specs.Prelude.{ℕ, ◌≡◌, ◌⊎◌, Bool, List, Result, Ok, Err, IsTrue}
 use Rattle.udp_server.specs.declared.report.ServeFault.{ServeFault}
 use Rattle.udp_server.specs.declared.report.ServeFault.TheVariants as server
 use Rattle.script.specs.Streams.{OutputState}
 use Rattle.commands.specs.Inputs.{GivesSettings, IsInputRead}
 use Rattle.surroundings.specs.declared.serving_fault.RunningFault.{RunningFault}
+use Rattle.surroundings.specs.declared.serving_fault.RunningFault.TheVariants.{Bind, BindPage}
 use Rattle.surroundings.specs.declared.serving_fault.RunningFault.TheVariants.{Memory, NotFinished}
-use Rattle.surroundings.specs.declared.serving_fault.RunningFault.TheVariants.{Stream}
+use Rattle.surroundings.specs.declared.serving_fault.RunningFault.TheVariants.{Record, Stream}
+use Rattle.surroundings.specs.declared.serving_fault.RunningFault.TheVariants.{WrongPools}
 use Rattle.surroundings.specs.declared.serving_fault.ServingFault.{ServingFault}
 use Rattle.surroundings.specs.declared.serving_fault.ServingFault.TheVariants as serving
 
@@ -16,6 +18,26 @@ abbrev pub running_fault_of : ServeFault → RunningFault
 running_fault_of server.WrongCounts = NotFinished
 running_fault_of server.Memory = Memory
 running_fault_of server.NotFinished = NotFinished
+
+-- a server that was begun leaves no report
+abbrev pub IsServerFault : RunningFault → Type 0
+IsServerFault fault = (fault ≡ Memory) ⊎ (fault ≡ NotFinished)
+
+-- nor does one with a page or without, and with a record or without
+abbrev pub IsAttendedFault : Bool → Bool → RunningFault → Type 0
+IsAttendedFault has_page has_record fault =
+    ((fault ≡ BindPage) × IsTrue has_page) ⊎ ((fault ≡ Record) × IsTrue has_record)
+    ⊎ IsServerFault fault
+
+-- nor does one whose zone has to be made, and its address to be bound
+abbrev pub IsServeFault : Bool → Bool → RunningFault → Type 0
+IsServeFault has_page has_record fault =
+    (fault ≡ WrongPools) ⊎ (fault ≡ Bind) ⊎ IsAttendedFault has_page has_record fault
+
+-- and its report isn't printed
+abbrev pub IsPrintFault : Bool → Bool → RunningFault → Type 0
+IsPrintFault has_page has_record fault =
+    (fault ≡ Stream) ⊎ IsServeFault has_page has_record fault
 
 -- only a zone of settings that the octets give is served; otherwise the fault is that of
 -- reading them

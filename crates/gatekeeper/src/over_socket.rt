@@ -1,8 +1,8 @@
 //! Serving a zone over a socket.
 
-ghost use Rattle.std.specs.Prelude.{◌≡◌, ◌≤◌, All, IfOk, vec_len};
+ghost use Rattle.std.specs.Prelude.{◌≡◌, ◌≤◌, All, IfErr, IfOk, vec_len};
 ghost use Rattle.gatekeeper.specs.Clocks.{beginning};
-ghost use Rattle.gatekeeper.specs.Serves.{running_fault_of};
+ghost use Rattle.gatekeeper.specs.Serves.{IsServerFault, running_fault_of};
 ghost use Rattle.udp_server.specs.Plans.{IsPlan};
 ghost use Rattle.udp_server.specs.Served.{IsServed};
 ghost use Rattle.udp_socket.specs.Limits.{receives_left};
@@ -103,6 +103,7 @@ pub fn serve_socket<
     requires plan { IsPlan service.plan }
     ensures served { IfOk result (λ r. IsServed zone.state r.finished r.datagrams r.turns
         r.changes) }
+    ensures fault { IfErr result IsServerFault }
 {
     let start = Instant::now(rt).ok();
     let ends = ends_of(alloc, socket, service, stop)?;

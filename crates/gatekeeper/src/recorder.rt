@@ -1,7 +1,8 @@
 //! The record that is written while a zone is served.
 
-ghost use Rattle.std.specs.Prelude.{◌≡◌, []};
+ghost use Rattle.std.specs.Prelude.{◌≡◌, [], IfErr};
 ghost use Rattle.gatekeeper.specs.Recorders.{IsPutDown};
+ghost use Rattle.surroundings.specs.Faults.{IsBeginFault};
 
 use log::Log;
 use recording::{End, RecordWriter, Recorded};
@@ -38,7 +39,9 @@ pub fn recorder_of<'a, R: Files<File = File> + Clock + Log>(
     rt: &'a R,
     alloc: Global,
     planned: &PlannedRecord<'a>,
-) -> Result<Recorder<'a, R, RecordFile>, RunningFault> {
+) -> Result<Recorder<'a, R, RecordFile>, RunningFault>
+    ensures fault { IfErr result IsBeginFault }
+{
     let record = begin_record(rt, alloc, planned)?;
     Ok(Recorder {
         rt,

@@ -1,7 +1,8 @@
 //! Serving a zone over UDP.
 
-ghost use Rattle.std.specs.Prelude.{◌≤◌, IfOk, IfSome};
-ghost use Rattle.gatekeeper.specs.Serves.{AreServed, IsReportWritten, IsServiceWritten};
+ghost use Rattle.std.specs.Prelude.{◌≡◌, ◌≤◌, IfErr, IfOk, IfSome, IsSome, is_some};
+ghost use Rattle.gatekeeper.specs.Serves.{AreServed, IsAttendedFault, IsPrintFault};
+ghost use Rattle.gatekeeper.specs.Serves.{IsReportWritten, IsServeFault, IsServiceWritten};
 ghost use Rattle.settings.specs.Settings.{AreSettings};
 ghost use Rattle.surroundings.specs.Zones.{zone_set};
 ghost use Rattle.udp_server.specs.Plans.{IsPlan};
@@ -65,6 +66,7 @@ fn serve_attended<
     requires plan { IsPlan service.plan }
     ensures served { IfOk result (λ r. IsServed zone.state r.finished r.datagrams r.turns
         r.changes) }
+    ensures fault { IfErr result (IsAttendedFault (is_some page) (is_some planned.entry)) }
 {
     let listener = bind_page(rt, page)?;
     let recorder = match planned {
@@ -106,6 +108,8 @@ fn serve_pools<
     ensures served { IfOk result
         (λ r. IsServed (zone_set settings).state r.finished r.datagrams r.turns
         r.changes) }
+    ensures fault { IfErr result
+        (IsServeFault (is_some settings.status) (is_some task.entry.record)) }
 {
     let service = Service::of(&settings, task.receives, task.record.is_some());
     let zone = set_zone(alloc, &settings, pools)?;
@@ -156,7 +160,9 @@ fn serve_and_print<
     out: &mut Output<W>,
 ) -> Result<(), RunningFault>
     requires { AreSettings settings }
-    ensures { IsReportWritten out.old out.new result }
+    ensures written { IsReportWritten out.old out.new result }
+    ensures fault { IfErr result
+        (IsPrintFault (is_some settings.status) (is_some task.entry.record)) }
 {
     let report = match serve_pools(rt, alloc, settings, pools, task) {
         Ok(report) => report,
@@ -189,7 +195,9 @@ fn serve_settings<
     out: &mut Output<W>,
 ) -> Result<(), RunningFault>
     requires { AreSettings settings }
-    ensures { IsReportWritten out.old out.new result }
+    ensures written { IsReportWritten out.old out.new result }
+    ensures fault { IfErr result
+        (IsPrintFault (is_some settings.status) (is_some task.entry.record)) }
 {
     // A function that hands out a box hides what is in it, so the boxes are made here.
     let mut boxes: Vec<Box<dyn Pool + Send>> = Vec::new(alloc);
@@ -237,6 +245,8 @@ pub fn serve<
 ) -> Result<(), ServingFault>
     ensures settings { IfSome (I.remaining input) (λ octets. AreServed octets result) }
     ensures written { IsServiceWritten out.old out.new result }
+    ensures unasked { IfErr result (λ fault.
+        fault ≡ ServingFault.Running RunningFault.Record → IsSome serving.entry.record) }
 {
     let source = Source { file: serving.file };
     let ReadInput {
