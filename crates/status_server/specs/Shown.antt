@@ -9,7 +9,8 @@ use Rattle.zone_view.specs.declared.rows.CallRow.{CallRow}
 use Rattle.zone_view.specs.declared.rows.EndpointRow.{EndpointRow}
 use Rattle.status_page.specs.Home.{home_text}
 use Rattle.status_page.specs.JsonRows.{calls_text, endpoints_text}
-use Rattle.status_page.specs.Lists.{call_keys_of, identifiers_of, is_call_after, is_endpoint_after}
+use Rattle.status_page.specs.Lists.{AreFirstCalls, AreFirstEndpoints, call_keys_of}
+use Rattle.status_page.specs.Lists.{identifiers_of, is_call_after, is_endpoint_after}
 use Rattle.status_page.specs.declared.asked.Asked.{Asked}
 use Rattle.status_page.specs.declared.asked.Asked.TheVariants.{Calls, Endpoints, Home}
 use Rattle.status_page.specs.declared.lists.CallList.{CallList}
@@ -22,13 +23,15 @@ use Rattle.status_page.specs.declared.response.Content.TheVariants.{Html, Json}
 use Rattle.status_page.specs.declared.response.Response.{Response}
 use Rattle.status_page.specs.declared.response.Status.TheVariants.{Found, NotFound}
 
--- endpoints of a zone, behind the one that a query names, at most as many as it asks for, rising
+-- endpoints of a zone, behind the one that a query names, at most as many as it asks for, rising:
+-- the first of those that the zone told, with whether it told more
 abbrev pub AreEndpointsOf : (EndpointRow → Type 0) → Query → EndpointList → Type 0
 AreEndpointsOf HasEndpoint query list =
     All (λ row. HasEndpoint row.value) list.rows.items
     × All (λ row. IsTrue (is_endpoint_after query.endpoint row.value.identifier)) list.rows.items
     × (vec_len list.rows ≤ query.most)
     × IsStrictlySortedBy (slice_cmp nat_cmp) (identifiers_of list.rows.items)
+    × AreFirstEndpoints HasEndpoint query.endpoint query.most list
 
 -- calls of a zone, likewise
 abbrev pub AreCallsOf : (CallRow → Type 0) → Query → CallList → Type 0
@@ -37,6 +40,7 @@ AreCallsOf HasCall query list =
     × All (λ row. IsTrue (is_call_after query.call row.value.key)) list.rows.items
     × (vec_len list.rows ≤ query.most)
     × IsStrictlySortedBy (slice_cmp nat_cmp) (call_keys_of list.rows.items)
+    × AreFirstCalls HasCall query.call query.most list
 
 -- a page that was found, with this text
 abbrev pub IsPage : Content → List ℕ → Response → Type 0

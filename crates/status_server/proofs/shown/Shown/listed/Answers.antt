@@ -1,7 +1,7 @@
 use Rattle.std.proofs.Common.{◌∙◌, sym, subst, ℕ, All, IsTrue, IfOk, List, Option}
 use Rattle.std.proofs.lemmas.Result.{IfOk-weaker}
 use Rattle.status_page.specs.JsonRows.{calls_text, endpoints_text}
-use Rattle.status_page.specs.Lists.{is_endpoint_after}
+use Rattle.status_page.specs.Lists.{AreFirstEndpoints, is_endpoint_after}
 use Rattle.status_page.specs.declared.asked.Asked.{Asked}
 use Rattle.status_page.specs.declared.response.Content.TheVariants.{Json}
 use Rattle.status_server.specs.Shown.{IsCallPageOf, IsEndpointPageOf, IsPage, IsRowPageOf}
@@ -18,10 +18,12 @@ returns-in_ok-list-in-Endpoints g c =
     let text = endpoints_text list.rows.items list.is_more in
     let IsAfter : Option (List ℕ) → Type 0 = λ after. All (λ row. IsTrue (is_endpoint_after after row.value.identifier)) list.rows.items in
     let after = subst IsAfter (c.copied.ensures ∙ c.endpoint.ensures) told.after in
+    let AreFirst : Option (List ℕ) → Type 0 = λ after. AreFirstEndpoints HasEndpoint after query.most list in
+    let first = subst AreFirst (c.copied.ensures ∙ c.endpoint.ensures) told.first in
     let IsAnswer : Asked → Type 0 = λ asked. IfOk c.endpoints_json.result (IsRowPageOf c.args.self.now.about asked HasEndpoint HasCall) in
     subst IsAnswer (sym c.in-Endpoints.is)
     (IfOk-weaker c.endpoints_json.result (IsPage Json text) (IsEndpointPageOf query HasEndpoint)
-    (λ page is. (list, (told.told, after, told.most, told.rising), is))
+    (λ page is. (list, (told.told, after, told.most, told.rising, first), is))
     (IsPage-parts c.endpoints_json.result Json text c.endpoints_json.ensures.found c.endpoints_json.ensures.content c.endpoints_json.ensures.text))
 
 pub returns-in_ok-list-in-Calls : goal.returns-in_ok-list-in-Calls
@@ -35,5 +37,5 @@ returns-in_ok-list-in-Calls g c =
     let IsAnswer : Asked → Type 0 = λ asked. IfOk c.calls_json.result (IsRowPageOf c.args.self.now.about asked HasEndpoint HasCall) in
     subst IsAnswer (sym c.in-Calls.is)
     (IfOk-weaker c.calls_json.result (IsPage Json text) (IsCallPageOf query HasCall)
-    (λ page is. (list, (told.told, told.after, told.most, told.rising), is))
+    (λ page is. (list, (told.told, told.after, told.most, told.rising, told.first), is))
     (IsPage-parts c.calls_json.result Json text c.calls_json.ensures.found c.calls_json.ensures.content c.calls_json.ensures.text))
