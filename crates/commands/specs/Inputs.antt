@@ -1,15 +1,19 @@
 -- What a reading of settings from an input returns, and the exit status of each of its faults.
-use Rattle.std.specs.Prelude.{ℕ, ◌≡◌, ◌≤◌, ◌<◌, List, length, Some, IsUtf8}
+use Rattle.std.specs.Prelude.{ℕ, ◌≡◌, ◌≤◌, ◌<◌, ◌+◌, ◌==◌, List, length, map, take, Some, IsUtf8}
 use Rattle.std.specs.Prelude.{Result, Ok, Err}
+use Rattle.std.specs.List.{count_by}
+use Rattle.std.specs.Str.Lossy.{utf8_valid_len}
 use Rattle.settings.specs.declared.fault.SettingsFault.{SettingsFault}
 use Rattle.settings.specs.declared.fault.SettingsFault.TheVariants as settings
 use Rattle.settings.specs.Settings.{settings_of, IsAnswer}
 use Rattle.settings.specs.declared.settings.Settings.{Settings}
+use Rattle.settings.specs.Unknown.{paths_of, unknown_of}
 use Rattle.commands.specs.declared.settings_input.TheConstants.{MOST_READ}
 use Rattle.commands.specs.declared.settings_input.InputFault.{InputFault}
 use Rattle.commands.specs.declared.settings_input.InputFault.TheVariants.{Stream, TooLong}
 use Rattle.commands.specs.declared.settings_input.InputFault.TheVariants.{NotText, Refused}
 use Rattle.commands.specs.declared.settings_input.InputFault.TheVariants.{Memory}
+use Rattle.commands.specs.declared.settings_input.PassedOver.{PassedOver}
 use Rattle.commands.specs.declared.settings_input.ReadInput.{ReadInput}
 
 -- 1: the settings are refused; 3: no memory; 4: a read failed
@@ -39,15 +43,27 @@ IsTextRead text (Err (Refused fault)) = IsAnswer (settings_of text) (Err fault)
 IsTextRead text (Err Memory) = Unit {0}
 IsTextRead text (Err fault) = ⊥
 
+-- the line, from 1, in which the octet behind these stands
+abbrev pub line_behind : List ℕ → ℕ
+line_behind octets = count_by (λ octet. octet == 10) octets + 1
+
+-- the line of the first octet that belongs to no text: the one behind the longest front in UTF-8
+abbrev pub line_of_no_text : List ℕ → ℕ
+line_of_no_text octets = line_behind (take (utf8_valid_len octets) octets)
+
 -- the octets are no more than are read, are UTF-8, and give settings as a text; or else the fault
 -- says which of this fails
 abbrev pub IsInputRead : List ℕ → Result ReadInput InputFault → Type 0
 IsInputRead octets (Err TooLong) = MOST_READ < length octets
-IsInputRead octets (Err (NotText line)) = IsUtf8 octets → ⊥
+IsInputRead octets (Err (NotText line)) = (IsUtf8 octets → ⊥) × (line ≡ line_of_no_text octets)
 IsInputRead octets (Err Stream) = Unit {0}
 IsInputRead octets (Err Memory) = Unit {0}
 IsInputRead octets answer =
     (length octets ≤ MOST_READ) × IsUtf8 octets × IsTextRead octets answer
+
+-- exactly the keys of the text that aren't known are told, in order
+abbrev pub ArePassedOver : List ℕ → List PassedOver → Type 0
+ArePassedOver text told = Some (paths_of (map (λ passed. passed.key) told)) ≡ unknown_of text
 
 -- the octets are settings: no more than are read, UTF-8, and a text that gives settings
 pub record GivesSettings (octets : List ℕ) : Type 0 where

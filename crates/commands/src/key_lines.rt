@@ -1,5 +1,8 @@
 //! On which line of a TOML document a key stands: a hint to whoever looks for it.
 
+ghost use Rattle.std.specs.Prelude.{◌≡◌};
+ghost use Rattle.commands.specs.Inputs.{line_behind};
+
 /// The table that a line opens, if it is `[TABLE]` or `[[TABLE]]`.
 fn table_in(line: &str) -> Option<&str> {
     let inner = line.strip_prefix("[")?;
@@ -61,12 +64,8 @@ pub fn line_of(text: &str, path: &str, before: usize) -> Option<usize> {
 }
 
 /// The line, from 1, in which the octet behind these stands.
-pub fn line_behind(octets: &[u8]) -> usize {
-    let mut line = 1usize;
-    for octet in octets {
-        if *octet == b'\n' {
-            line = line.saturating_add(1);
-        }
-    }
-    line
+pub fn line_behind(octets: &[u8]) -> usize
+    ensures { result ≡ line_behind octets.now }
+{
+    octets.iter().filter(|octet| **octet == b'\n').count() + 1
 }

@@ -1,9 +1,9 @@
 //! Reading settings from an input.
 
-ghost use Rattle.std.specs.Prelude.{◌≡◌, ◌≤◌, length, IfErr, IfOk, IfSome};
+ghost use Rattle.std.specs.Prelude.{◌≡◌, ◌≤◌, length, map, IfErr, IfOk, IfSome};
 ghost use Rattle.settings.specs.Settings.{AreSettings};
-ghost use Rattle.commands.specs.Inputs.{input_status, IsReadFault, IsRefusal, IsInputRead};
-ghost use Rattle.commands.specs.Inputs.{IsTextRead};
+ghost use Rattle.commands.specs.Inputs.{ArePassedOver, input_status, IsReadFault, IsRefusal};
+ghost use Rattle.commands.specs.Inputs.{IsInputRead, IsTextRead};
 
 use crate::key_lines::{line_behind, line_of};
 use settings::{Settings, SettingsFault, UnknownKey, read_settings, unknown_keys};
@@ -118,7 +118,9 @@ fn passed_over(
     alloc: Global,
     text: &str,
     unknown: Vec<UnknownKey>,
-) -> Result<Vec<PassedOver>, AllocError> {
+) -> Result<Vec<PassedOver>, AllocError>
+    ensures { IfOk result (λ all. map (λ passed. passed.key) all.items ≡ unknown.items) }
+{
     let mut all = Vec::with_capacity(alloc, unknown.len())?;
     for key in unknown {
         let path = key.path.as_str();
@@ -132,6 +134,7 @@ fn passed_over(
 /// The settings of a text.
 fn read_text(alloc: Global, text: &str) -> Result<ReadInput, InputFault>
     ensures answer { IsTextRead text.now result }
+    ensures passed { IfOk result (λ read. ArePassedOver text.now read.passed_over.items) }
     ensures ranges { IfOk result (λ read. AreSettings read.settings) }
 {
     let settings = match read_settings(alloc, text) {
@@ -154,9 +157,12 @@ fn read_text(alloc: Global, text: &str) -> Result<ReadInput, InputFault>
 /// Reads settings from an input, which is read whole.
 ///
 /// promise settings-input-is-bounded: Octets are settings if and only if they are UTF-8, at most
-/// 1,048,576, and `read_settings` takes them.
+/// 1,048,576, and `read_settings` takes them; told are the keys that are passed over, and the line
+/// where UTF-8 ends.
 pub fn read_input<R: Read + Drop>(alloc: Global, input: R) -> Result<ReadInput, InputFault>
     ensures answer { IfSome (R.remaining input) (λ octets. IsInputRead octets result) }
+    ensures passed { IfSome (R.remaining input) (λ octets.
+        IfOk result (λ read. ArePassedOver octets read.passed_over.items)) }
     ensures ranges { IfOk result (λ read. AreSettings read.settings) }
 {
     match read_octets(alloc, input) {
