@@ -1,6 +1,7 @@
 pub mod Ends
 pub mod Faults
 pub mod Headline
+pub mod Orders
 pub mod Plans
 pub mod Rooms
 pub mod Sending

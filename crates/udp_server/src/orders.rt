@@ -1,6 +1,7 @@
 //! Pools that are to be replaced while a server runs.
 
-ghost use Rattle.std.specs.Prelude.{◌≤◌, ◌<◌, ◌+◌, OnSome, vec_capacity, vec_len};
+ghost use Rattle.std.specs.Prelude.{◌≡◌, ◌≤◌, ◌<◌, ◌+◌, OnSome, vec_capacity, vec_len};
+ghost use Rattle.udp_server.specs.Orders.{IsNextAt};
 
 use crate::gate::Gate;
 use crate::moments::Moments;
@@ -71,7 +72,9 @@ impl<P: Pool> Orders<P> {
 
     /// The next order, if its moment is reached. There is room for what comes back of it.
     fn next_at(&mut self, now: Moment) -> Option<PoolOrder<P>>
-        ensures { OnSome result (vec_len self.new.boxes + vec_len self.new.waiting
+        ensures next { IsNextAt now self.old.waiting.items result self.new.waiting.items }
+        ensures boxes { self.new.boxes ≡ self.old.boxes }
+        ensures room { OnSome result (vec_len self.new.boxes + vec_len self.new.waiting
             < vec_capacity self.new.boxes) }
     {
         let next = self.waiting.last()?;
