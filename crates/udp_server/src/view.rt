@@ -1,6 +1,8 @@
 //! A server that runs, as those who look at it see it.
 
-ghost use Rattle.std.specs.Prelude.{◌≡◌, All};
+ghost use Rattle.std.specs.Prelude.{◌≡◌, ◌<◌, All, [], vec_capacity, vec_len};
+ghost use Rattle.zone_lock.specs.Views.{AreCallsUnderLock, AreEndpointsUnderLock};
+ghost use Rattle.zone_lock.specs.Views.{IsCallUnderLock, IsEndpointUnderLock};
 
 use crate::board::Board;
 use crate::history::RunningHistory;
@@ -40,6 +42,7 @@ impl<P: Pool, D: Hall, T: Ledger, U: Ledger, V: Ledger, R: Wait> RunningHistory
 
 impl<P: Pool, D: Hall, T: Ledger, U: Ledger, V: Ledger, R: Wait> RunningZone
     for View<'_, P, D, T, U, V, R> {
+    ghost use Rattle.zone_lock.specs.Views.{AreCallsUnderLock, AreEndpointsUnderLock};
     ghost use Rattle.zone_lock.specs.Views.{AreFiguresUnderLock, IsCallUnderLock};
     ghost use Rattle.zone_lock.specs.Views.{IsEndpointUnderLock};
 
@@ -48,6 +51,11 @@ impl<P: Pool, D: Hall, T: Ledger, U: Ledger, V: Ledger, R: Wait> RunningZone
     ghost has_endpoint = { λ view row. IsEndpointUnderLock D.opened row };
 
     ghost has_call = { λ view row. IsCallUnderLock D.opened row };
+
+    ghost has_endpoints_below = { λ view place rows next.
+        AreEndpointsUnderLock D.opened place rows next };
+
+    ghost has_calls_below = { λ view place rows next. AreCallsUnderLock D.opened place rows next };
 
     fn figures(&self, pools: &mut Vec<Figures>) -> ZoneFigures {
         self.lock.figures(self.rt, pools)
@@ -61,11 +69,23 @@ impl<P: Pool, D: Hall, T: Ledger, U: Ledger, V: Ledger, R: Wait> RunningZone
         self.tallies.counts()
     }
 
-    fn endpoints_below(&self, place: usize, rows: &mut Vec<EndpointRow>) -> usize {
+    fn endpoints_below(&self, place: usize, rows: &mut Vec<EndpointRow>) -> usize
+        requires empty { rows.old.items ≡ [] }
+        ensures rows { All (IsEndpointUnderLock D.opened) rows.new.items }
+        ensures told { AreEndpointsUnderLock D.opened place rows.new.items result }
+        ensures full { 0 < result → vec_len rows.new ≡ vec_capacity rows.new }
+        ensures room { vec_capacity rows.new ≡ vec_capacity rows.old }
+    {
         self.lock.endpoints_below(self.rt, place, rows)
     }
 
-    fn calls_below(&self, place: usize, rows: &mut Vec<CallRow>) -> usize {
+    fn calls_below(&self, place: usize, rows: &mut Vec<CallRow>) -> usize
+        requires empty { rows.old.items ≡ [] }
+        ensures rows { All (IsCallUnderLock D.opened) rows.new.items }
+        ensures told { AreCallsUnderLock D.opened place rows.new.items result }
+        ensures full { 0 < result → vec_len rows.new ≡ vec_capacity rows.new }
+        ensures room { vec_capacity rows.new ≡ vec_capacity rows.old }
+    {
         self.lock.calls_below(self.rt, place, rows)
     }
 
