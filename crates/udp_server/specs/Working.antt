@@ -1,11 +1,12 @@
 -- What a worker does with an event: one step under the lock, and its reply to the sender.
-use Rattle.std.specs.Prelude.{◌≡◌, ◌++◌, ◌∷◌, ◌⊎◌, ℕ, List, [], Option, None, Some, take}
-use Rattle.std.specs.Prelude.{Ok, Err}
+use Rattle.std.specs.Prelude.{◌≡◌, ◌≤◌, ◌<◌, ◌++◌, ◌∷◌, ◌⊎◌, ◌↔◌, ℕ, List, [], Option, None}
+use Rattle.std.specs.Prelude.{Bool, Err, IsFalse, IsTrue, Ok, Some, false, take, true}
 use Rattle.ras_module.specs.declared.address.Address.{Address}
 use Rattle.zone_events.specs.declared.change.Change.TheVariants as change
 use Rattle.zone_events.specs.declared.event.Event.{Event}
 use Rattle.zone_events.specs.declared.event.Event.TheVariants as event
 use Rattle.zone_events.specs.declared.outcome.Datagram.{Datagram}
+use Rattle.zone_events.specs.declared.outcome.Note.TheVariants as note
 use Rattle.zone_events.specs.declared.outcome.Outcome.{Outcome}
 use Rattle.ras_machine.specs.State.{State}
 use Rattle.ras_core.specs.declared.fault.StepFault.TheVariants as step_fault
@@ -67,17 +68,20 @@ AreHandedOn [] old new = new ≡ old
 AreHandedOn (reply ∷ replies) old new =
     (mid : Standing) × IsHandedOn (Some reply) old mid × AreHandedOn replies mid new
 
--- One step was made under the lock, of which this is the entry. It stands at its place of the
+-- One step was made under the lock, of which this is the entry. It stands at this place of the
 -- history that is kept, or nothing of it is kept.
-abbrev pub IsStepOf : State → Entry → Type 0
-IsStepOf opened entry =
-    IsMadeUnderLock opened entry ⊎ ((place : ℕ) × IsStepUnderLock opened place entry)
+abbrev pub IsStepOf : State → Option ℕ → Entry → Type 0
+IsStepOf opened None entry = IsMadeUnderLock opened entry
+IsStepOf opened (Some place) entry = IsStepUnderLock opened place entry
 
 -- A worker served an event: it made one step of just that event, and handed on what is sent in it.
-pub record IsServedEvent (opened : State) (event : Event) (old new : Standing) : Type 0 where
+-- It tells the place of its entry, if that is kept, and whether nothing was due in the step.
+pub record IsServedEvent (opened : State) (event : Event) (place : Option ℕ) (is_idle : Bool)
+    (old new : Standing) : Type 0 where
   pub outcome : Outcome
-  pub step : IsStepOf opened
+  pub step : IsStepOf opened place
       (entry_by old.seat.number old.seat.calls (change.Event event) outcome)
+  pub idle : IsTrue is_idle ↔ (outcome.note ≡ note.Idle)
   pub handed_on : IsHandedOn outcome.output
       (record old { seat = seated_after old.seat (change.Event event) outcome }) new
 
@@ -88,9 +92,16 @@ IsRefusalCounted old new = new ≡ record old { refused = fault_count old.refuse
 -- What came of an event: it was served; or memory was wanting, and that is counted; or no step is
 -- made any more.
 abbrev pub CameOf : State → Event → StepResult → Standing → Standing → Type 0
-CameOf opened event (result.Made place is_idle) old new = IsServedEvent opened event old new
+CameOf opened event (result.Made place is_idle) old new =
+    IsServedEvent opened event place is_idle old new
 CameOf opened event result.Refused old new = IsRefusalCounted old new
 CameOf opened event result.Closed old new = (new ≡ old) × IsClosed opened
+
+-- whether a worker goes on after what came of an event: it ends only if no step is made any more
+abbrev pub goes_on_after : StepResult → Bool
+goes_on_after (result.Made place is_idle) = true
+goes_on_after result.Refused = true
+goes_on_after result.Closed = false
 
 -- the count of refused steps after turns that ended so: a want of memory is counted
 abbrev pub refused_after : TurnsEnd → ℕ → ℕ
@@ -117,13 +128,43 @@ CameOfTurns opened tells most why old new =
     AreTurnsServed opened tells most why old new
     ⊎ ((why ≡ turns_end.Refused step_fault.Memory) × IsRefusalCounted old new)
 
--- what a receive gave, with the octets of its datagram, if it gave one
-abbrev pub Gives : Type 1
-Gives = ReceiveResult → List ℕ → Type 0
-
 -- a clock told this moment when it was asked
 abbrev pub IsTold : {C : Type 0} → (C → ℕ → C → Type 0) → C → ℕ → Type 0
 IsTold {C} tells clock moment = (clock_then : C) × tells clock moment clock_then
+
+-- whether a worker goes on after turns that ended so: it ends only if no step is made any more
+abbrev pub goes_on_after_turns : TurnsEnd → Bool
+goes_on_after_turns turns_end.Idle = true
+goes_on_after_turns turns_end.More = true
+goes_on_after_turns (turns_end.Refused step_fault.Memory) = true
+goes_on_after_turns (turns_end.Refused step_fault.Closed) = false
+
+-- What a worker did last is turns, and it goes on or not as these ended.
+pub record AreLastTurns {C : Type 0} (opened : State) (tells : C → ℕ → C → Type 0) (most : ℕ)
+    (goes_on : Bool) (new : Standing) : Type 0 where
+  pub clock : C
+  pub old : Standing
+  pub why : TurnsEnd
+  pub came : CameOfTurns opened (IsTold tells clock) most why old new
+  pub end : goes_on ≡ goes_on_after_turns why
+
+-- What a worker did last is one turn at a moment that its clock told, and it goes on or not by what
+-- came of that. If there was no memory for a chapter that was due behind it, that is counted.
+pub record IsLastTurn {C : Type 0} (opened : State) (tells : C → ℕ → C → Type 0) (goes_on : Bool)
+    (new : Standing) : Type 0 where
+  pub clock : C
+  pub moment : ℕ
+  pub old : Standing
+  pub came : StepResult
+  pub then : Standing
+  pub told : IsTold tells clock moment
+  pub made : CameOf opened (event.Turn moment) came old then
+  pub chapter : (new ≡ then) ⊎ IsRefusalCounted then new
+  pub end : goes_on ≡ goes_on_after came
+
+-- what a receive gave, with the octets of its datagram, if it gave one
+abbrev pub Gives : Type 1
+Gives = ReceiveResult → List ℕ → Type 0
 
 -- The event of the datagram that the end gave: from its source, with as many octets as it told,
 -- which stand at the front of the buffer, at the moment that the worker's clock told.
@@ -144,54 +185,77 @@ pub record IsDatagramRefused (gives : Gives) (old new : Standing) : Type 0 where
   pub given : gives (Ok (received.Datagram source length)) octets
   pub counted : IsRefusalCounted old new
 
+-- How many receives have failed, as the end of a worker counts them, and how many in a row by now.
+pub record Failures : Type 0 where
+  pub all : ℕ
+  pub in_a_row : ℕ
+
+abbrev pub failures : ℕ → ℕ → Failures
+failures all in_a_row = record { all = all; in_a_row = in_a_row }
+
+-- the same after a receive that didn't fail: the row has ended
+abbrev pub without_row : Failures → Failures
+without_row before = record before { in_a_row = 0 }
+
+-- the same after a receive that failed
+abbrev pub with_failure : Failures → Failures
+with_failure before = record {
+  all = fault_count before.all;
+  in_a_row = fault_count before.in_a_row;
+}
+
 -- A receive failed. The worker counts that as its end does, and nothing else changes.
-pub record IsFaultCounted (gives : Gives) (failures failures_then : ℕ) (old new : Standing)
+pub record IsFaultCounted (gives : Gives) (before after : Failures) (old new : Standing)
     : Type 0 where
   pub fault : DeviceFault
   pub given : gives (Err fault) []
-  pub counted_by_end : failures_then ≡ fault_count failures
+  pub failed : after ≡ with_failure before
   pub counted : new ≡ record old { faults = fault_count old.faults }
 
 -- No step is to be made: nothing came for some time, and all is as it was; or there was no memory
--- for the datagram that came, or the receive failed, and that is counted.
-abbrev pub IsNothing : Gives → ℕ → ℕ → Standing → Standing → Type 0
-IsNothing gives failures failures_then old new =
-    ((failures_then ≡ failures) × (new ≡ old) × gives (Ok received.Quiet) [])
-    ⊎ ((failures_then ≡ failures) × IsDatagramRefused gives old new)
-    ⊎ IsFaultCounted gives failures failures_then old new
+-- for the datagram that came, and that is counted; or the receive failed, and that is counted, but
+-- not as many have failed in a row as are allowed to.
+abbrev pub IsNothing : Gives → ℕ → Failures → Failures → Standing → Standing → Type 0
+IsNothing gives most before after old new =
+    ((after ≡ without_row before) × (new ≡ old) × gives (Ok received.Quiet) [])
+    ⊎ ((after ≡ without_row before) × IsDatagramRefused gives old new)
+    ⊎ ((after.in_a_row < most) × IsFaultCounted gives before after old new)
 
 -- Nothing more is received: the end has stopped, and all is as it was; or the receive failed, and
--- that is counted.
-abbrev pub IsEnd : Gives → ℕ → ℕ → Standing → Standing → Type 0
-IsEnd gives failures failures_then old new =
-    ((failures_then ≡ failures) × (new ≡ old) × gives (Ok received.Stopped) [])
-    ⊎ IsFaultCounted gives failures failures_then old new
+-- that is counted, and as many have failed in a row as are allowed to.
+abbrev pub IsEnd : Gives → ℕ → Failures → Failures → Standing → Standing → Type 0
+IsEnd gives most before after old new =
+    ((after ≡ before) × (new ≡ old) × gives (Ok received.Stopped) [])
+    ⊎ ((most ≤ after.in_a_row) × IsFaultCounted gives before after old new)
 
--- What a receive came to: a datagram, of which a step is to be made; or nothing; or that nothing
--- more comes. The end has counted so many failures before and after it.
-abbrev pub IsReceived : Gives → (ℕ → Type 0) → List ℕ → ℕ → ℕ → Next → Standing → Standing
-    → Type 0
-IsReceived gives tells buffer failures failures_then (next.Event what) old new =
-    (failures_then ≡ failures) × (new ≡ old) × IsReceivedIn gives tells buffer what
-IsReceived gives tells buffer failures failures_then next.Nothing old new =
-    IsNothing gives failures failures_then old new
-IsReceived gives tells buffer failures failures_then next.End old new =
-    IsEnd gives failures failures_then old new
+-- What a receive came to, if so many may fail in a row: a datagram, of which a step is to be made;
+-- or nothing; or that nothing more comes.
+abbrev pub IsReceived : Gives → (ℕ → Type 0) → List ℕ → ℕ → Failures → Failures → Next → Standing
+    → Standing → Type 0
+IsReceived gives tells buffer most before after (next.Event what) old new =
+    (after ≡ without_row before) × (new ≡ old) × IsReceivedIn gives tells buffer what
+IsReceived gives tells buffer most before after next.Nothing old new =
+    IsNothing gives most before after old new
+IsReceived gives tells buffer most before after next.End old new =
+    IsEnd gives most before after old new
 
 -- A datagram was received, and something came of its event.
 pub record IsDatagramServed (opened : State) (gives : Gives) (tells : ℕ → Type 0)
-    (buffer : List ℕ) (failures failures_then : ℕ) (old new : Standing) : Type 0 where
+    (buffer : List ℕ) (before after : Failures) (goes_on : Bool) (old new : Standing)
+    : Type 0 where
   pub what : Event
   pub came : StepResult
-  pub no_failure : failures_then ≡ failures
+  pub no_failure : after ≡ without_row before
   pub datagram : IsReceivedIn gives tells buffer what
   pub served : CameOf opened what came old new
+  pub end : goes_on ≡ goes_on_after came
 
 -- What a worker does in one turn of its loop: one receive, and what comes of that. No step was to
--- be made, or nothing more is received; or a datagram came, and something came of its event.
-abbrev pub IsTurnOfLoop : State → Gives → (ℕ → Type 0) → List ℕ → ℕ → ℕ → Standing → Standing
-    → Type 0
-IsTurnOfLoop opened gives tells buffer failures failures_then old new =
-    IsNothing gives failures failures_then old new
-    ⊎ IsEnd gives failures failures_then old new
-    ⊎ IsDatagramServed opened gives tells buffer failures failures_then old new
+-- be made, and it goes on; or nothing more is received, and it doesn't; or a datagram came, and
+-- something came of its event.
+abbrev pub IsTurnOfLoop : State → Gives → (ℕ → Type 0) → List ℕ → ℕ → Failures → Failures → Bool
+    → Standing → Standing → Type 0
+IsTurnOfLoop opened gives tells buffer most before after goes_on old new =
+    (IsTrue goes_on × IsNothing gives most before after old new)
+    ⊎ (IsFalse goes_on × IsEnd gives most before after old new)
+    ⊎ IsDatagramServed opened gives tells buffer before after goes_on old new

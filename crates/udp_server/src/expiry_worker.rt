@@ -2,6 +2,7 @@
 
 ghost use Rattle.std.specs.Prelude.{IsFalse};
 ghost use Rattle.zone_lock.specs.Held.{IsClosed};
+ghost use Rattle.udp_server.specs.Working.{AreLastTurns, IsLastTurn, standing};
 
 use crate::chapters::Chapters;
 use crate::gate::Gate;
@@ -88,7 +89,9 @@ fn goes_on_unrecorded<
     worker: &mut Worker<D, T, U, V, C>,
     replies: &mut Vec<Datagram>,
 ) -> bool
-    ensures { IsFalse result → IsClosed D.opened }
+    ensures closed { IsFalse result → IsClosed D.opened }
+    ensures last { AreLastTurns D.opened C.tells 50 result
+        (standing worker.new.seat worker.new.outlet worker.new.counts) }
 {
     for _ in 0..MOST_HOLDS {
         match worker.turns(shared, replies) {
@@ -116,7 +119,9 @@ fn goes_on_recorded<
     worker: &mut Worker<D, T, U, V, C>,
     chapters: &mut Chapters,
 ) -> bool
-    ensures { IsFalse result → IsClosed D.opened }
+    ensures closed { IsFalse result → IsClosed D.opened }
+    ensures last { IsLastTurn D.opened C.tells result
+        (standing worker.new.seat worker.new.outlet worker.new.counts) }
 {
     for _ in 0..MOST_TURNS {
         let moment = worker.clock.now();

@@ -1,7 +1,7 @@
 //! The workers that receive datagrams.
 
 ghost use Rattle.std.specs.Prelude.{◌≡◌, IfOk};
-ghost use Rattle.udp_server.specs.Working.{IsReceived, IsTold, IsTurnOfLoop, standing};
+ghost use Rattle.udp_server.specs.Working.{IsReceived, IsTold, IsTurnOfLoop, failures, standing};
 
 use crate::datagrams::{Datagrams, DeviceFault, MOST_RECEIVED, Received};
 use crate::gate::Gate;
@@ -78,8 +78,9 @@ pub(crate) fn work<
 /// Waits for a datagram, and makes a step of it, if one comes. Whether the worker goes on.
 ///
 /// promise worker-serves-what-came: Each turn of a worker makes at most one step, of just the
-/// datagram that came; its reply goes into the ring, or is dropped and counted (`IsTurnOfLoop`,
-/// `CameOf`, `IsHandedOn`).
+/// datagram that came; its reply goes into the ring, or is dropped and counted. A worker ends only
+/// if its end has stopped, if as many receives in a row have failed as the plan says, or if no step
+/// is made any more (`IsTurnOfLoop`, `IsEnd`, `CameOf`, `IsHandedOn`).
 fn serve_next<
     P: Pool,
     D: Hall,
@@ -97,8 +98,9 @@ fn serve_next<
 ) -> bool
     ensures { IsTurnOfLoop D.opened
         (λ given octets. N.receives receiver.old.end given octets receiver.new.end)
-        (IsTold C.tells worker.old.clock) receiver.new.buffer
-        (N.faults receiver.old.end) (N.faults receiver.new.end)
+        (IsTold C.tells worker.old.clock) receiver.new.buffer shared.now.plan.faults
+        (failures (N.faults receiver.old.end) receiver.old.failed_in_a_row)
+        (failures (N.faults receiver.new.end) receiver.new.failed_in_a_row) result
         (standing worker.old.seat worker.old.outlet worker.old.counts)
         (standing worker.new.seat worker.new.outlet worker.new.counts) }
 {
@@ -157,8 +159,9 @@ fn serve_next_recorded<
 ) -> bool
     ensures { IsTurnOfLoop D.opened
         (λ given octets. N.receives receiver.old.end given octets receiver.new.end)
-        (IsTold C.tells worker.old.clock) receiver.new.buffer
-        (N.faults receiver.old.end) (N.faults receiver.new.end)
+        (IsTold C.tells worker.old.clock) receiver.new.buffer shared.now.plan.faults
+        (failures (N.faults receiver.old.end) receiver.old.failed_in_a_row)
+        (failures (N.faults receiver.new.end) receiver.new.failed_in_a_row) result
         (standing worker.old.seat worker.old.outlet worker.old.counts)
         (standing worker.new.seat worker.new.outlet worker.new.counts) }
 {
@@ -189,8 +192,9 @@ fn receive_next<
 ) -> Next
     ensures { IsReceived
         (λ given octets. N.receives receiver.old.end given octets receiver.new.end)
-        (IsTold C.tells worker.old.clock) receiver.new.buffer
-        (N.faults receiver.old.end) (N.faults receiver.new.end) result
+        (IsTold C.tells worker.old.clock) receiver.new.buffer shared.now.plan.faults
+        (failures (N.faults receiver.old.end) receiver.old.failed_in_a_row)
+        (failures (N.faults receiver.new.end) receiver.new.failed_in_a_row) result
         (standing worker.old.seat worker.old.outlet worker.old.counts)
         (standing worker.new.seat worker.new.outlet worker.new.counts) }
 {

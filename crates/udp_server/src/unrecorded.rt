@@ -7,12 +7,12 @@ ghost use Rattle.udp_server.specs.Working.{refused_after, standing};
 
 use crate::gate::{Gate, Stage};
 use crate::moments::Moments;
-use crate::worker::{Counts, Shared, StepResult, Worker, first_octet};
+use crate::worker::{Counts, Shared, StepResult, Worker, first_octet, was_idle};
 use pools::Pool;
 use ras_core::{Event, StepFault, prepare};
 use std::sync::Wait;
 use std::sync::ledger::Ledger;
-use zone_events::{Datagram, Note};
+use zone_events::Datagram;
 use zone_lock::{Hall, TurnsEnd};
 
 /// How many turns are made at most before the lock is free again: a request waits for them.
@@ -61,18 +61,14 @@ impl<D: Hall, T: Ledger, U: Ledger, V: Ledger, C: Moments> Worker<D, T, U, V, C>
         }
         shared.gate.pass(self.number, Stage::AfterApply);
         shared.count_step(self.number, first, &self.outcome);
+        let is_idle = was_idle(&self.outcome);
         let reply = self.take_reply();
         self.hand_on(shared, reply);
         shared.gate.pass(self.number, Stage::AfterPost);
         StepResult::Made {
             place: None,
-            is_idle: self.was_idle(),
+            is_idle,
         }
-    }
-
-    /// Whether nothing was due in the last step.
-    fn was_idle(&self) -> bool {
-        matches!(self.outcome.note, Note::Idle)
     }
 
     /// Takes what is sent out of the outcome of the last step. Its octets aren't copied.

@@ -1,6 +1,7 @@
 //! One who makes steps of the zone, and hands the replies to the sender.
 
-ghost use Rattle.std.specs.Prelude.{◌≡◌, ◌<◌, ◌+◌, min, IfOk, Some, vec_capacity, vec_len};
+ghost use Rattle.std.specs.Prelude.{◌≡◌, ◌<◌, ◌+◌, ◌↔◌, min, IfOk, IsTrue, Some};
+ghost use Rattle.std.specs.Prelude.{vec_capacity, vec_len};
 ghost use Rattle.std.specs.Option.{ForSome};
 ghost use Rattle.ras_machine.specs.Steps.{HasFewOctets};
 ghost use Rattle.udp_server.specs.Ends.{fault_count, most_count};
@@ -225,7 +226,7 @@ impl<D: Hall, T: Ledger, U: Ledger, V: Ledger, C: Moments> Worker<D, T, U, V, C>
         shared.gate.pass(self.number, Stage::AfterApply);
         shared.count_step(self.number, first, &receipt.outcome);
         let place = receipt.place;
-        let is_idle = matches!(receipt.outcome.note, Note::Idle);
+        let is_idle = was_idle(&receipt.outcome);
         let reply = self.reply_of(receipt, buffer);
         self.hand_on(shared, reply);
         shared.gate.pass(self.number, Stage::AfterPost);
@@ -360,6 +361,13 @@ impl<D: Hall, T: Ledger, U: Ledger, V: Ledger, C: Moments> Worker<D, T, U, V, C>
             counts,
         }
     }
+}
+
+/// Whether nothing was due in a step.
+pub(crate) fn was_idle(outcome: &Outcome) -> bool
+    ensures { IsTrue result ↔ (outcome.now.note ≡ Note.Idle) }
+{
+    matches!(outcome.note, Note::Idle)
 }
 
 /// What is sent by a step.

@@ -1,4 +1,4 @@
-use Rattle.std.proofs.Common.{◌∙◌, ap, inr, subst}
+use Rattle.std.proofs.Common.{◌∙◌, ap, subst}
 use Rattle.std.specs.Prelude.{Option}
 use Rattle.zone_events.specs.declared.change.Change.TheVariants as change
 use Rattle.zone_events.specs.declared.outcome.Datagram.{Datagram}
@@ -23,7 +23,8 @@ returns g c =
     old.counts in
     record {
       outcome = outcome;
-      step = inr (c.in-Ok.receipt.place, c.in-Ok.ensures.step);
+      step = c.in-Ok.ensures.step;
+      idle = c.was_idle-is_idle.ensures;
       handed_on = subst (λ (o : Option Datagram). IsHandedOn o made then)
           c.reply_of-reply.ensures.output
           (subst (λ (b : Standing). IsHandedOn c.reply_of-reply.result b then)

@@ -1,5 +1,5 @@
-use Rattle.std.proofs.Common.{◌∙◌, ap, inl, subst}
-use Rattle.std.specs.Prelude.{Option}
+use Rattle.std.proofs.Common.{◌∙◌, ap, subst}
+use Rattle.std.specs.Prelude.{None, Option}
 use Rattle.zone_events.specs.declared.change.Change.TheVariants as change
 use Rattle.zone_events.specs.declared.event.Event.{Event}
 use Rattle.zone_events.specs.declared.outcome.Datagram.{Datagram}
@@ -17,9 +17,11 @@ returns g c =
     let then = standing new.seat new.outlet new.counts in
     let made = standing (seated_after old.seat (change.Event prepared) outcome) old.outlet
     old.counts in
-    subst (λ (e : Event). IsServedEvent g.D.Hall.opened e before then) c.in-Ok.ensures (record {
+    let is_idle = c.was_idle-is_idle.result in
+    subst (λ (e : Event). IsServedEvent g.D.Hall.opened e None is_idle before then) c.in-Ok.ensures (record {
       outcome = outcome;
-      step = inl c.in-Ok-step.ensures.step;
+      step = c.in-Ok-step.ensures.step;
+      idle = c.was_idle-is_idle.ensures;
       handed_on = subst (λ (o : Option Datagram). IsHandedOn o made then)
           c.take_reply-reply.ensures.output
           (subst (λ (b : Standing). IsHandedOn c.take_reply-reply.result b then)
