@@ -71,7 +71,8 @@ def around(folder, file, old):
     kind, trait = "", ""
     if last.startswith("impl"):
         head = re.sub(r"<[^<>]*>", "", re.sub(r"<[^<>]*>", "", last[len("impl") :]))
-        words = head.strip().split(" for ")
+        # (what an impl is of may stand on a line of its own)
+        words = " ".join(head.split()).split(" for ")
         kind = words[-1].split()[0].split("::")[-1]
         trait = words[0].split("::")[-1] if len(words) > 1 else ""
     return module_of(file), kind, trait, name[-1]
