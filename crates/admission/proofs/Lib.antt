@@ -5,3 +5,4 @@ pub mod Soundness
 pub mod Deciding
 pub mod KeptSums
 pub mod CountedCalls
+pub mod Numbered

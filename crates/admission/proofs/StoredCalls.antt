@@ -23,10 +23,10 @@ use Rattle.ras_module.proofs.CallKeyOrder.{call_key_cmp_total, call_key_cmp-IsAn
 use Rattle.admission.specs.declared.table.TheConstants.Calls as calls_table
 use Rattle.admission.specs.declared.call.Call.{Call}
 use Rattle.admission.specs.Calls.{OpenCalls, CallTable, EachCall, units_from, has_leg, legs_in}
-use Rattle.admission.specs.Calls.{leg_at, IsInNoCall, IsCall, IsConsistent, Becomes, Adds}
-use Rattle.admission.specs.Calls.{open_calls_of}
+use Rattle.admission.specs.Calls.{leg_at, IsInNoCall, IsCall, IsConsistent, AreNumbered, Becomes}
+use Rattle.admission.specs.Calls.{Adds, key_of, open_calls_of}
 use Rattle.admission.specs.Legs.{leg_of}
-use Rattle.admission.specs.inside.Stored.{AreStored, Rewrites, key_of}
+use Rattle.admission.specs.inside.Stored.{AreStored, Rewrites}
 use Rattle.keyed.proofs.Entries.{value_of, entries_again, AreApart-entries, get_entries}
 use Rattle.keyed.proofs.Entries.{len_entries, total_entries, entries_insert, entries_remove}
 
@@ -137,7 +137,12 @@ shorter_by_one (Some x) n m y e is = e
 
 -- the value of a table by what is stored
 abbrev pub table_of : {S : Type 0} → IndexMap CallKey Call S → ℕ → CallTable
-table_of calls most = record { calls = open_of calls; most = most; room = spare calls }
+table_of calls most = record {
+  calls = open_of calls;
+  most = most;
+  room = spare calls;
+  order = calls.entries;
+}
 
 pub IsConsistent-stored : {S : Type 0} (calls : IndexMap CallKey Call S) (most : ℕ) (t : CallTable)
     → AreStored calls most → table_of calls most ≡ t → IsConsistent t
@@ -151,6 +156,11 @@ IsConsistent-stored calls most t s view = subst IsConsistent view (record {
   );
   most = s.most_few;
 })
+
+pub AreNumbered-stored : {S : Type 0} (calls : IndexMap CallKey Call S) (most : ℕ) (t : CallTable)
+    → AreStored calls most → table_of calls most ≡ t → AreNumbered t
+AreNumbered-stored calls most t s view =
+    subst AreNumbered view (record { all = refl; once = s.apart })
 
 -- the calls after a change of one that is stored
 module _ {S : Type 0} (old new : IndexMap CallKey Call S) (key : CallKey) where

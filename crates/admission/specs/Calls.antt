@@ -5,6 +5,7 @@ use Rattle.std.specs.Cmp.Lexicographic.{pointwise}
 use Rattle.std.specs.Ordering.{on, eq_of_both}
 use Rattle.std.specs.FinMap.{FinMap, get, insert, remove, len, from_entries}
 use Rattle.keyed.specs.Maps.{total}
+use Rattle.keyed.specs.Places.{AreApart, row_in}
 use Rattle.ras_module.specs.CallKeys.{call_key_cmp}
 use Rattle.ras_module.specs.declared.call_key.CallKey.{CallKey}
 use Rattle.admission.specs.declared.call.Call.{Call}
@@ -16,12 +17,16 @@ use Rattle.admission.specs.Legs.{AreLegs, leg_of, same_leg, without_leg}
 abbrev pub OpenCalls : Type 0
 OpenCalls = FinMap call_key_cmp Call
 
--- the calls, the most that there may be, and how many more can be opened so that no memory is taken
--- for them
+-- the calls, the most that there may be, how many more can be opened so that no memory is taken for
+-- them, and the order in which they are numbered
 pub record CallTable : Type 0 where
   pub calls : OpenCalls
   pub most : ℕ
   pub room : ℕ
+  pub order : List (CallKey × Call)
+
+abbrev pub key_of : CallKey × Call → CallKey
+key_of entry = entry.0
 
 abbrev pub open_calls_of : List (CallKey × Call) → OpenCalls
 open_calls_of entries = from_entries entries
@@ -133,10 +138,16 @@ pub record IsConsistent (t : CallTable) : Type 0 where
   pub few : len t.calls ≤ t.most
   pub most : t.most ≤ calls_table.MOST
 
--- the table has the same calls, and no less room
+-- all calls are numbered, each once
+pub record AreNumbered (t : CallTable) : Type 0 where
+  pub all : open_calls_of t.order ≡ t.calls
+  pub once : AreApart key_of (row_in t.order)
+
+-- the table has the same calls, in the same order, and no less room
 pub record Stays (old new : CallTable) : Type 0 where
   pub rows : new.calls ≡ old.calls
   pub most : new.most ≡ old.most
+  pub order : new.order ≡ old.order
   pub room : old.room ≤ new.room
 
 -- after a change that takes no memory and no room, the table has these

@@ -6,8 +6,7 @@ ghost use Rattle.keyed.specs.Places.{AreApart, row_in};
 ghost use Rattle.std.proofs.Common.{rules};
 ghost use Rattle.std.specs.Cmp.Lexicographic.{pointwise};
 ghost use Rattle.std.specs.Cmp.Rules.{comparing};
-ghost use Rattle.admission.specs.Calls.{open_calls_of, same_entry};
-ghost use Rattle.admission.specs.inside.Stored.{key_of};
+ghost use Rattle.admission.specs.Calls.{key_of, open_calls_of, same_entry};
 
 use crate::call::Call;
 use indexmap::IndexMap;

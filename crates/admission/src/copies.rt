@@ -4,7 +4,7 @@ ghost use Rattle.std.specs.Prelude.{◌≡◌, IfOk, OnOk};
 ghost use Rattle.keyed.specs.Places.{AreApart, row_in};
 ghost use Rattle.indexmap.specs.IndexMap.{insert_entry};
 ghost use Rattle.ras_module.specs.CallKeys.{same_call_key};
-ghost use Rattle.admission.specs.inside.Stored.{key_of};
+ghost use Rattle.admission.specs.Calls.{key_of};
 
 use crate::call::Call;
 use indexmap::IndexMap;

@@ -3,15 +3,15 @@
 ghost use Rattle.std.specs.Prelude.{All};
 ghost use Rattle.std.specs.Prelude.{◌≡◌, ◌≢◌, ◌<◌, ◌≤◌, ◌+◌, ◌^◌, ◌↔◌, length, None, Err, IsOk};
 ghost use Rattle.std.specs.Prelude.{IfSome, IsSome, IsTrue, IfOk, OnOk, OnErr, IsOkUnless};
-ghost use Rattle.std.specs.Prelude.{MatchOption, Some};
-ghost use Rattle.std.specs.Option.{option_copied};
+ghost use Rattle.std.specs.Prelude.{MatchOption, Some, slice_get};
+ghost use Rattle.std.specs.Option.{option_copied, option_map};
 ghost use Rattle.std.specs.FinMap as map;
 ghost use Rattle.keyed.specs.Maps.{update};
 ghost use Rattle.ras_module.specs.CallKeys.{same_call_key};
 ghost use Rattle.indexmap.specs.IndexMap.{get};
 ghost use Rattle.admission.specs.Calls.{in_use, in_use_of, legs_in, leg_at, legs_of, new_call};
-ghost use Rattle.admission.specs.Calls.{with_leg, with_units, after_leave, freed_by_leave};
-ghost use Rattle.admission.specs.Calls.{IsInNoCall, IsConsistent, Stays, Becomes, Adds};
+ghost use Rattle.admission.specs.Calls.{Adds, with_leg, with_units, after_leave, freed_by_leave};
+ghost use Rattle.admission.specs.Calls.{AreNumbered, IsInNoCall, IsConsistent, Stays, Becomes};
 ghost use Rattle.admission.specs.Legs.{leg_of, without_leg, has_other};
 ghost use Rattle.admission.specs.inside.Stored.{IsIn, Rewrites, with_legs_but};
 
@@ -75,6 +75,7 @@ impl Model for Calls {
       calls = open_calls_of t.calls.entries;
       most = t.most;
       room = spare t.calls;
+      order = t.calls.entries;
     } };
 
     ghost invariant = { λ t. AreCounted t.calls t.most t.in_use };
@@ -100,10 +101,11 @@ impl Calls {
         }
     }
 
-    /// A table of copies of these calls.
+    /// A table of copies of these calls, in the same order.
     pub fn copy(&self) -> Result<Self, AllocError>
         ensures calls { IfOk result (λ copy. copy.calls ≡ self.now.calls) }
         ensures most { IfOk result (λ copy. copy.most ≡ self.now.most) }
+        ensures order { IfOk result (λ copy. copy.order ≡ self.now.order) }
     {
         let calls = copies_of(*self.calls.allocator(), &self.calls)?;
         Ok(Calls {
@@ -139,9 +141,13 @@ impl Calls {
     }
 
     /// How many calls are open.
+    ///
+    /// promise calls-are-numbered: Each call has one number below `len`, by which `nth` returns it
+    /// with its key (`AreNumbered`).
     pub fn len(&self) -> usize
         ensures len { result ≡ map.len self.now.calls }
         ensures sound { IsConsistent self.now }
+        ensures numbered { AreNumbered self.now }
     {
         self.calls.len()
     }
@@ -157,6 +163,7 @@ impl Calls {
     /// The call with this number, and its key. The numbers below `len` have one each, and each call
     /// has one number, as long as the table isn't changed.
     pub fn nth(&self, i: usize) -> Option<(&CallKey, &Call)>
+        ensures nth { option_map (λ it. (it.0.now, it.1.now)) result ≡ slice_get self.now.order i }
         ensures some { IsSome result ↔ (i < map.len self.now.calls) }
         ensures call { IfSome result (λ it. map.get self.now.calls it.0.now ≡ Some it.1.now) }
         ensures sound { IsConsistent self.now }
@@ -227,6 +234,7 @@ impl Calls {
     pub fn reserve(&mut self, more: usize) -> Result<(), AllocError>
         ensures calls { self.new.calls ≡ self.old.calls }
         ensures most { self.new.most ≡ self.old.most }
+        ensures order { self.new.order ≡ self.old.order }
         ensures sound { IsConsistent self.new }
         ensures ok { OnOk result (more ≤ self.new.room) }
         ensures room { self.old.room ≤ self.new.room }

@@ -1,5 +1,6 @@
 -- What a check of settings returns and writes.
-use Rattle.std.specs.Prelude.{ℕ, ◌≡◌, ◌++◌, List, Option, Some, IfSome, Result, Ok, Err, IsTrue, codes}
+use Rattle.std.specs.Prelude.{ℕ, ◌≡◌, ◌++◌, List, Option, Some, IfSome, Result, Ok, Err, IsTrue}
+use Rattle.std.specs.Prelude.{codes}
 use Rattle.std.specs.Io.KnownBytes.{Appends}
 use Rattle.script.specs.Streams.{OutputState}
 use Rattle.settings.specs.Listing.{settings_listing}

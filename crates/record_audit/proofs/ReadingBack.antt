@@ -21,7 +21,7 @@ use Rattle.hex.specs.Hex.{IsBytes, encode_upper, is_hex_digit}
 use Rattle.hex.proofs.HexLemmas.{decode_of-encode_upper, decode_of-ok}
 use Rattle.std.specs.Result.{result_ok}
 use Rattle.ras_writing.specs.Properties.{IsAddress}
-use Rattle.record_audit.specs.Written.{IsEvent, IsReadBack, datagram_text, turn_text}
+use Rattle.record_audit.specs.Written.{IsEvent, IsEventReadBack, datagram_text, turn_text}
 use Rattle.script.specs.Fields.{octets_of}
 use Rattle.script.specs.Prints.{address_text}
 use Rattle.script.specs.Words.{words_of}
@@ -387,7 +387,7 @@ turn_back moment small =
     ∙ (λ i. turn_from (number_back moment (omega arith) 0 (2 ^ 53 - 1) (omega arith)
     (omega arith) i))
 
-pub read_back : (event : Event) → IsEvent event → IsReadBack event
+pub read_back : (event : Event) → IsEvent event → IsEventReadBack event
 read_back (Datagram source bytes moment) h = record {
   line = refl;
   back = datagram_back source bytes moment h.0 h.1 h.2;

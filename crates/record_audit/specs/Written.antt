@@ -30,6 +30,6 @@ IsEvent (Datagram source bytes moment) = IsAddress source × IsBytes bytes × (m
 IsEvent (Turn moment) = moment < 2 ^ 53
 
 -- its line is this text, and reading the text gives the event again
-pub record IsReadBack (event : Event) : Type 0 where
+pub record IsEventReadBack (event : Event) : Type 0 where
   pub line : event_line (script.Event event) ≡ event_text event ++ codes "\n"
   pub back : line_of (event_text event) ≡ Some (At (script.Event event))

@@ -31,7 +31,7 @@ use Rattle.recording.proofs.FourNumbers.{address_is_told}
 use Rattle.recording.proofs.LineWords.{number_back}
 use Rattle.recording.proofs.NameTexts.{name_is_told}
 use Rattle.record_laws.specs.Outcomes.{IsAnswer, IsBirth, IsItem, IsNote, IsOutcome, IsOutput}
-use Rattle.record_laws.specs.Outcomes.{IsReadBack, outcome_text, shown}
+use Rattle.record_laws.specs.Outcomes.{IsOutcomeReadBack, outcome_text, shown}
 use Rattle.record_laws.proofs.OutcomeWords.{answer_words, dropped_words, left_words, line_is}
 use Rattle.record_laws.proofs.OutcomeWords.{item_words, line_words, note_words, output_words}
 
@@ -229,7 +229,7 @@ pub outcome_flat : (number : ℕ) (outcome : Outcome)
 outcome_flat number outcome = refl
 
 pub read_back : (number : ℕ) (outcome : Outcome) → number < 2 ^ 64 → IsOutcome outcome
-    → IsReadBack number outcome
+    → IsOutcomeReadBack number outcome
 unfolding shown_of
 read_back number outcome small h =
     let is = line_is number outcome small h in

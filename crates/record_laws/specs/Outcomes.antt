@@ -74,7 +74,7 @@ abbrev pub shown : ℕ → Outcome → ShownOutcome
 shown number outcome = record { number = number; outcome = record outcome { given = None } }
 
 -- its line is this text, in which no line ends, and reading the text gives the outcome again
-pub record IsReadBack (number : ℕ) (outcome : Outcome) : Type 0 where
+pub record IsOutcomeReadBack (number : ℕ) (outcome : Outcome) : Type 0 where
   pub line : outcome_line number outcome ≡ outcome_text number outcome ++ codes "\n"
   pub no_end : AllByRecursion (λ c. (c == 10) ≡ false) (outcome_text number outcome)
   pub back : shown_of (outcome_text number outcome) ≡ Some (shown number outcome)

@@ -5,17 +5,17 @@ ghost use Rattle.ras_machine.specs.State.{State};
 ghost use Rattle.zone_events.specs.declared.event.Event.{Event};
 ghost use Rattle.zone_events.specs.declared.outcome.Outcome.{Outcome};
 ghost use Rattle.recording.specs.Zones.{ZoneParts};
-ghost use Rattle.record_laws.specs.Outcomes.{IsOutcome, IsReadBack};
+ghost use Rattle.record_laws.specs.Outcomes.{IsOutcome, IsOutcomeReadBack};
 ghost use Rattle.record_laws.specs.WholeRecords.{IsFoundAgain, IsToldZone, ToldRun, opened};
 
 /// The line that is written of an outcome gives the outcome again when it is read, but for an
 /// identifier that was handed out: the reply tells that one.
 ///
 /// promise written-outcomes-are-read-again: An outcome's line, read again, is that outcome, but for
-/// an identifier handed out, if what it names is one word (`IsReadBack`).
+/// an identifier handed out, if what it names is one word (`IsOutcomeReadBack`).
 pub fn written_outcomes_are_read_again()
     ensures { (number : ℕ) (outcome : Outcome) → number < 2 ^ 64 → IsOutcome outcome
-        → IsReadBack number outcome }
+        → IsOutcomeReadBack number outcome }
 {}
 
 /// The record of a fresh zone and of events that are a run of it is a record of that run: an audit

@@ -7,11 +7,8 @@ use Rattle.ras_module.specs.CallKeys.{same_call_key}
 use Rattle.ras_module.specs.declared.call_key.CallKey.{CallKey}
 use Rattle.admission.specs.declared.call.Call.{Call}
 use Rattle.admission.specs.declared.table.TheConstants.Calls as calls_table
-use Rattle.admission.specs.Calls.{EachCall, IsCall, OpenCalls, open_calls_of}
+use Rattle.admission.specs.Calls.{EachCall, IsCall, OpenCalls, key_of, open_calls_of}
 use Rattle.admission.specs.Legs.{without_leg}
-
-abbrev pub key_of : CallKey × Call → CallKey
-key_of e = e.0
 
 abbrev pub call_of : CallKey × Call → Call
 call_of e = e.1
