@@ -2,7 +2,7 @@
 use Rattle.std.specs.Prelude.{◌≡◌, ◌≤◌, ◌+◌, ℕ, List, [], ◌∷◌, All, Option, None, Some, length}
 use Rattle.std.specs.Prelude.{drop, map, min, reverse, take}
 use Rattle.std.specs.FinMap as fin
-use Rattle.admission.specs.Calls.{in_use, legs_of}
+use Rattle.admission.specs.Calls.{AreNumbered, CallTable, in_use, legs_of}
 use Rattle.admission.specs.declared.call.Call.{Call}
 use Rattle.admission.specs.declared.leg.Leg.{Leg}
 use Rattle.pools.specs.declared.interface.Figures.{Figures}
@@ -53,14 +53,18 @@ abbrev pub row_in : Tables → Registration → EndpointRow
 row_in tables registration =
     endpoint_row registration (legs_of tables.calls registration.identifier)
 
--- The rows of the endpoints with numbers below this place, from the highest one down to that of the
--- next place, below which the others stand. The table numbers each endpoint once.
-pub record AreRowsBelow (tables : Tables) (place : ℕ) (rows : List EndpointRow) (next : ℕ) : Type 0
-  where
-    pub table : Registry
-    pub live : table.live ≡ tables.live
-    pub numbered : IsNumbered table
-    pub rows_are : rows ≡ reverse (map (row_in tables) (drop next (take place table.order)))
+-- the rows of what has numbers below this place, from the highest one down to that of the next place
+abbrev pub rows_below : {X Y : Type 0} → (X → Y) → List X → ℕ → ℕ → List Y
+rows_below row order place next = reverse (map row (drop next (take place order)))
+
+-- These are rows of endpoints below this place, and the others stand below the next place. The table
+-- numbers each endpoint once.
+pub record AreEndpointRowsBelow (tables : Tables) (place : ℕ) (rows : List EndpointRow) (next : ℕ)
+    : Type 0 where
+  pub table : Registry
+  pub live : table.live ≡ tables.live
+  pub numbered : IsNumbered table
+  pub rows_are : rows ≡ rows_below (row_in tables) table.order place next
 
 -- the endpoint that was admitted first to a call with these legs
 abbrev pub first_of : List Leg → List ℕ
@@ -83,6 +87,19 @@ call_row key call = record {
   second = second_of call.legs;
 }
 
+-- that of a call with its key
+abbrev pub call_row_of : CallKey × Call → CallRow
+call_row_of entry = call_row entry.0 entry.1
+
+-- These are rows of calls below this place, and the others stand below the next place. The table
+-- numbers each call once.
+pub record AreCallRowsBelow (tables : Tables) (place : ℕ) (rows : List CallRow) (next : ℕ) : Type 0
+  where
+    pub table : CallTable
+    pub calls : table.calls ≡ tables.calls
+    pub numbered : AreNumbered table
+    pub rows_are : rows ≡ rows_below call_row_of table.order place next
+
 -- the row is that of an open call
 pub record IsCallRow (tables : Tables) (row : CallRow) : Type 0 where
   pub call : Call
@@ -104,7 +121,7 @@ pub record AreEndpointsUnderLock (opened : State) (place : ℕ) (rows : List End
   pub held : Held
   pub kept : IsKept opened held
   pub each : All (IsEndpointRow held.zone.state.tables) rows
-  pub by_place : AreRowsBelow held.zone.state.tables place rows next
+  pub by_place : AreEndpointRowsBelow held.zone.state.tables place rows next
   pub count : length rows + next ≡ min place (fin.len held.zone.state.tables.live)
 
 -- the same of calls
@@ -113,6 +130,7 @@ pub record AreCallsUnderLock (opened : State) (place : ℕ) (rows : List CallRow
     pub held : Held
     pub kept : IsKept opened held
     pub each : All (IsCallRow held.zone.state.tables) rows
+    pub by_place : AreCallRowsBelow held.zone.state.tables place rows next
     pub count : length rows + next ≡ min place (fin.len held.zone.state.tables.calls)
 
 pub record IsEndpointUnderLock (opened : State) (row : EndpointRow) : Type 0 where

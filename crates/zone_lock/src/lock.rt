@@ -317,8 +317,8 @@ impl<P: Pool, D: Hall, T: Ledger, U: Ledger, V: Ledger> ZoneLock<P, D, T, U, V> 
     ///
     /// promise rows-are-of-one-moment: Rows are those of a zone that stood behind this lock, one
     /// for each place below the given one, as many as there is room for; likewise of calls. Each
-    /// endpoint has one place, and rows of endpoints fall by it (`IsEndpointRow`, `AreRowsBelow`,
-    /// `AreEndpointsUnderLock`).
+    /// endpoint and each call has one place, and rows fall by it (`IsEndpointRow`,
+    /// `AreEndpointRowsBelow`, `AreCallRowsBelow`).
     pub fn endpoints_below<R: Wait>(
         &self,
         rt: &R,

@@ -6,8 +6,9 @@ ghost use Rattle.std.specs.Prelude.{IfSome, Some, vec_capacity, vec_len};
 ghost use Rattle.std.specs.FinMap as map;
 ghost use Rattle.admission.specs.Calls.{legs_of};
 ghost use Rattle.zone_lock.specs.Held.{IsKept};
-ghost use Rattle.zone_lock.specs.Views.{AreFigures, AreRowsBelow, IsCallRow, IsEndpointRow};
-ghost use Rattle.zone_lock.specs.Views.{endpoint_row, first_of, row_in, second_of};
+ghost use Rattle.zone_lock.specs.Views.{AreCallRowsBelow, AreEndpointRowsBelow, AreFigures};
+ghost use Rattle.zone_lock.specs.Views.{IsCallRow, IsEndpointRow, endpoint_row};
+ghost use Rattle.zone_lock.specs.Views.{first_of, row_in, second_of};
 
 use crate::locked::Locked;
 use crate::seat::Hall;
@@ -63,7 +64,8 @@ pub fn endpoints_locked<P: Pool, D: Hall, T: Ledger, U: Ledger, V: Ledger>(
 ) -> usize
     requires empty { rows.old.items ≡ [] }
     ensures rows { All (IsEndpointRow locked.now.zone.state.tables) rows.new.items }
-    ensures by_place { AreRowsBelow locked.now.zone.state.tables place rows.new.items result }
+    ensures by_place {
+        AreEndpointRowsBelow locked.now.zone.state.tables place rows.new.items result }
     ensures count { length rows.new.items + result
         ≡ min place (map.len locked.now.zone.state.tables.live) }
     ensures full { 0 < result → vec_len rows.new ≡ vec_capacity rows.new }
@@ -77,7 +79,7 @@ pub fn endpoints_locked<P: Pool, D: Hall, T: Ledger, U: Ledger, V: Ledger>(
 fn put_endpoints(tables: &ZoneTables, place: usize, rows: &mut Vec<EndpointRow>) -> usize
     requires empty { rows.old.items ≡ [] }
     ensures rows { All (IsEndpointRow tables.now) rows.new.items }
-    ensures by_place { AreRowsBelow tables.now place rows.new.items result }
+    ensures by_place { AreEndpointRowsBelow tables.now place rows.new.items result }
     ensures count { length rows.new.items + result ≡ min place (map.len tables.now.live) }
     ensures full { 0 < result → vec_len rows.new ≡ vec_capacity rows.new }
     ensures room { vec_capacity rows.new ≡ vec_capacity rows.old }
@@ -127,6 +129,8 @@ pub fn calls_locked<P: Pool, D: Hall, T: Ledger, U: Ledger, V: Ledger>(
 ) -> usize
     requires empty { rows.old.items ≡ [] }
     ensures rows { All (IsCallRow locked.now.zone.state.tables) rows.new.items }
+    ensures by_place {
+        AreCallRowsBelow locked.now.zone.state.tables place rows.new.items result }
     ensures count { length rows.new.items + result
         ≡ min place (map.len locked.now.zone.state.tables.calls) }
     ensures full { 0 < result → vec_len rows.new ≡ vec_capacity rows.new }
@@ -136,17 +140,20 @@ pub fn calls_locked<P: Pool, D: Hall, T: Ledger, U: Ledger, V: Ledger>(
     put_calls(locked.zone.machine().tables(), place, rows)
 }
 
+#[tactic(auto, using(crate::proofs::Numbered::no_call_rows))]
 fn put_calls(tables: &ZoneTables, place: usize, rows: &mut Vec<CallRow>) -> usize
     requires empty { rows.old.items ≡ [] }
     ensures rows { All (IsCallRow tables.now) rows.new.items }
+    ensures by_place { AreCallRowsBelow tables.now place rows.new.items result }
     ensures count { length rows.new.items + result ≡ min place (map.len tables.now.calls) }
     ensures full { 0 < result → vec_len rows.new ≡ vec_capacity rows.new }
     ensures room { vec_capacity rows.new ≡ vec_capacity rows.old }
 {
-    let mut left = place.min(tables.calls().len());
+    let calls = tables.calls();
+    let mut left = place.min(calls.len());
     while left > 0 && rows.len() < rows.capacity() {
         left -= 1;
-        let (key, call) = tables.calls().nth(left).unwrap();
+        let (key, call) = calls.nth(left).unwrap();
         let (first, second): (EndpointId, Option<EndpointId>) = (first_of(call), second_of(call));
         rows.push_reserved(CallRow {
             key: *key,

@@ -1,14 +1,16 @@
 use Rattle.std.proofs.Common.{◌≡◌, ◌≤◌, ◌+◌, All, length, min, vec_capacity}
-use Rattle.std.specs.FinMap as map
-use Rattle.zone_lock.specs.Views.{IsCallRow}
+use Rattle.std.specs.FinMap as fin
+use Rattle.zone_lock.specs.Views.{IsCallRow, call_row_of, rows_below}
 use Rattle.zone_lock.proofs.looking.put_calls.Given as goal
 
 -- the rows of the places above those that are left
 abbrev pub invariant-loop-left : goal.invariant-loop-left
 invariant-loop-left l = record {
   rows : All (IsCallRow l.tables) l.rows.items;
-  count : length l.rows.items + l.left ≡ min l.place (map.len l.tables.calls);
-  within : l.left ≤ map.len l.tables.calls;
+  by_place : l.rows.items ≡ rows_below call_row_of l.calls.order l.place l.left;
+  count : length l.rows.items + l.left ≡ min l.place (fin.len l.tables.calls);
+  below : l.left ≤ l.place;
+  within : l.left ≤ fin.len l.tables.calls;
   room : vec_capacity l.rows ≡ vec_capacity l.initial.rows;
 }
 

@@ -1,11 +1,11 @@
 use Rattle.std.proofs.Common.{rules, arith, ◌≡◌, ◌∙◌, ◌+◌, ◌-◌, ◌++◌, ◌∷◌, All, [], ap, subst, sym}
-use Rattle.std.specs.Prelude.{IfSome, List, Some, drop, map, reverse, slice_get, take}
+use Rattle.std.specs.Prelude.{IfSome, List, Some, slice_get}
 use Rattle.std.specs.Option.{option_copied}
 use Rattle.std.specs.FinMap as fin
 use Rattle.std.proofs.lemmas.List.Elements.{All-push}
 use Rattle.registrations.specs.Registry.{Live}
 use Rattle.zone_view.specs.declared.rows.EndpointRow.{EndpointRow}
-use Rattle.zone_lock.specs.Views.{IsEndpointRow, row_in}
+use Rattle.zone_lock.specs.Views.{IsEndpointRow, row_in, rows_below}
 use Rattle.zone_lock.proofs.Numbered.{next_row, row_of_live}
 use Rattle.zone_lock.proofs.looking.put_endpoints.Goals as goal
 
@@ -35,8 +35,8 @@ loop-left-preserved c =
           (All-push (IsEndpointRow tables) c.loop-left.rows.items row held.rows is_row);
       by_place = pushed.items
           ∙ ap (λ (rows : List EndpointRow). rows ++ row ∷ []) held.by_place
-          ∙ ap (λ (x : EndpointRow). reverse (map (row_in tables) (drop left (take c.args.place
-          table.order))) ++ x ∷ []) c.endpoint_row_of.ensures
+          ∙ ap (λ (x : EndpointRow). rows_below (row_in tables) table.order c.args.place left
+          ++ x ∷ []) c.endpoint_row_of.ensures
           ∙ sym (next_row (row_in tables) table.order c.args.place (left - 1) left r next
           held.below there);
       count = search rules;

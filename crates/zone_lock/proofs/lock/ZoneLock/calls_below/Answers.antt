@@ -6,6 +6,7 @@ returns-clause-rows g c = record {
   held = _;
   kept = c.calls_locked.ensures.kept;
   each = c.calls_locked.ensures.rows;
+  by_place = c.calls_locked.ensures.by_place;
   count = c.calls_locked.ensures.count;
 }
 
