@@ -2,7 +2,8 @@
 use Rattle.std.specs.Prelude.{List, ℕ, [], ◌∷◌, map, codes}
 use Rattle.zone_events.specs.declared.outcome.IgnoredCause.{IgnoredCause}
 use Rattle.zone_events.specs.declared.outcome.IgnoredCause.TheVariants as cause
-use Rattle.zone_view.specs.Labels.{answer_label, deed_label, reject_label, reply_label, request_label}
+use Rattle.zone_view.specs.Labels.{answer_label, deed_label, reject_label, reply_label}
+use Rattle.zone_view.specs.Labels.{request_label}
 use Rattle.zone_view.specs.declared.count.Count.{Count}
 use Rattle.zone_view.specs.declared.count.Count.TheVariants as count
 use Rattle.zone_view.specs.declared.kinds.Answer.{Answer}

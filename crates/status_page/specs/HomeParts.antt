@@ -1,5 +1,6 @@
 -- Small parts of the page for people.
-use Rattle.std.specs.Prelude.{ℕ, ◌*◌, ◌/◌, ◌%◌, cond, min, nat_eq, nat_lt, List, [], ◌∷◌, ◌++◌, codes, map, flat_map, encode_utf8_all, Option, Some, None}
+use Rattle.std.specs.Prelude.{ℕ, ◌*◌, ◌/◌, ◌%◌, cond, min, nat_eq, nat_lt, List, [], ◌∷◌, ◌++◌}
+use Rattle.std.specs.Prelude.{codes, map, flat_map, encode_utf8_all, Option, Some, None}
 use Rattle.std.specs.Char.Utf16.{utf16_lossy_chars}
 use Rattle.std.specs.Fmt.{decimal}
 use Rattle.std.specs.List.{concat}

@@ -1,5 +1,6 @@
 -- Endpoints and calls, on the page for people.
-use Rattle.std.specs.Prelude.{ℕ, ◌-◌, ◌==◌, cond, nat_eq, List, [], ◌∷◌, ◌++◌, codes, length, flat_map, Option, Some, None, Box}
+use Rattle.std.specs.Prelude.{ℕ, ◌-◌, ◌==◌, cond, nat_eq, List, [], ◌∷◌, ◌++◌, codes, length}
+use Rattle.std.specs.Prelude.{flat_map, Option, Some, None, Box}
 use Rattle.std.specs.Fmt.{decimal}
 use Rattle.std.specs.Global.{Global}
 use Rattle.std.specs.List.{concat}
@@ -44,7 +45,8 @@ endpoint_rows clock rows = flat_map (λ row. endpoint_html clock row.value) rows
 abbrev pub endpoint_table_parts : ℕ → List (Box EndpointRow Global) → List (List ℕ)
 endpoint_table_parts clock rows =
     codes "<div class=wide><table><thead><tr><th>Identifier<th>Aliases<th>Call signalling"
-    ∷ codes "<th>RAS<th class=n>Calls<th class=n>Ends in<th class=n>Last heard</tr></thead><tbody>\n"
+    ∷ codes
+    "<th>RAS<th class=n>Calls<th class=n>Ends in<th class=n>Last heard</tr></thead><tbody>\n"
     ∷ endpoint_rows clock rows ∷ codes "</tbody></table></div>\n" ∷ []
 
 unfoldable pub endpoint_table : ℕ → List (Box EndpointRow Global) → List ℕ
@@ -88,4 +90,5 @@ call_table rows = concat (call_table_parts rows)
 
 abbrev pub calls_html : List (Box CallRow Global) → List ℕ
 calls_html rows =
-    cond (length rows == 0) (codes "<p class=none>There are no calls to show.</p>\n") (call_table rows)
+    cond (length rows == 0) (codes "<p class=none>There are no calls to show.</p>\n")
+    (call_table rows)

@@ -1,5 +1,6 @@
 -- Endpoints and calls in JSON.
-use Rattle.std.specs.Prelude.{ℕ, ◌-◌, Bool, cond, List, [], ◌∷◌, ◌++◌, codes, length, Option, Some, None, Box, slice_get}
+use Rattle.std.specs.Prelude.{ℕ, ◌-◌, Bool, cond, List, [], ◌∷◌, ◌++◌, codes, length, Option}
+use Rattle.std.specs.Prelude.{Some, None, Box, slice_get}
 use Rattle.std.specs.Fmt.{decimal}
 use Rattle.std.specs.List.{concat}
 use Rattle.std.specs.Global.{Global}
@@ -50,11 +51,13 @@ last_of xs = slice_get xs (length xs - 1)
 
 -- the `after` of the next list, behind the last row of this one; null if there is no next one
 unfoldable pub next_endpoint_json : Bool → Option (Box EndpointRow Global) → List ℕ
-next_endpoint_json is_more (Some row) = cond is_more (codes "\"" ++ json_text row.value.identifier ++ codes "\"") (codes "null")
+next_endpoint_json is_more (Some row) =
+    cond is_more (codes "\"" ++ json_text row.value.identifier ++ codes "\"") (codes "null")
 next_endpoint_json is_more None = codes "null"
 
 unfoldable pub next_call_json : Bool → Option (Box CallRow Global) → List ℕ
-next_call_json is_more (Some row) = cond is_more (codes "\"" ++ key_text row.value.key ++ codes "\"") (codes "null")
+next_call_json is_more (Some row) =
+    cond is_more (codes "\"" ++ key_text row.value.key ++ codes "\"") (codes "null")
 next_call_json is_more None = codes "null"
 
 -- a list of endpoints

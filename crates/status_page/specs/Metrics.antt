@@ -15,7 +15,8 @@ use Rattle.status_page.specs.Texts.{address_text, label_text, numbered}
 use Rattle.status_page.specs.declared.metrics_page.Kind.{Kind}
 use Rattle.status_page.specs.declared.metrics_page.Kind.TheVariants.{Counter, Gauge}
 use Rattle.status_page.specs.declared.metrics_page.PoolMetric.{PoolMetric}
-use Rattle.status_page.specs.declared.metrics_page.PoolMetric.TheVariants.{Limit, Lent, Refusals, Waits}
+use Rattle.status_page.specs.declared.metrics_page.PoolMetric.TheVariants.{Limit, Lent, Refusals}
+use Rattle.status_page.specs.declared.metrics_page.PoolMetric.TheVariants.{Waits}
 use Rattle.status_page.specs.declared.overview.About.{About}
 use Rattle.status_page.specs.declared.overview.Overview.{Overview}
 

@@ -1,5 +1,6 @@
 -- Queries of pages with rows: parts `NAME=VALUE`, with & between them.
-use Rattle.std.specs.Prelude.{ℕ, ◌==◌, nat_eq, length, cond, List, [], ◌∷◌, codes, Option, Some, None, option_and_then, option_map, Result, Ok, Err}
+use Rattle.std.specs.Prelude.{ℕ, ◌==◌, nat_eq, length, cond, List, [], ◌∷◌, codes, Option, Some}
+use Rattle.std.specs.Prelude.{None, option_and_then, option_map, Result, Ok, Err}
 use Rattle.std.specs.Str.{bytes_eq}
 use Rattle.hex.specs.Hex.{decode_sized}
 use Rattle.hex.specs.declared.error.FromHexError.{FromHexError}
@@ -42,7 +43,8 @@ abbrev pub with_call : Query → List ℕ → Option Query
 with_call query value = option_map (λ key. record query { call = Some key }) (key_of value)
 
 abbrev pub with_most : Query → List ℕ → Option Query
-with_most query value = option_map (λ number. record query { most = number }) (number_of 1 200 value)
+with_most query value =
+    option_map (λ number. record query { most = number }) (number_of 1 200 value)
 
 -- the parameters of each page
 abbrev pub with_parameter : Table → Query → List ℕ → List ℕ → Option Query

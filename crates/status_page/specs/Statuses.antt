@@ -3,7 +3,8 @@ use Rattle.std.specs.Prelude.{ℕ, List, codes}
 use Rattle.status_page.specs.declared.response.Content.{Content}
 use Rattle.status_page.specs.declared.response.Content.TheVariants.{Html, Metrics, Json, Plain}
 use Rattle.status_page.specs.declared.response.Status.{Status}
-use Rattle.status_page.specs.declared.response.Status.TheVariants.{Found, BadRequest, NotFound, NotAllowed, Unavailable}
+use Rattle.status_page.specs.declared.response.Status.TheVariants.{Found, BadRequest, NotFound}
+use Rattle.status_page.specs.declared.response.Status.TheVariants.{NotAllowed, Unavailable}
 
 -- the codes of HTTP (RFC 9110, section 15)
 abbrev pub code_of : Status → ℕ
