@@ -1,4 +1,5 @@
 pub mod Entries
 pub mod Gathered
 pub mod Parted
+pub mod Readings
 pub mod Written

@@ -1,6 +1,7 @@
 //! Lists of a zone's endpoints and calls: some of them at a time, by rising keys.
 
-ghost use Rattle.std.specs.Prelude.{◌≡◌, ◌≤◌, All, IfOk, IfSome, IsTrue, vec_len};
+ghost use Rattle.std.specs.Prelude.{◌≡◌, ◌<◌, ◌≤◌, All, IfOk, IfSome, IsTrue};
+ghost use Rattle.std.specs.Prelude.{vec_capacity, vec_len};
 ghost use Rattle.std.specs.Cmp.Lexicographic.{slice_cmp};
 ghost use Rattle.std.specs.List.Sorted.{IsStrictlySortedBy};
 ghost use Rattle.std.specs.Ordering.{nat_cmp};
@@ -35,12 +36,12 @@ pub struct CallList {
 
 /// The endpoints behind this one, or from the first one on, by rising identifiers: at most so many.
 /// One that stays while the zone tells them all isn't left out. One that comes or goes meanwhile
-/// may be missing. The clauses speak of the rows that were read; that the zone told no others, none
-/// of them says.
+/// may be missing.
 ///
-/// promise lists-are-of-told-rows: The rows are the first of those that were read of the zone behind
-/// the given identifier, rising, at most as many as asked for, and it is told whether there are more;
-/// likewise of calls.
+/// promise lists-are-of-told-rows: The rows are the first ones behind the given identifier of all
+/// that the zone told, from its highest place down until it had no more, rising, at most as many as
+/// asked for, and it is told whether there are more; likewise of calls (`AreFirstEndpoints`,
+/// `AreAllRead`).
 pub fn endpoints_after<Z: RunningZone>(
     alloc: Global,
     zone: &Z,
@@ -54,7 +55,8 @@ pub fn endpoints_after<Z: RunningZone>(
     ensures told { IfOk result (λ list.
         All (λ row. Z.has_endpoint zone.now row.value) list.rows.items) }
     ensures most { IfOk result (λ list. vec_len list.rows ≤ most) }
-    ensures first { IfOk result (AreFirstEndpoints (Z.has_endpoint zone.now) after most) }
+    ensures first { IfOk result (AreFirstEndpoints (Z.has_endpoint zone.now)
+        (Z.has_endpoints_below zone.now) after most) }
 {
     let mut entries = BTreeMap::new(alloc);
     let mut told = Vec::with_capacity(alloc, ROWS_AT_ONCE)?;
@@ -73,18 +75,22 @@ pub fn endpoints_after<Z: RunningZone>(
     })
 }
 
-/// The next row of an endpoint that a zone tells, below a place. None if there are no more.
+/// The next row of an endpoint that a zone tells, below a place. None if there are no more. There
+/// is room for rows: without it a zone tells none, though it may have some.
 fn next_endpoint<Z: RunningZone>(
     zone: &Z,
     told: &mut Vec<EndpointRow>,
     place: &mut usize,
 ) -> Option<EndpointRow>
     requires told { All (Z.has_endpoint zone.now) told.old.items }
+    requires room { 0 < vec_capacity told.old }
     ensures told { All (Z.has_endpoint zone.now) told.new.items }
+    ensures room { vec_capacity told.new ≡ vec_capacity told.old }
     ensures row { IfSome result (Z.has_endpoint zone.now) }
     ensures nearer { IfSome result (λ _.
         IsNearer place.old (vec_len told.old) place.new (vec_len told.new)) }
-    ensures next { IsNextOf place.old told.old.items place.new told.new.items result }
+    ensures next { IsNextOf (Z.has_endpoints_below zone.now)
+        place.old told.old.items place.new told.new.items result }
 {
     if told.is_empty() && *place > 0 {
         let below = zone.endpoints_below(*place, told);
@@ -103,8 +109,8 @@ fn is_endpoint_after(after: Option<EndpointId>, key: &EndpointId) -> bool
     }
 }
 
-/// The calls behind this one, or from the first one on, by rising keys: at most so many. One
-/// that stays while the zone tells them all isn't left out; one that comes or goes meanwhile may be
+/// The calls behind this one, or from the first one on, by rising keys: at most so many. One that
+/// stays while the zone tells them all isn't left out; one that comes or goes meanwhile may be
 /// missing.
 pub fn calls_after<Z: RunningZone>(
     alloc: Global,
@@ -119,7 +125,8 @@ pub fn calls_after<Z: RunningZone>(
     ensures told { IfOk result (λ list.
         All (λ row. Z.has_call zone.now row.value) list.rows.items) }
     ensures most { IfOk result (λ list. vec_len list.rows ≤ most) }
-    ensures first { IfOk result (AreFirstCalls (Z.has_call zone.now) after most) }
+    ensures first { IfOk result (AreFirstCalls (Z.has_call zone.now)
+        (Z.has_calls_below zone.now) after most) }
 {
     let mut entries = BTreeMap::new(alloc);
     let mut told = Vec::with_capacity(alloc, ROWS_AT_ONCE)?;
@@ -138,18 +145,22 @@ pub fn calls_after<Z: RunningZone>(
     })
 }
 
-/// The next row of a call that a zone tells, below a place. None if there are no more.
+/// The next row of a call that a zone tells, below a place. None if there are no more. There
+/// is room for rows: without it a zone tells none, though it may have some.
 fn next_call<Z: RunningZone>(
     zone: &Z,
     told: &mut Vec<CallRow>,
     place: &mut usize,
 ) -> Option<CallRow>
     requires told { All (Z.has_call zone.now) told.old.items }
+    requires room { 0 < vec_capacity told.old }
     ensures told { All (Z.has_call zone.now) told.new.items }
+    ensures room { vec_capacity told.new ≡ vec_capacity told.old }
     ensures row { IfSome result (Z.has_call zone.now) }
     ensures nearer { IfSome result (λ _.
         IsNearer place.old (vec_len told.old) place.new (vec_len told.new)) }
-    ensures next { IsNextOf place.old told.old.items place.new told.new.items result }
+    ensures next { IsNextOf (Z.has_calls_below zone.now)
+        place.old told.old.items place.new told.new.items result }
 {
     if told.is_empty() && *place > 0 {
         let below = zone.calls_below(*place, told);

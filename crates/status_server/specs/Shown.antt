@@ -1,5 +1,5 @@
 -- What the pages with rows show of a zone. A zone says which rows are those of endpoints or calls
--- that it has at some moment.
+-- that it has at some moment, and which rows it tells together, below which place.
 use Rattle.std.specs.Prelude.{ℕ, ◌≡◌, ◌≤◌, All, IsTrue, List, vec_len}
 use Rattle.std.specs.Cmp.Lexicographic.{slice_cmp}
 use Rattle.std.specs.List.Sorted.{IsStrictlySortedBy}
@@ -24,23 +24,25 @@ use Rattle.status_page.specs.declared.response.Response.{Response}
 use Rattle.status_page.specs.declared.response.Status.TheVariants.{Found, NotFound}
 
 -- endpoints of a zone, behind the one that a query names, at most as many as it asks for, rising:
--- the first of those that the zone told, with whether it told more
-abbrev pub AreEndpointsOf : (EndpointRow → Type 0) → Query → EndpointList → Type 0
-AreEndpointsOf HasEndpoint query list =
+-- the first of all that the zone told, with whether it told more
+abbrev pub AreEndpointsOf : (EndpointRow → Type 0) → (ℕ → List EndpointRow → ℕ → Type 0) → Query
+    → EndpointList → Type 0
+AreEndpointsOf HasEndpoint EndpointsBelow query list =
     All (λ row. HasEndpoint row.value) list.rows.items
     × All (λ row. IsTrue (is_endpoint_after query.endpoint row.value.identifier)) list.rows.items
     × (vec_len list.rows ≤ query.most)
     × IsStrictlySortedBy (slice_cmp nat_cmp) (identifiers_of list.rows.items)
-    × AreFirstEndpoints HasEndpoint query.endpoint query.most list
+    × AreFirstEndpoints HasEndpoint EndpointsBelow query.endpoint query.most list
 
 -- calls of a zone, likewise
-abbrev pub AreCallsOf : (CallRow → Type 0) → Query → CallList → Type 0
-AreCallsOf HasCall query list =
+abbrev pub AreCallsOf : (CallRow → Type 0) → (ℕ → List CallRow → ℕ → Type 0) → Query → CallList
+    → Type 0
+AreCallsOf HasCall CallsBelow query list =
     All (λ row. HasCall row.value) list.rows.items
     × All (λ row. IsTrue (is_call_after query.call row.value.key)) list.rows.items
     × (vec_len list.rows ≤ query.most)
     × IsStrictlySortedBy (slice_cmp nat_cmp) (call_keys_of list.rows.items)
-    × AreFirstCalls HasCall query.call query.most list
+    × AreFirstCalls HasCall CallsBelow query.call query.most list
 
 -- a page that was found, with this text
 abbrev pub IsPage : Content → List ℕ → Response → Type 0
@@ -48,32 +50,38 @@ IsPage content text response = (response.status ≡ Found) × (response.content 
     × (string_bytes response.text ≡ text)
 
 -- the page for people, with endpoints and calls of a zone; of its figures nothing is said here
-abbrev pub IsHomeOf : About → Query → (EndpointRow → Type 0) → (CallRow → Type 0) → Response
-    → Type 0
-IsHomeOf about query HasEndpoint HasCall response =
+abbrev pub IsHomeOf : About → Query → (EndpointRow → Type 0)
+    → (ℕ → List EndpointRow → ℕ → Type 0) → (CallRow → Type 0)
+    → (ℕ → List CallRow → ℕ → Type 0) → Response → Type 0
+IsHomeOf about query HasEndpoint EndpointsBelow HasCall CallsBelow response =
     (overview : Overview) × (endpoints : EndpointList) × (calls : CallList)
-    × AreEndpointsOf HasEndpoint query endpoints
-    × AreCallsOf HasCall query calls
+    × AreEndpointsOf HasEndpoint EndpointsBelow query endpoints
+    × AreCallsOf HasCall CallsBelow query calls
     × IsPage Html (home_text about overview query endpoints calls) response
 
 -- the list of endpoints of a zone in JSON
-abbrev pub IsEndpointPageOf : Query → (EndpointRow → Type 0) → Response → Type 0
-IsEndpointPageOf query HasEndpoint response =
-    (list : EndpointList) × AreEndpointsOf HasEndpoint query list
+abbrev pub IsEndpointPageOf : Query → (EndpointRow → Type 0)
+    → (ℕ → List EndpointRow → ℕ → Type 0) → Response → Type 0
+IsEndpointPageOf query HasEndpoint EndpointsBelow response =
+    (list : EndpointList) × AreEndpointsOf HasEndpoint EndpointsBelow query list
     × IsPage Json (endpoints_text list.rows.items list.is_more) response
 
 -- the list of calls of a zone in JSON
-abbrev pub IsCallPageOf : Query → (CallRow → Type 0) → Response → Type 0
-IsCallPageOf query HasCall response =
-    (list : CallList) × AreCallsOf HasCall query list
+abbrev pub IsCallPageOf : Query → (CallRow → Type 0) → (ℕ → List CallRow → ℕ → Type 0)
+    → Response → Type 0
+IsCallPageOf query HasCall CallsBelow response =
+    (list : CallList) × AreCallsOf HasCall CallsBelow query list
     × IsPage Json (calls_text list.rows.items list.is_more) response
 
 -- the page with rows of a zone that is asked for; what has no rows isn't found here
-abbrev pub IsRowPageOf : About → Asked → (EndpointRow → Type 0) → (CallRow → Type 0) → Response
-    → Type 0
-IsRowPageOf about (Home query) HasEndpoint HasCall response =
-    IsHomeOf about query HasEndpoint HasCall response
-IsRowPageOf about (Endpoints query) HasEndpoint HasCall response =
-    IsEndpointPageOf query HasEndpoint response
-IsRowPageOf about (Calls query) HasEndpoint HasCall response = IsCallPageOf query HasCall response
-IsRowPageOf about asked HasEndpoint HasCall response = response.status ≡ NotFound
+abbrev pub IsRowPageOf : About → Asked → (EndpointRow → Type 0)
+    → (ℕ → List EndpointRow → ℕ → Type 0) → (CallRow → Type 0)
+    → (ℕ → List CallRow → ℕ → Type 0) → Response → Type 0
+IsRowPageOf about (Home query) HasEndpoint EndpointsBelow HasCall CallsBelow response =
+    IsHomeOf about query HasEndpoint EndpointsBelow HasCall CallsBelow response
+IsRowPageOf about (Endpoints query) HasEndpoint EndpointsBelow HasCall CallsBelow response =
+    IsEndpointPageOf query HasEndpoint EndpointsBelow response
+IsRowPageOf about (Calls query) HasEndpoint EndpointsBelow HasCall CallsBelow response =
+    IsCallPageOf query HasCall CallsBelow response
+IsRowPageOf about asked HasEndpoint EndpointsBelow HasCall CallsBelow response =
+    response.status ≡ NotFound

@@ -127,7 +127,8 @@ impl<'a, R: Clock, Z: RunningZone> Shown<'a, R, Z> {
     /// A response with rows that are told now.
     fn listed(&self, asked: &Asked) -> Result<Response, AllocError>
         ensures { IfOk result (IsRowPageOf self.now.about asked.now
-            (Z.has_endpoint self.now.zone.now) (Z.has_call self.now.zone.now)) }
+            (Z.has_endpoint self.now.zone.now) (Z.has_endpoints_below self.now.zone.now)
+            (Z.has_call self.now.zone.now) (Z.has_calls_below self.now.zone.now)) }
     {
         let alloc = self.alloc;
         match asked {
@@ -148,7 +149,8 @@ impl<'a, R: Clock, Z: RunningZone> Shown<'a, R, Z> {
     /// The page for people.
     fn home(&self, query: &Query) -> Result<Response, AllocError>
         ensures { IfOk result (IsHomeOf self.now.about query.now
-            (Z.has_endpoint self.now.zone.now) (Z.has_call self.now.zone.now)) }
+            (Z.has_endpoint self.now.zone.now) (Z.has_endpoints_below self.now.zone.now)
+            (Z.has_call self.now.zone.now) (Z.has_calls_below self.now.zone.now)) }
     {
         let alloc = self.alloc;
         let most = query.most as usize;

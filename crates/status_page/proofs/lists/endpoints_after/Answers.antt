@@ -12,6 +12,7 @@ use Rattle.zone_view.specs.declared.rows.EndpointRow.{EndpointRow}
 use Rattle.status_page.specs.Lists.{IsEndpointEntry, identifiers_of, is_endpoint_after, with_endpoint}
 use Rattle.status_page.proofs.Entries.{All-insert_entry, All-values, keys_of_values, same_lists}
 use Rattle.status_page.proofs.Gathered.{first_entries, first_rows, more_rows}
+use Rattle.status_page.proofs.Readings.{all_taken, one_taken}
 use Rattle.status_page.proofs.lists.endpoints_after.Goals as goal
 
 pub loop-row-preserved : goal.loop-row-preserved
@@ -29,7 +30,7 @@ loop-row-preserved g c =
     fold-append (with_endpoint c.args.after) [] told (c.in-Some.row ∷ [])
     ∙ ap (λ b. cond b (insert_entry (slice_cmp nat_cmp) entries c.in-Some.row.identifier c.in-Some.row) entries) is_after in
     let now = first_entries (slice_cmp nat_cmp) c.args.most c.loop-row.entries.entries c.in-Some.row.identifier c.in-Some.row
-    c.keep.new.entries.entries c.loop-row.is_more c.in_ok-is_more.field-0 entries before.2 before.3 put in
+    c.keep.new.entries.entries c.loop-row.is_more c.in_ok-is_more.field-0 entries before.3 before.4 put in
     record {
       entries = All-same P c.keep.new.entries.entries _ put.2 (All-take P c.args.most _
           (All-insert_entry _ _ put.0 P c.loop-row.entries.entries same_lists c.loop-row.invariant.entries
@@ -37,10 +38,13 @@ loop-row-preserved g c =
       ordered = c.in_ok-is_more.ensures.ordered;
       few = c.in_ok-is_more.ensures.few;
       told = c.next_endpoint.ensures.told;
+      room = omega arith;
       first = (
         told ++ c.in-Some.row ∷ [],
         All-append (g.Z.RunningZone.has_endpoint c.args.zone.now) told (c.in-Some.row ∷ []) before.1
             (All-cons (g.Z.RunningZone.has_endpoint c.args.zone.now) c.in-Some.row [] c.in-Some.ensures.row (All-nil _)),
+        one_taken (g.Z.RunningZone.has_endpoints_below c.args.zone.now) c.loop-row.place c.loop-row.told.items
+            c.next_endpoint.new.place c.next_endpoint.new.told.items told c.in-Some.row before.2 c.in-Some.ensures.next,
         now.0 ∙ ap (take c.args.most) (sym all),
         now.1 ∙ ap (λ es. nat_lt c.args.most (length es)) (sym all),
       );
@@ -61,12 +65,15 @@ loop-row-preserved-then-not-is_endpoint_after g c =
       ordered = c.loop-row.invariant.ordered;
       few = c.loop-row.invariant.few;
       told = c.next_endpoint.ensures.told;
+      room = omega arith;
       first = (
         told ++ c.in-Some.row ∷ [],
         All-append (g.Z.RunningZone.has_endpoint c.args.zone.now) told (c.in-Some.row ∷ []) before.1
             (All-cons (g.Z.RunningZone.has_endpoint c.args.zone.now) c.in-Some.row [] c.in-Some.ensures.row (All-nil _)),
-        before.2 ∙ ap (take c.args.most) (sym all),
-        before.3 ∙ ap (λ es. nat_lt c.args.most (length es)) (sym all),
+        one_taken (g.Z.RunningZone.has_endpoints_below c.args.zone.now) c.loop-row.place c.loop-row.told.items
+            c.next_endpoint.new.place c.next_endpoint.new.told.items told c.in-Some.row before.2 c.in-Some.ensures.next,
+        before.3 ∙ ap (take c.args.most) (sym all),
+        before.4 ∙ ap (λ es. nat_lt c.args.most (length es)) (sym all),
       );
     }
 
@@ -102,7 +109,9 @@ returns-clause-first g c =
     let told = c.loop-row.invariant.first in (
       told.0,
       told.1,
+      all_taken (g.Z.RunningZone.has_endpoints_below c.args.zone.now) c.loop-row.place c.loop-row.told.items
+          c.next_endpoint.new.place c.next_endpoint.new.told.items told.0 told.2 c.in_default.ensures.next,
       first_rows c.args.most c.in_ok-values_of.field-0.items c.loop-row.entries.entries (fold (with_endpoint c.args.after) [] told.0)
-          c.in_ok-values_of.ensures told.2,
-      more_rows c.args.most c.loop-row.is_more (fold (with_endpoint c.args.after) [] told.0) told.3,
+          c.in_ok-values_of.ensures told.3,
+      more_rows c.args.most c.loop-row.is_more (fold (with_endpoint c.args.after) [] told.0) told.4,
     )
