@@ -68,8 +68,8 @@ fn run_made<P: Pool, W: Write + Drop>(
 
 /// The pools that are described, in order, each of its kind and with nothing lent.
 ///
-/// promise script-pools-are-of-their-kinds: Pools, fresh ones too, are of the kinds that the script
-/// names.
+/// promise script-pools-are-of-their-kinds: Pools are made of the kinds that are described, in
+/// order (`pool_of`).
 pub fn pools_of(alloc: Global, specs: &[PoolSpec]) -> Result<Vec<StandardPool>, AllocError>
     ensures { IfOk result (λ pools. pools.items ≡ map pool_of specs.now) }
 {

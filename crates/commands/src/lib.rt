@@ -1,8 +1,8 @@
 //! What the program does without a server: the words of its command line; settings and scripts from
 //! an input; a check of settings, a replay, an explanation, an audit; the boxes of the pools.
 //!
-//! proved: nothing is written of refused input (`replay`, `check_settings`); settings are listed once
-//! (`check_settings`); a record's audit is told (`audit`); each fault has its status
+//! proved: nothing is written of refused input (`replay`, `check_settings`); settings are listed
+//! once (`check_settings`); a record's audit is told (`audit`); each fault has its status
 //! tested: texts of faults
 #![tactic(auto)]
 

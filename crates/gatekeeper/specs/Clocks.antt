@@ -3,8 +3,8 @@ use Rattle.std.specs.Prelude.{ℕ, ◌^◌, Option, Some, None, nat_lt, if◌the
 use Rattle.std.specs.declared.time.Instant.{Instant}
 use Rattle.gatekeeper.specs.declared.stopwatch.Stopwatch.{Stopwatch}
 
--- what a clock tells that told the last moment before: the moment after so many milliseconds, if
--- they are known and are a moment; else the last one again
+-- what a clock tells that told the last moment before: the moment of these milliseconds, if they
+-- are known and are a moment; else the last one again
 abbrev pub moment_told : ℕ → Option ℕ → ℕ
 moment_told last None = last
 moment_told last (Some milliseconds) =

@@ -22,7 +22,7 @@ use zone_view::RunningZone;
 /// How many milliseconds pass from one look at a zone to the next.
 const PAUSE: u64 = 5;
 
-/// If so many steps were made meanwhile, the next look follows at once.
+/// If this many steps were made meanwhile, the next look follows at once.
 const MANY: usize = 4_096;
 
 /// Writes down each step of a zone for as long as the zone is served.
@@ -54,8 +54,8 @@ pub fn recorder_of<'a, R: Files<File = File> + Clock + Log>(
 /// Writes down entries that left a zone's history, if they follow those that are written and more
 /// may come. Otherwise steps were lost, and the record ends.
 ///
-/// promise record-has-no-gap: A server's record has its history's steps from the first on
-/// (`IsPutDown`).
+/// promise record-has-no-gap: Entries are written only if they follow those that the record has;
+/// else it ends (`IsPutDown`).
 fn put_down<W: Write + Drop>(
     writer: &mut RecordWriter<W>,
     handed: &mut HandedOut,

@@ -14,7 +14,8 @@ use udp_socket::Stop;
 const CHAPTER: usize = 4_096;
 
 /// What is asked of the server besides what is set: each receiving thread stops after this many
-/// receives, if a number is given, and once it is told to; and a record is written, if one is to be.
+/// receives, if a number is given, and once it is told to; and a record is written, if one is to
+/// be.
 #[derive(Drop)]
 pub struct Task<'a, S: Stop> {
     pub receives: Option<u64>,

@@ -34,8 +34,7 @@ impl<'a, R: Clock> Stopwatch<'a, R> {
 impl<R: Clock> Moments for Stopwatch<'_, R> {
     ghost tells = { λ old moment new. (new.last ≡ moment) × (new.start ≡ old.start) };
 
-    /// promise clock-counts-whole-milliseconds: A reading is the whole milliseconds since the
-    /// beginning, or the last moment again (`moment_told`).
+    /// What `moment_told` makes of the milliseconds since the beginning.
     fn now(&mut self) -> Moment
         ensures tells { (self.new.last ≡ result) × (self.new.start ≡ self.old.start) }
         ensures beginning { beginning self.new ≡ beginning self.old }
@@ -48,8 +47,11 @@ impl<R: Clock> Moments for Stopwatch<'_, R> {
     }
 }
 
-/// What a clock tells that told `last` before and now reads so many milliseconds: that moment; but
-/// `last` if it can't be read, or if the milliseconds are no moment.
+/// What a clock tells that told `last` before and now reads `milliseconds`: that moment; but `last`
+/// if it can't be read, or if the milliseconds are no moment.
+///
+/// promise clock-counts-whole-milliseconds: A clock tells the milliseconds that it reads, or the
+/// last moment again (`moment_told`).
 fn moment_told(last: Moment, milliseconds: Option<u64>) -> Moment
     ensures { result ≡ moment_told last milliseconds }
 {

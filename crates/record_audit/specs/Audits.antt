@@ -12,7 +12,7 @@ use Rattle.record_audit.specs.Lines.{begun_behind, lines_behind}
 use Rattle.record_audit.specs.Records.{CannotGo, GoesThrough, IsRunTo, Standing, beginning}
 use Rattle.record_audit.specs.Records.{fault_at, most_octets}
 
--- Where the audit of a record stands that is read piece by piece: behind so many lines, and with
+-- Where the audit of a record stands that is read piece by piece: behind `lines` lines, and with
 -- the octets of the next one that were read.
 pub record Reading : Type 0 where
   pub standing : Standing
@@ -65,7 +65,7 @@ abbrev pub IsNoRecord : List ℕ → Type 0
 IsNoRecord octets = (steps : List (Change × Outcome)) → (new : Standing)
     → IsRecord octets steps new → ⊥
 
--- Octets are a record of so many steps, which are a run from the zone that its first lines
+-- Octets are a record of steps that are counted, which are a run from the zone that its first lines
 -- describe. It is cut off if its last line has no end, or is an event without its outcome.
 pub record IsAudited (octets : List ℕ) (audited : Audited) : Type 0 where
   pub steps : List (Change × Outcome)

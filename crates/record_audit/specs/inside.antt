@@ -20,7 +20,7 @@ pub record Reached (old : Reading) (octets rest : List ℕ) (new : Reading) : Ty
   pub whole : octets ≡ seen ++ rest
   pub follows : Follows old seen new
 
--- what was taken from an input in so many pieces was followed
+-- what was taken from an input in these pieces was followed
 pub record IsReadTo (old new : Option (List ℕ)) (pieces : ℕ) (reading : Reading) : Type 0 where
   pub text : List ℕ
   pub taken : Consumes old new text

@@ -85,8 +85,8 @@ fn are_script_pools(pools: &[PoolSpec], networks: &[Option<Network>]) -> bool
 impl RecordedZone {
     /// A zone of these settings over these pools. The fault tells of its name first.
     ///
-    /// promise recorded-zone-fits-a-script: A zone is taken if and only if a script can describe it;
-    /// else why not is told (`recorded_zone`).
+    /// promise recorded-zone-fits-a-script: A zone is taken if and only if a script can describe
+    /// it; else why not is told (`recorded_zone`).
     pub fn new(config: Config, pools: PoolSpecs) -> Result<Self, ZoneFault>
         ensures { result ≡ recorded_zone config pools }
     {

@@ -112,7 +112,7 @@ fn write_last_line<W: Write>(why: End, steps: u64, most: u64, out: &mut W) -> io
 }
 
 impl<W: Write + Drop> RecordWriter<W> {
-    /// Begins a record of this zone, which has at most so many octets, but for its last line. If
+    /// Begins a record of this zone, which has at most `most` octets, but for its last line. If
     /// the zone's lines are more, the record is full. The octets that a step's lines take are held
     /// until they are written.
     pub fn begin(

@@ -1,4 +1,4 @@
--- How fast connections are accepted: in rounds, each of at most so many.
+-- How fast connections are accepted: in rounds, each of at most `MOST_ACCEPTED`.
 use Rattle.std.specs.Prelude.{◌+◌, Bool, nat_le, if◌then◌else◌}
 use Rattle.std.specs.declared.time.Instant.{Instant}
 use Rattle.status_server.specs.declared.pace.Pace.{Pace}

@@ -1,9 +1,9 @@
 //! A server of the status pages of a running zone over HTTP, for a thread of its own. It answers
 //! reads and nothing else.
 //!
-//! proved: that it is safe; status, header fields and body are those of the page; its rows are the
-//! zone's, unless they are sent again from memory
-//! tested: the built program
+//! proved: that it is safe; a page is sent with its status, header fields and body (`as_hyper`); a
+//! list is of rows of the zone (`listed`)
+//! tested: the built program, which page is sent
 #![tactic(auto)]
 
 mod answer;

@@ -3,7 +3,7 @@ use Rattle.std.specs.Prelude.{ℕ, ◌-◌, ◌/◌, ◌^◌, min, Option, Some,
 use Rattle.std.specs.declared.time.Instant.{Instant}
 use Rattle.std.specs.Time.{instant_nanos}
 
--- the whole milliseconds of so many nanoseconds, or the greatest u64 if they are more
+-- the whole milliseconds of these nanoseconds, or the greatest u64 if they are more
 abbrev pub milliseconds_of : ℕ → ℕ
 milliseconds_of nanoseconds = min (nanoseconds / 1000000) (2 ^ 64 - 1)
 

@@ -1,8 +1,8 @@
 //! What the program has around its server: files, streams, the log, signals. What needs no server
 //! is done here, and what has to be there before one serves is made.
 //!
-//! proved: the zone is the set one (`set_zone`); a failed start is told as what failed (`bind_page`,
-//! `planned_record`)
+//! proved: the zone is the set one (`set_zone`); a failed start is told as what failed
+//! (`bind_page`, `planned_record`)
 //! tested: the built program, signals
 #![tactic(auto)]
 

@@ -98,7 +98,7 @@ pub fn tell_record<R: Log>(rt: &R, name: &str) {
     info!(rt; target: RECORD, "each step is recorded in {name}");
 }
 
-/// Warns that a record with so many steps goes no further.
+/// Warns that a record with `steps` steps goes no further.
 pub fn warn_of_end<R: Log>(rt: &R, name: &str, why: End, steps: u64) {
     let cause = match why {
         End::Full => "another would pass its bound",

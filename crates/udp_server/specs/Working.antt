@@ -108,7 +108,7 @@ abbrev pub refused_after : TurnsEnd → ℕ → ℕ
 refused_after (turns_end.Refused step_fault.Memory) before = fault_count before
 refused_after why before = before
 
--- A worker made turns under the lock, at most so many, at one moment that its clock told, and
+-- A worker made turns under the lock, at most `most`, at one moment that its clock told, and
 -- handed on what they send, in order. A turn that was refused for want of memory is counted.
 pub record AreTurnsServed (opened : State) (tells : ℕ → Type 0) (most : ℕ) (why : TurnsEnd)
     (old new : Standing) : Type 0 where
@@ -228,8 +228,8 @@ IsEnd gives most before after old new =
     ((after ≡ before) × (new ≡ old) × gives (Ok received.Stopped) [])
     ⊎ ((most ≤ after.in_a_row) × IsFaultCounted gives before after old new)
 
--- What a receive came to, if so many may fail in a row: a datagram, of which a step is to be made;
--- or nothing; or that nothing more comes.
+-- What a receive came to, if fewer than `most` may fail in a row: a datagram, of which a step is to
+-- be made; or nothing; or that nothing more comes.
 abbrev pub IsReceived : Gives → (ℕ → Type 0) → List ℕ → ℕ → Failures → Failures → Next → Standing
     → Standing → Type 0
 IsReceived gives tells buffer most before after (next.Event what) old new =

@@ -37,7 +37,7 @@ use zone_lock::{Blanks, Hall, OpenFault, Seat, ZoneLock};
 /// back. What is refused is let go.
 ///
 /// promise server-leaves-a-run: All steps are a run from the locked state to the zone that is left,
-/// and the report has its counts (`IsServed`).
+/// and the report has its datagrams, turns and changes (`IsServed`).
 /// promise server-counts-its-ends: It is refused as WrongCounts if and only if seats, ends and
 /// clocks don't fit; likewise `serve_zone` (`AreCounts`, `AreCountsOfEnds`).
 pub fn serve<
@@ -88,8 +88,8 @@ pub fn serve<
 /// one for each receiving end, in order, and the last one for the turns of the timers; and a clock
 /// for each seat. The worker of the timers carries out the orders, each once its clock has reached
 /// the order's moment, in their order: a fresh pool takes the place of one of the zone's, or comes
-/// back. What is refused is let go. Each of those who look at the server does so in one more thread,
-/// and is waited for at the end.
+/// back. What is refused is let go. Each of those who look at the server does so in one more
+/// thread, and is waited for at the end.
 pub fn serve_watched<
     P: Pool + Send,
     D: Hall + Send + Sync,
@@ -363,8 +363,8 @@ pub fn serve_zone<
 }
 
 /// Puts a zone behind a lock and serves it: a seat for each receiving end, of which there are at
-/// most 15, and one for the turns of the timers. Each of those who look at the server does so in one
-/// more thread, and is waited for at the end.
+/// most 15, and one for the turns of the timers. Each of those who look at the server does so in
+/// one more thread, and is waited for at the end.
 pub fn serve_zone_watched<
     P: Pool + Send,
     R: Threads + Wait + Clock + Sync,

@@ -51,7 +51,7 @@ impl Tally {
         }
     }
 
-    /// Counts this so often more at a place. Nobody else writes meanwhile, so that none is lost.
+    /// Counts `more` at a place. Nobody else writes meanwhile, so that none is lost.
     fn add(&self, place: usize, more: u64) {
         self.set(place, self.get(place).saturating_add(more));
     }

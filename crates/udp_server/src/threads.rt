@@ -246,8 +246,8 @@ fn start_expiry<
         .ok()
 }
 
-/// Starts a thread for each of those who look at the server until this many workers have ended. None
-/// if one of them can't be made.
+/// Starts a thread for each of those who look at the server until this many workers have ended.
+/// None if one of them can't be made.
 fn start_watchers<
     's,
     E,

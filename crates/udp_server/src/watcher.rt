@@ -6,8 +6,8 @@ use zone_view::RunningZone;
 /// One who looks at a server while it runs, in a thread of its own. If the plan hands entries out,
 /// one of those who look takes them.
 pub trait Watcher: Drop {
-    /// Looks at a zone until it is served no longer, or for as long as it wants. The server ends only
-    /// after that.
+    /// Looks at a zone until it is served no longer, or for as long as it wants. The server ends
+    /// only after that.
     fn watch<Z: RunningZone + RunningHistory>(self, zone: &Z);
 }
 

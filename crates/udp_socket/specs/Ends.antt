@@ -26,7 +26,7 @@ abbrev pub address_of : SocketAddr → Option Address
 address_of (V4 a) = Some (record { ip = ipv4_octets (v4_ip a); port = v4_port a })
 address_of (V6 a) = None
 
--- a datagram of so many octets from this address; nothing, if RAS messages don't have the address
+-- a datagram of this many octets from this address; nothing, if RAS messages don't have the address
 abbrev pub received_from : Option Address → ℕ → Received
 received_from (Some source) octets = Datagram source octets
 received_from None octets = Quiet

@@ -82,7 +82,7 @@ impl<'a, S: Stop> SocketEnd<'a, S> {
         }
     }
 
-    /// What a send of so many octets answers, by what the system's call gave.
+    /// What a send of `octets` octets answers, by what the system's call gave.
     fn after_send(&mut self, answer: io::Result<usize>, octets: usize) -> Result<(), DeviceFault>
         ensures sent { IsOk result ↔ IsOkAnd answer (λ sent. sent ≡ octets) }
         ensures left { self.new.receives ≡ self.old.receives }

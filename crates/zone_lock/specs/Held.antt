@@ -54,8 +54,9 @@ pub record AreCarriedOn (before : Totals) (entries : List Entry) (after : Totals
 -- state in which the zone was locked to the one in which the book began: as many as the place of
 -- its first entry says, with the totals that were carried. The book leads on from there to the
 -- state of the zone; if a copy of the state in which it began is kept, it is that state, and steps
--- are recorded. If there was no step before the book, it began in the state in which the zone was locked; otherwise what
--- was in use where it began follows from the totals before it, and the settings are the same.
+-- are recorded. If there was no step before the book, it began in the state in which the zone was
+-- locked; otherwise what was in use where it began follows from the totals before it, and the
+-- settings are the same.
 pub record IsKept (opened : State) (h : Held) : Type 0 where
   pub past : List Entry
   pub began : State
@@ -211,8 +212,8 @@ pub record IsBookUnderLock (opened : State) (base : Option State) (entries : Lis
   pub base_is : base ≡ held.base
   pub entries_are : entries ≡ held.entries
 
--- entries that left the lock: the book that was there, with the place of its first entry, and whether
--- further steps are recorded
+-- entries that left the lock: the book that was there, with the place of its first entry, and
+-- whether further steps are recorded
 pub record IsHandedOutUnderLock (opened : State) (first : ℕ) (entries : List Entry)
     (is_recorded : Bool) : Type 0 where
   pub held : Held

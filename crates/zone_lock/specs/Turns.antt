@@ -60,7 +60,7 @@ IsEndOf end.More most outcomes new = AreBusy outcomes × (length outcomes ≡ mo
 IsEndOf (end.Refused why) most outcomes new = AreBusy outcomes
     × ((why ≡ fault.Closed) ↔ (new.zone.state.steps ≡ most_steps))
 
--- Turns of a seat, at most so many, with what they send and why there are no more. What is counted
+-- Turns of a seat, at most `most`, with what they send and why there are no more. What is counted
 -- of them is added to the counts.
 pub record AreTurnsMade (opened : State) (seat : Seated) (moment most : ℕ) (old : Held)
     (sent : List Datagram) (why : TurnsEnd) (new : Held) (seat_then : Seated)

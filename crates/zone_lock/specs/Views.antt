@@ -53,12 +53,13 @@ abbrev pub row_in : Tables → Registration → EndpointRow
 row_in tables registration =
     endpoint_row registration (legs_of tables.calls registration.identifier)
 
--- the rows of what has numbers below this place, from the highest one down to that of the next place
+-- the rows of what has numbers below this place, from the highest one down to that of the next
+-- place
 abbrev pub rows_below : {X Y : Type 0} → (X → Y) → List X → ℕ → ℕ → List Y
 rows_below row order place next = reverse (map row (drop next (take place order)))
 
--- These are rows of endpoints below this place, and the others stand below the next place. The table
--- numbers each endpoint once.
+-- These are rows of endpoints below this place, and the others stand below the next place. The
+-- table numbers each endpoint once.
 pub record AreEndpointRowsBelow (tables : Tables) (place : ℕ) (rows : List EndpointRow) (next : ℕ)
     : Type 0 where
   pub table : Registry

@@ -3,8 +3,8 @@
 //! the ledgers add up to what the history has. What was done can be taken out in chapters, or let
 //! go.
 //!
-//! proved: all steps under it are a run to the zone (`Locked`, `ZoneLock::finish`); figures and rows
-//! are of one moment (`figures`)
+//! proved: all steps under it are a run to the zone (`Locked`, `ZoneLock::finish`); figures and
+//! rows are of one moment (`figures`)
 //! tested: threads, fresh lists
 #![tactic(auto)]
 

@@ -197,11 +197,11 @@ impl<P: Pool, D: Hall, T: Ledger, U: Ledger, V: Ledger> ZoneLock<P, D, T, U, V> 
     }
 
     /// Waits for the lock and makes one step. Its outcome is made where the caller wants it.
-    /// Nothing else tells of the step, unless steps are recorded: then it is, as `step_locked` does.
-    /// After a refusal what stands in place of the outcome means nothing.
+    /// Nothing else tells of the step, unless steps are recorded: then it is, as `step_locked`
+    /// does. After a refusal what stands in place of the outcome means nothing.
     ///
-    /// promise waiting-unrecorded-step-is-one-step: The same by whoever waits for the lock
-    /// (`IsMadeUnderLock`).
+    /// promise waiting-unrecorded-step-is-one-step: It is one step of this lock's zone, as by
+    /// `step_locked` (`IsMadeUnderLock`).
     pub fn step<R: Wait>(
         &self,
         rt: &R,
@@ -220,13 +220,13 @@ impl<P: Pool, D: Hall, T: Ledger, U: Ledger, V: Ledger> ZoneLock<P, D, T, U, V> 
         step_locked(&mut *self.inner.lock(rt), seat, prepared, outcome)
     }
 
-    /// Waits for the lock and makes turns at this moment, at most so many before it is free again,
+    /// Waits for the lock and makes turns at this moment, at most `most` before it is free again,
     /// as `turns_locked` does. What they send is put into `replies` in order, which has none yet,
-    /// and room for all. What is counted of them is added to the counts. Each is one step, as `step`
-    /// makes it. What stands in place of the outcome afterwards means nothing.
+    /// and room for all. What is counted of them is added to the counts. Each is one step, as
+    /// `step` makes it. What stands in place of the outcome afterwards means nothing.
     ///
-    /// promise waiting-turns-follow-one-another: The same by whoever waits for the lock
-    /// (`AreTurnsUnderLock`).
+    /// promise waiting-turns-follow-one-another: They are turns of this lock's zone, as by
+    /// `turns_locked` (`AreTurnsUnderLock`).
     pub fn turns<R: Wait>(
         &self,
         rt: &R,
@@ -258,8 +258,8 @@ impl<P: Pool, D: Hall, T: Ledger, U: Ledger, V: Ledger> ZoneLock<P, D, T, U, V> 
     /// as `replace_locked` does. The old pool comes back with nothing lent; or nothing changes, and
     /// the fresh pool comes back.
     ///
-    /// promise waiting-replacement-is-one-step: The same by whoever waits for the lock
-    /// (`IsReplacedUnderLock`, `IsRefusedUnderLock`).
+    /// promise waiting-replacement-is-one-step: A pool of this lock's zone is replaced or not, as
+    /// by `replace_locked` (`IsReplacedUnderLock`, `IsRefusedUnderLock`).
     pub fn replace<R: Wait>(
         &self,
         rt: &R,
@@ -389,7 +389,7 @@ impl<P: Pool, D: Hall, T: Ledger, U: Ledger, V: Ledger> ZoneLock<P, D, T, U, V> 
     ///
     /// promise history-under-the-lock-is-a-run: All steps are a run to the zone, and the seats'
     /// shares add up to its totals; refused if and only if seats are missing, which come back with
-    /// the lock (`IsWholeHistory`, `IsLedInUse`, `HavePartForEach`).
+    /// the lock (`IsWholeHistory`, `IsLedInUse`).
     pub fn finish(
         self,
         seats: Vec<Seat<D, T, U, V>>,

@@ -21,8 +21,8 @@ use std::sync::ledger::Ledger;
 use zone_tables::ZoneTables;
 use zone_view::{CallRow, EndpointRow, ShownAliases, ZoneFigures};
 
-/// The figures of the locked zone. Those of its pools are put into `pools`, in order, which has none
-/// yet, and room for 16.
+/// The figures of the locked zone. Those of its pools are put into `pools`, in order, which has
+/// none yet, and room for 16.
 pub fn figures_locked<P: Pool, D: Hall, T: Ledger, U: Ledger, V: Ledger>(
     locked: &Locked<P, D, T, U, V>,
     pools: &mut Vec<Figures>,
@@ -55,8 +55,8 @@ fn figures_of_zone<P: Pool>(zone: &Zone<P>, pools: &mut Vec<Figures>) -> ZoneFig
 }
 
 /// Puts rows of endpoints of the locked zone at places below this one into `rows`, which has none
-/// yet, by falling places: as many as there is room for. Returns the place below which the next ones
-/// stand; 0 if there are none.
+/// yet, by falling places: as many as there is room for. Returns the place below which the next
+/// ones stand; 0 if there are none.
 pub fn endpoints_locked<P: Pool, D: Hall, T: Ledger, U: Ledger, V: Ledger>(
     locked: &Locked<P, D, T, U, V>,
     place: usize,
@@ -64,8 +64,7 @@ pub fn endpoints_locked<P: Pool, D: Hall, T: Ledger, U: Ledger, V: Ledger>(
 ) -> usize
     requires empty { rows.old.items ≡ [] }
     ensures rows { All (IsEndpointRow locked.now.zone.state.tables) rows.new.items }
-    ensures by_place {
-        AreEndpointRowsBelow locked.now.zone.state.tables place rows.new.items result }
+    ensures by_place { AreEndpointRowsBelow locked.now.zone.state.tables place rows.new.items result }
     ensures count { length rows.new.items + result
         ≡ min place (map.len locked.now.zone.state.tables.live) }
     ensures full { 0 < result → vec_len rows.new ≡ vec_capacity rows.new }
@@ -129,8 +128,7 @@ pub fn calls_locked<P: Pool, D: Hall, T: Ledger, U: Ledger, V: Ledger>(
 ) -> usize
     requires empty { rows.old.items ≡ [] }
     ensures rows { All (IsCallRow locked.now.zone.state.tables) rows.new.items }
-    ensures by_place {
-        AreCallRowsBelow locked.now.zone.state.tables place rows.new.items result }
+    ensures by_place { AreCallRowsBelow locked.now.zone.state.tables place rows.new.items result }
     ensures count { length rows.new.items + result
         ≡ min place (map.len locked.now.zone.state.tables.calls) }
     ensures full { 0 < result → vec_len rows.new ≡ vec_capacity rows.new }

@@ -20,11 +20,11 @@ const MOST_WAITING: usize = 65_536;
 
 /// Makes one step of the locked zone, or changes nothing. Its outcome is made where the caller
 /// wants it. Nothing else tells of the step: neither its event nor its outcome is copied, and the
-/// entries so far are let go; their totals and its own are carried. But if steps are recorded, since
-/// a chapter can be cut or somebody takes the entries, it is recorded as `apply_locked` does it. If
-/// 65,536 entries wait to be taken, neither it nor any further step is. It is refused as Closed if
-/// and only if 2^62 steps were made. After a refusal what stands in place of the outcome means
-/// nothing.
+/// entries so far are let go; their totals and its own are carried. But if steps are recorded,
+/// since a chapter can be cut or somebody takes the entries, it is recorded as `apply_locked` does
+/// it. If 65,536 entries wait to be taken, neither it nor any further step is. It is refused as
+/// Closed if and only if 2^62 steps were made. After a refusal what stands in place of the outcome
+/// means nothing.
 ///
 /// promise unrecorded-step-is-in-the-history: The history grows by the step's entry, which stands
 /// in no memory unless steps are recorded; at an error nothing changes (`IsEntered`, `goes_on`).

@@ -28,7 +28,7 @@ pub enum TurnsEnd {
 }
 
 /// Makes turns of the locked zone at this moment, each as `step_locked` makes a step, until nothing
-/// is due, until so many were made, or until one is refused, which changes nothing. What they send
+/// is due, until `most` were made, or until one is refused, which changes nothing. What they send
 /// is put into `replies` in order, which has none yet, and room for all. What is counted of them is
 /// added to the counts. What stands in place of the outcome afterwards means nothing.
 ///
@@ -64,8 +64,8 @@ pub fn turns_locked<P: Pool, D: Hall, T: Ledger, U: Ledger, V: Ledger>(
     TurnsEnd::More
 }
 
-/// Takes what a turn sends out of its outcome, and puts it behind the other replies, for which there
-/// is room.
+/// Takes what a turn sends out of its outcome, and puts it behind the other replies, for which
+/// there is room.
 fn put_reply(outcome: &mut Outcome, replies: &mut Vec<Datagram>)
     requires { vec_len replies.old < vec_capacity replies.old }
     ensures put { replies.new.items ≡ replies.old.items ++ option_to_list outcome.old.output }

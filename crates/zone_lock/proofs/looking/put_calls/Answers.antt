@@ -35,7 +35,7 @@ loop-left-preserved c =
     subst (λ o. IfSome o (λ it. fin.get calls.calls it.0.now ≡ Some it.1.now)) c.unwrap.ensures
     c.nth.ensures.call in
     let is_open : fin.get tables.calls key ≡ Some call =
-    subst (λ (open : OpenCalls). fin.get open key ≡ Some call) c.calls-calls.ensures in_table in
+    subst (λ (m : OpenCalls). fin.get m key ≡ Some call) c.calls-calls.ensures in_table in
     let row_is : row ≡ call_row_of (key, call) =
     ap (λ (first : List ℕ). row_with first c.second_of-second.result) c.first_of-first.ensures
     ∙ ap (row_with (first_of call.legs)) c.second_of-second.ensures in
