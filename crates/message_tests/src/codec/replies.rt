@@ -246,6 +246,6 @@ fn the_longest_reply(rt: HostRuntime) -> Result<(), Fail> {
     let reply = longest_confirm(rt.alloc())?;
     let length = length(rt.alloc(), &reply);
     drop(reply);
-    assert_eq!(rt; length?, 19 + 1 + 32 * 514 + 2 * 257 + 10);
+    assert!(rt; length? == 19 + 1 + 32 * 514 + 2 * 257 + 10);
     Ok(())
 }
