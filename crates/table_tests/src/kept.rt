@@ -264,8 +264,8 @@ fn a_reply_is_found_until_it_is_dropped(rt: HostRuntime) -> Result<(), Fail> {
 
 #[test]
 fn faults_have_their_numbers(rt: HostRuntime) {
-    assert_eq!(rt; ReserveFault::Busy.number(), 1);
-    assert_eq!(rt; ReserveFault::Memory.number(), 2);
+    assert!(rt; ReserveFault::Busy.number() == 1);
+    assert!(rt; ReserveFault::Memory.number() == 2);
 }
 
 /// Keeps a reply in place of another, which needs no further place. The birth of the other is free
@@ -501,7 +501,7 @@ fn datagrams_of_one_source_are_hashed_apart(rt: HostRuntime) -> Result<(), Fail>
     let second = hash_of(&key(rt.alloc(), 2)?);
     let first_again = hash_of(&key(rt.alloc(), 1)?);
     assert!(rt; first != second, "two datagrams are hashed apart");
-    assert_eq!(rt; first, first_again, "one datagram is hashed alike");
+    assert!(rt; first == first_again, "one datagram is hashed alike");
     Ok(())
 }
 

@@ -46,7 +46,7 @@ fn changes_of_moments_ask_for_no_memory(rt: HostRuntime) -> Result<(), Fail> {
     let second = mark(rt.alloc());
     drop(deadlines);
     ended?;
-    assert_eq!(rt; first?.capacity(), second?.capacity());
+    assert!(rt; first?.capacity() == second?.capacity());
     Ok(())
 }
 
@@ -135,7 +135,7 @@ fn changes_of_an_endpoint_ask_for_no_memory(rt: HostRuntime) -> Result<(), Fail>
     let second = mark(rt.alloc());
     drop(table);
     ended?;
-    assert_eq!(rt; first?.capacity(), second?.capacity());
+    assert!(rt; first?.capacity() == second?.capacity());
     Ok(())
 }
 
@@ -185,7 +185,7 @@ fn changes_of_a_call_ask_for_no_memory(rt: HostRuntime) -> Result<(), Fail> {
     let second = mark(rt.alloc());
     drop(calls);
     ended?;
-    assert_eq!(rt; first?.capacity(), second?.capacity());
+    assert!(rt; first?.capacity() == second?.capacity());
     Ok(())
 }
 
@@ -232,6 +232,6 @@ fn a_reply_is_kept_and_goes_without_memory(rt: HostRuntime) -> Result<(), Fail> 
     drop(kept);
     began?;
     ended?;
-    assert_eq!(rt; first?.capacity(), second?.capacity());
+    assert!(rt; first?.capacity() == second?.capacity());
     Ok(())
 }

@@ -24,7 +24,7 @@ fn a_record_is_audited_up_to_where_it_is_cut_off(rt: HostRuntime) -> Result<(), 
     for length in 0..text.len() + 1 {
         let front = &text[..length];
         let report = audit_record(rt.alloc(), &mut Input::new(front));
-        assert_eq!(rt; report, Ok(of_front(front)), "{length}");
+        assert!(rt; report == Ok(of_front(front)), "{length}");
     }
     Ok(())
 }
@@ -72,7 +72,7 @@ fn a_record_comes_in_pieces(rt: HostRuntime) -> Result<(), Fail> {
     let text = record(rt.alloc())?;
     for most in [1, 2, 7, 100, 5_000] {
         let report = audited_in_pieces(rt.alloc(), &text, most, 0);
-        assert_eq!(rt; report, Ok(of_front(&text)), "{most}");
+        assert!(rt; report == Ok(of_front(&text)), "{most}");
     }
     Ok(())
 }
@@ -82,7 +82,7 @@ fn a_read_fails_in_midway(rt: HostRuntime) -> Result<(), Fail> {
     let text = record(rt.alloc())?;
     for failing in [1, 2, 5, 9] {
         let report = audited_in_pieces(rt.alloc(), &text, 100, failing);
-        assert_eq!(rt; report, Err(AuditFault::Stream), "{failing}");
+        assert!(rt; report == Err(AuditFault::Stream), "{failing}");
     }
     Ok(())
 }
@@ -104,20 +104,20 @@ fn a_line_has_so_many_octets_at_most(rt: HostRuntime) -> Result<(), Fail> {
         lines: 19,
         is_cut_off: true,
     };
-    assert_eq!(rt; report, Ok(audited));
+    assert!(rt; report == Ok(audited));
     text.push(b'\n')?;
     let report = audit_record(rt.alloc(), &mut Input::new(text.as_slice()));
     audited.lines = 20;
     audited.is_cut_off = false;
-    assert_eq!(rt; report, Ok(audited));
+    assert!(rt; report == Ok(audited));
     // (it is told before its end comes)
     let mut text = with_remark(rt.alloc(), MOST_OCTETS + 1)?;
     let too_long = Err(AuditFault::Line(20, LineFault::NotUnderstood));
     let report = audit_record(rt.alloc(), &mut Input::new(text.as_slice()));
-    assert_eq!(rt; report, too_long);
+    assert!(rt; report == too_long);
     text.push(b'\n')?;
     let report = audit_record(rt.alloc(), &mut Input::new(text.as_slice()));
-    assert_eq!(rt; report, too_long);
+    assert!(rt; report == too_long);
     Ok(())
 }
 
@@ -144,7 +144,7 @@ fn faults_have_texts(rt: HostRuntime) -> Result<(), Fail> {
         (AuditFault::TooLong, "input too long"),
         (AuditFault::Stream, "stream failed"),
     ] {
-        assert_eq!(rt; format!(in rt.alloc(); "{fault}")?.as_str(), text);
+        assert!(rt; format!(in rt.alloc(); "{fault}")?.as_str() == text);
     }
     Ok(())
 }

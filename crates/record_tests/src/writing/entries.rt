@@ -38,11 +38,11 @@ fn entries_are_the_steps(rt: HostRuntime) -> Result<(), Fail> {
     for at in 0..=STEPS {
         let mut record = empty_record(rt.alloc())?;
         let (mut first, mut rest) = parted(rt.alloc(), at)?;
-        assert_eq!(rt; record.write_entries(&mut first)?, Recorded::Written);
-        assert_eq!(rt; record.write_entries(&mut rest)?, Recorded::Written);
+        assert!(rt; record.write_entries(&mut first)? == Recorded::Written);
+        assert!(rt; record.write_entries(&mut rest)? == Recorded::Written);
         assert!(rt; first.is_empty() && rest.is_empty());
-        assert_eq!(rt; record.steps(), STEPS as u64);
-        assert_eq!(rt; record.into_output().into_writer(), whole);
+        assert!(rt; record.steps() == (STEPS as u64));
+        assert!(rt; record.into_output().into_writer() == whole);
     }
     Ok(())
 }
@@ -54,7 +54,7 @@ fn memory_of_entries_stays(rt: HostRuntime) -> Result<(), Fail> {
     let capacity = entries.capacity();
     record.write_entries(&mut entries)?;
     assert!(rt; capacity >= STEPS);
-    assert_eq!(rt; entries.capacity(), capacity);
+    assert!(rt; entries.capacity() == capacity);
     Ok(())
 }
 
@@ -85,16 +85,16 @@ fn a_record_ends_where_a_pool_is_replaced(rt: HostRuntime) -> Result<(), Fail> {
     entries.push(replacement(3))?;
     entries.append(&mut rest)?;
     let answer = record.write_entries(&mut entries)?;
-    assert_eq!(rt; answer, Recorded::Ended(End::PoolReplaced));
+    assert!(rt; answer == Recorded::Ended(End::PoolReplaced));
     assert!(rt; entries.is_empty() && !record.is_open());
     let mut more = entries_of_call(rt.alloc())?;
-    assert_eq!(rt; record.write_entries(&mut more)?, Recorded::Closed);
+    assert!(rt; record.write_entries(&mut more)? == Recorded::Closed);
     assert!(rt; more.is_empty());
-    assert_eq!(rt; record.steps(), 3);
+    assert!(rt; record.steps() == 3);
     let text = record.into_output().into_writer();
     let last = b"\n# the record ends here: it has 3 steps, and the next one replaces a pool\n";
     assert!(rt; text.ends_with(last));
-    assert_eq!(rt; audited(rt.alloc(), &text)?.steps, 3);
+    assert!(rt; audited(rt.alloc(), &text)?.steps == 3);
     Ok(())
 }
 
@@ -103,8 +103,8 @@ fn a_record_ends_where_too_many_wait(rt: HostRuntime) -> Result<(), Fail> {
     let mut record = empty_record(rt.alloc())?;
     let mut entries = entries_of_call(rt.alloc())?;
     record.write_entries(&mut entries)?;
-    assert_eq!(rt; record.end(End::Overrun)?, Recorded::Ended(End::Overrun));
-    assert_eq!(rt; record.end(End::Overrun)?, Recorded::Closed);
+    assert!(rt; record.end(End::Overrun)? == Recorded::Ended(End::Overrun));
+    assert!(rt; record.end(End::Overrun)? == Recorded::Closed);
     let text = record.into_output().into_writer();
     let last =
         b"\n# the record ends here: it has 7 steps, and too many others waited to be written\n";
@@ -124,8 +124,11 @@ fn entries_end_at_the_bound(rt: HostRuntime) -> Result<(), Fail> {
         let mut entries = entries_of_call(rt.alloc())?;
         let answer = record.write_entries(&mut entries)?;
         let full = call.count(Some(Recorded::Ended(End::Full)));
-        assert_eq!(rt; answer == Recorded::Ended(End::Full), full == 1, "{most}");
-        assert_eq!(rt; record.into_output().into_writer(), same, "{most}");
+        assert!(rt;
+            (answer == Recorded::Ended(End::Full)) == (full == 1),
+            "{most}"
+        );
+        assert!(rt; record.into_output().into_writer() == same, "{most}");
     }
     Ok(())
 }
@@ -169,6 +172,6 @@ fn a_flush_that_fails_closes(rt: HostRuntime) -> Result<(), Fail> {
     assert!(rt; record.is_open() && record.flush().is_err());
     assert!(rt; !record.is_open());
     let mut entries = entries_of_call(rt.alloc())?;
-    assert_eq!(rt; record.write_entries(&mut entries)?, Recorded::Closed);
+    assert!(rt; record.write_entries(&mut entries)? == Recorded::Closed);
     Ok(())
 }

@@ -8,14 +8,14 @@ use std::test::Fail;
 fn ring_of_two(rt: HostRuntime) -> Result<(), Fail> {
     let alloc = rt.alloc();
     let (mut outlet, mut inlet) = ring(alloc, 2)?;
-    assert_eq!(rt; outlet.offer(datagram(alloc, 1)?), Ok(()));
-    assert_eq!(rt; outlet.offer(datagram(alloc, 2)?), Ok(()));
+    assert!(rt; outlet.offer(datagram(alloc, 1)?) == Ok(()));
+    assert!(rt; outlet.offer(datagram(alloc, 2)?) == Ok(()));
     let mark = outlet.end();
     assert!(rt; mark.is_some());
-    assert_eq!(rt; inlet.take(), Some(datagram(alloc, 1)?));
-    assert_eq!(rt; inlet.take(), Some(datagram(alloc, 2)?));
-    assert_eq!(rt; inlet.take(), None);
-    assert_eq!(rt; inlet.settle(mark), Settled::Whole { taken: 2 });
+    assert!(rt; inlet.take() == Some(datagram(alloc, 1)?));
+    assert!(rt; inlet.take() == Some(datagram(alloc, 2)?));
+    assert!(rt; inlet.take() == None);
+    assert!(rt; inlet.settle(mark) == Settled::Whole { taken: 2 });
     Ok(())
 }
 
@@ -23,13 +23,13 @@ fn ring_of_two(rt: HostRuntime) -> Result<(), Fail> {
 fn a_full_ring_hands_back(rt: HostRuntime) -> Result<(), Fail> {
     let alloc = rt.alloc();
     let (mut outlet, mut inlet) = ring(alloc, 1)?;
-    assert_eq!(rt; outlet.offer(datagram(alloc, 1)?), Ok(()));
+    assert!(rt; outlet.offer(datagram(alloc, 1)?) == Ok(()));
     let back = outlet.offer(datagram(alloc, 2)?);
-    assert_eq!(rt; back, Err(datagram(alloc, 2)?));
-    assert_eq!(rt; inlet.take(), Some(datagram(alloc, 1)?));
-    assert_eq!(rt; outlet.offer(datagram(alloc, 2)?), Ok(()));
-    assert_eq!(rt; inlet.take(), Some(datagram(alloc, 2)?));
-    assert_eq!(rt; inlet.take(), None);
+    assert!(rt; back == Err(datagram(alloc, 2)?));
+    assert!(rt; inlet.take() == Some(datagram(alloc, 1)?));
+    assert!(rt; outlet.offer(datagram(alloc, 2)?) == Ok(()));
+    assert!(rt; inlet.take() == Some(datagram(alloc, 2)?));
+    assert!(rt; inlet.take() == None);
     Ok(())
 }
 
@@ -37,9 +37,9 @@ fn a_full_ring_hands_back(rt: HostRuntime) -> Result<(), Fail> {
 fn without_a_mark_a_ring_is_unknown(rt: HostRuntime) -> Result<(), Fail> {
     let alloc = rt.alloc();
     let (mut outlet, mut inlet) = ring(alloc, 2)?;
-    assert_eq!(rt; outlet.offer(datagram(alloc, 1)?), Ok(()));
-    assert_eq!(rt; inlet.take(), Some(datagram(alloc, 1)?));
-    assert_eq!(rt; inlet.settle(None), Settled::Unknown);
+    assert!(rt; outlet.offer(datagram(alloc, 1)?) == Ok(()));
+    assert!(rt; inlet.take() == Some(datagram(alloc, 1)?));
+    assert!(rt; inlet.settle(None) == Settled::Unknown);
     Ok(())
 }
 
@@ -47,18 +47,18 @@ fn without_a_mark_a_ring_is_unknown(rt: HostRuntime) -> Result<(), Fail> {
 fn with_a_datagram_left_a_ring_is_unknown(rt: HostRuntime) -> Result<(), Fail> {
     let alloc = rt.alloc();
     let (mut outlet, mut inlet) = ring(alloc, 2)?;
-    assert_eq!(rt; outlet.offer(datagram(alloc, 1)?), Ok(()));
-    assert_eq!(rt; outlet.offer(datagram(alloc, 2)?), Ok(()));
-    assert_eq!(rt; inlet.take(), Some(datagram(alloc, 1)?));
+    assert!(rt; outlet.offer(datagram(alloc, 1)?) == Ok(()));
+    assert!(rt; outlet.offer(datagram(alloc, 2)?) == Ok(()));
+    assert!(rt; inlet.take() == Some(datagram(alloc, 1)?));
     let mark = outlet.end();
-    assert_eq!(rt; inlet.settle(mark), Settled::Unknown);
+    assert!(rt; inlet.settle(mark) == Settled::Unknown);
     Ok(())
 }
 
 #[test]
 fn an_unused_ring_is_whole(rt: HostRuntime) -> Result<(), Fail> {
     let (outlet, inlet) = ring(rt.alloc(), 4096)?;
-    assert_eq!(rt; inlet.settle(outlet.end()), Settled::Whole { taken: 0 });
+    assert!(rt; inlet.settle(outlet.end()) == Settled::Whole { taken: 0 });
     Ok(())
 }
 

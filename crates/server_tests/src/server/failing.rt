@@ -251,12 +251,12 @@ fn fail_sends<R: Threads + Wait + Clock + Sync>(
 #[test]
 fn each_receive_fails_in_turn(rt: HostRuntime) {
     // Three give a datagram, and the fourth one tells that the end has stopped.
-    assert_eq!(rt; fail_receives(&rt, rt.alloc()), Ok(4));
+    assert!(rt; fail_receives(&rt, rt.alloc()) == Ok(4));
 }
 
 #[test]
 fn each_send_fails_in_turn(rt: HostRuntime) {
-    assert_eq!(rt; fail_sends(&rt, rt.alloc()), Ok(3));
+    assert!(rt; fail_sends(&rt, rt.alloc()) == Ok(3));
 }
 
 /// The counts of a report but for its turns.

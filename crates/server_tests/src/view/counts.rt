@@ -41,13 +41,10 @@ fn each_thing_has_a_place_of_its_own(rt: HostRuntime) {
             .iter()
             .all(|it| counts.get(Count::Turn(*it)) == 4)
     );
-    assert_eq!(rt; counts.get(Count::Ignored(IgnoredCause::TooLong)), 5);
-    assert_eq!(rt; counts.get(Count::Ignored(IgnoredCause::Busy)), 0);
-    assert_eq!(rt;
-        counts.get(Count::Ignored(IgnoredCause::UnknownEndpoint)),
-        6
-    );
-    assert_eq!(rt; counts.get(Count::Repeat), 7);
+    assert!(rt; counts.get(Count::Ignored(IgnoredCause::TooLong)) == 5);
+    assert!(rt; counts.get(Count::Ignored(IgnoredCause::Busy)) == 0);
+    assert!(rt; counts.get(Count::Ignored(IgnoredCause::UnknownEndpoint)) == 6);
+    assert!(rt; counts.get(Count::Repeat) == 7);
 }
 
 #[test]
@@ -56,10 +53,10 @@ fn a_step_adds_one_to_each_of_its_counts(rt: HostRuntime) {
     counts.add_step(&StepCounts::of(Some(0x27), &Outcome::noted(Note::Kept, None)));
     let due = Note::Done(DueItem::PoolTurn);
     counts.add_step(&StepCounts::of(None, &Outcome::noted(due, None)));
-    assert_eq!(rt; counts.get(Count::Request(RequestKind::Arq)), 1);
-    assert_eq!(rt; counts.get(Count::Repeat), 1);
-    assert_eq!(rt; counts.get(Count::Turn(TurnDeed::PoolTurn)), 1);
-    assert_eq!(rt; counts.get(Count::Turn(TurnDeed::Idle)), 0);
+    assert!(rt; counts.get(Count::Request(RequestKind::Arq)) == 1);
+    assert!(rt; counts.get(Count::Repeat) == 1);
+    assert!(rt; counts.get(Count::Turn(TurnDeed::PoolTurn)) == 1);
+    assert!(rt; counts.get(Count::Turn(TurnDeed::Idle)) == 0);
 }
 
 #[test]
@@ -67,5 +64,5 @@ fn a_count_that_is_as_high_as_it_can_be_stays_there(rt: HostRuntime) {
     let mut counts = Counts::none();
     counts.add(Count::Repeat, u64::MAX);
     counts.add(Count::Repeat, 1);
-    assert_eq!(rt; counts.get(Count::Repeat), u64::MAX);
+    assert!(rt; counts.get(Count::Repeat) == u64::MAX);
 }

@@ -98,31 +98,31 @@ fn noting(first: u8, note: Note) -> StepCounts {
 // of its fields behind (H.225.0).
 #[test]
 fn a_request_that_was_read_is_counted_by_its_kind(rt: HostRuntime) {
-    assert_eq!(rt; noting(0x00, Note::Served).request, Some(RequestKind::Grq));
-    assert_eq!(rt; noting(0x0E, Note::Served).request, Some(RequestKind::Rrq));
-    assert_eq!(rt; noting(0x19, Note::Served).request, Some(RequestKind::Urq));
-    assert_eq!(rt; noting(0x27, Note::Kept).request, Some(RequestKind::Arq));
-    assert_eq!(rt; noting(0x30, Note::Served).request, Some(RequestKind::Brq));
-    assert_eq!(rt; noting(0x3E, Note::Served).request, Some(RequestKind::Drq));
-    assert_eq!(rt; noting(0x58, Note::Served).request, Some(RequestKind::Irr));
+    assert!(rt; noting(0x00, Note::Served).request == Some(RequestKind::Grq));
+    assert!(rt; noting(0x0E, Note::Served).request == Some(RequestKind::Rrq));
+    assert!(rt; noting(0x19, Note::Served).request == Some(RequestKind::Urq));
+    assert!(rt; noting(0x27, Note::Kept).request == Some(RequestKind::Arq));
+    assert!(rt; noting(0x30, Note::Served).request == Some(RequestKind::Brq));
+    assert!(rt; noting(0x3E, Note::Served).request == Some(RequestKind::Drq));
+    assert!(rt; noting(0x58, Note::Served).request == Some(RequestKind::Irr));
     let busy = noting(0x27, Note::Ignored(IgnoredCause::Busy));
-    assert_eq!(rt; busy.request, Some(RequestKind::Arq));
+    assert!(rt; busy.request == Some(RequestKind::Arq));
     let unreadable = noting(0x27, Note::Ignored(IgnoredCause::Unreadable));
-    assert_eq!(rt; unreadable.request, None);
-    assert_eq!(rt; unreadable.ignored, Some(IgnoredCause::Unreadable));
+    assert!(rt; unreadable.request == None);
+    assert!(rt; unreadable.ignored == Some(IgnoredCause::Unreadable));
 }
 
 #[test]
 fn turns_repeats_and_answers_are_counted(rt: HostRuntime) {
     let turn = StepCounts::of(None, &Outcome::noted(Note::Done(DueItem::PoolTurn), None));
-    assert_eq!(rt; turn.turn, Some(TurnDeed::PoolTurn));
+    assert!(rt; turn.turn == Some(TurnDeed::PoolTurn));
     let idle = StepCounts::of(None, &Outcome::noted(Note::Idle, None));
-    assert_eq!(rt; idle.turn, Some(TurnDeed::Idle));
+    assert!(rt; idle.turn == Some(TurnDeed::Idle));
     assert!(rt; noting(0x00, Note::Kept).is_repeat);
     assert!(rt; !noting(0x00, Note::Served).is_repeat);
     let mut asked = Outcome::noted(Note::Served, None);
     asked.answer = Some(Lend::Lent(5));
-    assert_eq!(rt; StepCounts::of(None, &asked).answer, Some(Answer::Lent));
+    assert!(rt; StepCounts::of(None, &asked).answer == Some(Answer::Lent));
     asked.answer = Some(Lend::Wait);
-    assert_eq!(rt; StepCounts::of(None, &asked).answer, Some(Answer::Wait));
+    assert!(rt; StepCounts::of(None, &asked).answer == Some(Answer::Wait));
 }

@@ -53,14 +53,8 @@ fn the_worked_example_is_read(rt: HostRuntime) -> Result<(), Fail> {
     drop(text);
     compared?;
     let kind = ZONE_WITH_A_TEXT_FOR_THE_LIMIT;
-    assert_eq!(rt;
-        fault_of(rt.alloc(), ZONE),
-        Some(SettingsFault::NoDefaultPool)
-    );
-    assert_eq!(rt;
-        fault_of(rt.alloc(), kind),
-        Some(SettingsFault::WrongKind("pool.limit"))
-    );
+    assert!(rt; fault_of(rt.alloc(), ZONE) == Some(SettingsFault::NoDefaultPool));
+    assert!(rt; fault_of(rt.alloc(), kind) == Some(SettingsFault::WrongKind("pool.limit")));
     Ok(())
 }
 
@@ -138,7 +132,7 @@ fn the_first_key_of_the_zone_that_fails_is_named(rt: HostRuntime) -> Result<(), 
     let bad_pool = "[[pool]]\nkind = 1\n";
     for (place, (zone, fault)) in BAD_ZONES.iter().enumerate() {
         let found = fault_of_parts(rt.alloc(), [*zone, bad_pool, ""])?;
-        assert_eq!(rt; found, Some(*fault), "{place}");
+        assert!(rt; found == Some(*fault), "{place}");
     }
     Ok(())
 }
@@ -219,7 +213,7 @@ const BAD_POOLS: [(&str, SettingsFault); 20] = [
 fn the_first_key_of_a_pool_that_fails_is_named(rt: HostRuntime) -> Result<(), Fail> {
     for (place, (pools, fault)) in BAD_POOLS.iter().enumerate() {
         let found = fault_of_parts(rt.alloc(), [ZONE, *pools, ""])?;
-        assert_eq!(rt; found, Some(*fault), "{place}");
+        assert!(rt; found == Some(*fault), "{place}");
     }
     Ok(())
 }
@@ -247,15 +241,12 @@ fn fault_with_pools(
 fn a_17th_pool_is_refused_behind_sixteen_that_are_right(rt: HostRuntime) -> Result<(), Fail> {
     let alloc = rt.alloc();
     let outside = Some(SettingsFault::OutOfRange("pool"));
-    assert_eq!(rt; fault_with_pools(alloc, 16, "")?, None);
-    assert_eq!(rt; fault_with_pools(alloc, 17, "")?, outside);
-    assert_eq!(rt;
-        fault_with_pools(alloc, 16, "[[pool]]\nkind = 1\n")?,
-        outside
-    );
+    assert!(rt; fault_with_pools(alloc, 16, "")? == None);
+    assert!(rt; fault_with_pools(alloc, 17, "")? == outside);
+    assert!(rt; fault_with_pools(alloc, 16, "[[pool]]\nkind = 1\n")? == outside);
     let bad_last = "[[pool]]\nkind = 1\n[[pool]]\n";
     let wrong_kind = Some(SettingsFault::WrongKind("pool.kind"));
-    assert_eq!(rt; fault_with_pools(alloc, 15, bad_last)?, wrong_kind);
+    assert!(rt; fault_with_pools(alloc, 15, bad_last)? == wrong_kind);
     Ok(())
 }
 
@@ -336,8 +327,8 @@ fn fault_of_name(alloc: Global, further: &str) -> Result<Option<SettingsFault>, 
 #[test]
 fn identifiers_have_at_most_128_characters(rt: HostRuntime) -> Result<(), Fail> {
     let outside = Some(SettingsFault::OutOfRange("zone.identifier"));
-    assert_eq!(rt; fault_of_name(rt.alloc(), "")?, None);
-    assert_eq!(rt; fault_of_name(rt.alloc(), "a")?, outside);
+    assert!(rt; fault_of_name(rt.alloc(), "")? == None);
+    assert!(rt; fault_of_name(rt.alloc(), "a")? == outside);
     Ok(())
 }
 
@@ -371,10 +362,7 @@ fn a_text_that_is_no_document_is_told_by_its_place(rt: HostRuntime) -> Result<()
         drop(told_place);
         assert!(rt; is_named && is_placed, "{place}");
     }
-    assert_eq!(rt;
-        fault_of(rt.alloc(), ""),
-        Some(SettingsFault::Missing("zone"))
-    );
+    assert!(rt; fault_of(rt.alloc(), "") == Some(SettingsFault::Missing("zone")));
     Ok(())
 }
 

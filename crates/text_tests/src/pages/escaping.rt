@@ -15,9 +15,8 @@ const HALVES: [u16; 5] = [0xD83D, 0xD83D, 0xDE00, 0xDE00, 0x61];
 fn in_html(rt: HostRuntime) -> Result<(), Fail> {
     let mut text = String::new(rt.alloc());
     html(&mut text, &HARM)?;
-    assert_eq!(rt;
-        text.as_str(),
-        "&lt;script&gt;&quot;&#39;&amp;\\\n\r\u{1}\u{7f}\u{9b}\u{2028}\u{2029}"
+    assert!(rt;
+        text.as_str() == "&lt;script&gt;&quot;&#39;&amp;\\\n\r\u{1}\u{7f}\u{9b}\u{2028}\u{2029}"
     );
     Ok(())
 }
@@ -26,9 +25,8 @@ fn in_html(rt: HostRuntime) -> Result<(), Fail> {
 fn in_json(rt: HostRuntime) -> Result<(), Fail> {
     let mut text = String::new(rt.alloc());
     json_string(&mut text, &HARM)?;
-    assert_eq!(rt;
-        text.as_str(),
-        "\\u003cscript>\\\"'&\\\\\\u000a\\u000d\\u0001\\u007f\\u009b\\u2028\\u2029"
+    assert!(rt;
+        text.as_str() == "\\u003cscript>\\\"'&\\\\\\u000a\\u000d\\u0001\\u007f\\u009b\\u2028\\u2029"
     );
     Ok(())
 }
@@ -37,10 +35,7 @@ fn in_json(rt: HostRuntime) -> Result<(), Fail> {
 fn in_a_label(rt: HostRuntime) -> Result<(), Fail> {
     let mut text = String::new(rt.alloc());
     label(&mut text, &HARM)?;
-    assert_eq!(rt;
-        text.as_str(),
-        "<script>\\\"'&\\\\\\n\r\u{1}\u{7f}\u{9b}\u{2028}\u{2029}"
-    );
+    assert!(rt; text.as_str() == "<script>\\\"'&\\\\\\n\r\u{1}\u{7f}\u{9b}\u{2028}\u{2029}");
     Ok(())
 }
 
@@ -49,13 +44,13 @@ fn halves_and_pairs(rt: HostRuntime) -> Result<(), Fail> {
     let whole = "before \u{FFFD}\u{1F600}\u{FFFD}a";
     let mut text = String::from_str(rt.alloc(), "before ")?;
     html(&mut text, &HALVES)?;
-    assert_eq!(rt; text.as_str(), whole);
+    assert!(rt; text.as_str() == whole);
     let mut text = String::from_str(rt.alloc(), "before ")?;
     json_string(&mut text, &HALVES)?;
-    assert_eq!(rt; text.as_str(), whole);
+    assert!(rt; text.as_str() == whole);
     let mut text = String::from_str(rt.alloc(), "before ")?;
     label(&mut text, &HALVES)?;
-    assert_eq!(rt; text.as_str(), whole);
+    assert!(rt; text.as_str() == whole);
     Ok(())
 }
 
@@ -65,6 +60,6 @@ fn nothing_stays_nothing(rt: HostRuntime) -> Result<(), Fail> {
     html(&mut text, &[])?;
     json_string(&mut text, &[])?;
     label(&mut text, &[])?;
-    assert_eq!(rt; text.as_str(), "");
+    assert!(rt; text.as_str() == "");
     Ok(())
 }

@@ -79,22 +79,22 @@ const ROWS: [(Key, &str, &str, u64, u64, u64); 14] = [
 #[test]
 fn the_keys_stand_in_the_order_of_the_table(rt: HostRuntime) {
     for (place, row) in ROWS.iter().enumerate() {
-        assert_eq!(rt; Key::ALL[place], row.0, "{}", row.1);
+        assert!(rt; Key::ALL[place] == row.0, "{}", row.1);
     }
 }
 
 #[test]
 fn each_key_has_its_row(rt: HostRuntime) {
     for (key, name, path, least, most, default) in ROWS {
-        assert_eq!(rt; key.name(), name);
-        assert_eq!(rt; key.path(), path);
-        assert_eq!(rt; key.least(), least, "{name}");
-        assert_eq!(rt; key.most(), most, "{name}");
-        assert_eq!(rt; key.default(), default, "{name}");
-        assert_eq!(rt; Key::named(name.as_bytes()), Some(key));
+        assert!(rt; key.name() == name);
+        assert!(rt; key.path() == path);
+        assert!(rt; key.least() == least, "{name}");
+        assert!(rt; key.most() == most, "{name}");
+        assert!(rt; key.default() == default, "{name}");
+        assert!(rt; Key::named(name.as_bytes()) == Some(key));
     }
-    assert_eq!(rt; Key::named(b"zone.limit"), None);
-    assert_eq!(rt; Key::named(b"pools"), None);
+    assert!(rt; Key::named(b"zone.limit") == None);
+    assert!(rt; Key::named(b"pools") == None);
 }
 
 #[test]

@@ -40,7 +40,7 @@ fn lines_of_outcomes_are_written_as_they_were_read(rt: HostRuntime) -> Result<()
         "20 replaced 0",
     ] {
         let again = written_again(rt.alloc(), line)?;
-        assert_eq!(rt; again.as_slice(), line.as_bytes());
+        assert!(rt; again.as_slice() == line.as_bytes());
     }
     Ok(())
 }
@@ -99,12 +99,9 @@ fn datagram_line(alloc: Global, octets: &[u8], moment: Moment) -> Result<Vec<u8>
 fn an_event_is_written_as_a_script_has_it(rt: HostRuntime) -> Result<(), Fail> {
     let moment = Moment::new(7).ok_or("a moment")?;
     let line = datagram_line(rt.alloc(), &[0x18, 0xAB], moment)?;
-    assert_eq!(rt;
-        line.as_slice(),
-        b"at 7 from 10.0.0.5:1719 18AB\n".as_slice()
-    );
+    assert!(rt; line.as_slice() == b"at 7 from 10.0.0.5:1719 18AB\n".as_slice());
     let line = line_of(rt.alloc(), &ScriptEvent::Event(Event::Turn(moment)))?;
-    assert_eq!(rt; line.as_slice(), b"turn 7\n".as_slice());
+    assert!(rt; line.as_slice() == b"turn 7\n".as_slice());
     Ok(())
 }
 
@@ -135,7 +132,7 @@ fn a_replacement_is_written_as_a_script_has_it(rt: HostRuntime) -> Result<(), Fa
             moment,
         };
         let line = line_of(rt.alloc(), &ScriptEvent::Replace(replacement))?;
-        assert_eq!(rt; line.as_slice(), text.as_bytes());
+        assert!(rt; line.as_slice() == text.as_bytes());
     }
     Ok(())
 }

@@ -73,6 +73,6 @@ fn nothing_is_sent_for_what_is_ignored(rt: HostRuntime) {
         (IgnoredCause::UnknownEndpoint, 5),
     ] {
         assert!(rt; is_ignored(cause), "{cause:?}");
-        assert_eq!(rt; cause.number(), number);
+        assert!(rt; cause.number() == number);
     }
 }

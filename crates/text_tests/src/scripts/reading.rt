@@ -39,7 +39,7 @@ fn a_bad_line_of_the_zone_is_named(rt: HostRuntime) {
         b"zone\tgk 10.0.0.1:1719",
         b"Zone gk 10.0.0.1:1719",
     ];
-    assert_eq!(rt; first_taken(rt.alloc(), &bad_lines), None);
+    assert!(rt; first_taken(rt.alloc(), &bad_lines) == None);
 }
 
 #[test]
@@ -54,7 +54,7 @@ fn a_bad_setting_is_named(rt: HostRuntime) {
         b"set asks",
         b"set asks 1 1",
     ];
-    assert_eq!(rt; first_taken(rt.alloc(), &bad_lines), None);
+    assert!(rt; first_taken(rt.alloc(), &bad_lines) == None);
 }
 
 #[test]
@@ -68,7 +68,7 @@ fn a_bad_datagram_is_named(rt: HostRuntime) {
         b"at 0 from 10.0.0.5:1719 00 00",
         b"at 0 from",
     ];
-    assert_eq!(rt; first_taken(rt.alloc(), &bad_lines), None);
+    assert!(rt; first_taken(rt.alloc(), &bad_lines) == None);
 }
 
 #[test]
@@ -82,7 +82,7 @@ fn a_bad_turn_is_named(rt: HostRuntime) {
         b"turn 0 from 10.0.0.5:1719",
         b"turn0",
     ];
-    assert_eq!(rt; first_taken(rt.alloc(), &bad_lines), None);
+    assert!(rt; first_taken(rt.alloc(), &bad_lines) == None);
 }
 
 #[test]
@@ -105,7 +105,7 @@ fn a_bad_replacement_is_named(rt: HostRuntime) {
         b"replace 0 0 slow 1",
         b"replace 0 0 pool fixed 1",
     ];
-    assert_eq!(rt; first_taken(rt.alloc(), &bad_lines), None);
+    assert!(rt; first_taken(rt.alloc(), &bad_lines) == None);
 }
 
 #[test]
@@ -126,7 +126,7 @@ fn a_bad_line_of_a_pool_is_named(rt: HostRuntime) {
         b"pool paced 2500 4294967296",
         b"pool slow 2500",
     ];
-    assert_eq!(rt; first_taken(rt.alloc(), &bad_lines), None);
+    assert!(rt; first_taken(rt.alloc(), &bad_lines) == None);
 }
 
 #[test]
@@ -139,9 +139,8 @@ fn a_script_that_is_understood_has_a_zone(rt: HostRuntime) {
         b"pool fixed 1 for 10.1.0.0/16\n",
     ];
     for script in scripts {
-        assert_eq!(rt;
-            fault_of(rt.alloc(), script),
-            Some(ScriptFault::NoZone),
+        assert!(rt;
+            fault_of(rt.alloc(), script) == Some(ScriptFault::NoZone),
             "{script:?}"
         );
     }
@@ -173,9 +172,8 @@ fn a_line_that_is_not_understood_comes_before_other_faults(rt: HostRuntime) {
         ),
     ];
     for (script, line) in scripts {
-        assert_eq!(rt;
-            fault_of(rt.alloc(), script),
-            Some(ScriptFault::BadLine(line)),
+        assert!(rt;
+            fault_of(rt.alloc(), script) == Some(ScriptFault::BadLine(line)),
             "{script:?}"
         );
     }
@@ -184,10 +182,7 @@ fn a_line_that_is_not_understood_comes_before_other_faults(rt: HostRuntime) {
 #[test]
 fn the_last_pool_has_no_network(rt: HostRuntime) {
     let script: &[u8] = b"zone gk 10.0.0.1:1719\npool fixed 1\npool fixed 1 for 10.1.0.0/16\n";
-    assert_eq!(rt;
-        fault_of(rt.alloc(), script),
-        Some(ScriptFault::NoDefaultPool)
-    );
+    assert!(rt; fault_of(rt.alloc(), script) == Some(ScriptFault::NoDefaultPool));
 }
 
 #[test]
@@ -199,7 +194,10 @@ fn a_name_has_1_to_128_characters(rt: HostRuntime) -> Result<(), Fail> {
             script.extend_from_slice(b"\xC3\xA9")?;
         }
         script.extend_from_slice(b" 10.0.0.1:1719")?;
-        assert_eq!(rt; fault_of(rt.alloc(), &script).is_none(), is_read, "{count}");
+        assert!(rt;
+            fault_of(rt.alloc(), &script).is_none() == is_read,
+            "{count}"
+        );
     }
     Ok(())
 }
@@ -213,15 +211,14 @@ fn one_octet_past_the_limit_is_read(rt: HostRuntime) -> Result<(), Fail> {
     ] {
         let script = vec![in rt.alloc(); b'\n'; size]?;
         let mut input = Input::new(script.as_slice());
-        assert_eq!(rt;
-            read_script(rt.alloc(), &mut input).err(),
-            Some(fault),
+        assert!(rt;
+            read_script(rt.alloc(), &mut input).err() == Some(fault),
             "{size}"
         );
-        assert_eq!(rt; input.into_reader().len(), left, "{size}");
+        assert!(rt; input.into_reader().len() == left, "{size}");
     }
     let script = vec![in rt.alloc(); b'x'; 1_048_577]?;
-    assert_eq!(rt; fault_of(rt.alloc(), &script), Some(ScriptFault::TooLong));
+    assert!(rt; fault_of(rt.alloc(), &script) == Some(ScriptFault::TooLong));
     Ok(())
 }
 
@@ -231,18 +228,15 @@ fn a_script_is_read(rt: HostRuntime) -> Result<(), Fail> {
         zone g\xC3\xA9 10.0.0.1:1719\nat 0 from 10.0.0.5:1719\n";
     let script = read_script(rt.alloc(), &mut Input::new(text))?;
     let parts = script.config.parts();
-    assert_eq!(rt; parts.identifier.as_slice(), [103, 233].as_slice());
-    assert_eq!(rt;
-        parts.address,
-        Address {
-            ip: [10, 0, 0, 1],
-            port: 1719
-        }
+    assert!(rt; parts.identifier.as_slice() == [103, 233].as_slice());
+    assert!(rt;
+        parts.address
+            == Address {
+                ip: [10, 0, 0, 1],
+                port: 1719
+            }
     );
-    assert_eq!(rt;
-        (parts.limit, parts.asks, parts.call_limit),
-        (4000, 16, 20_000)
-    );
+    assert!(rt; (parts.limit, parts.asks, parts.call_limit) == (4000, 16, 20_000));
     Ok(())
 }
 
@@ -279,7 +273,7 @@ fn events_are_read(rt: HostRuntime) -> Result<(), Fail> {
         at 9007199254740991 from 0.0.0.0:0\n  turn   00 ";
     let script = read_script(rt.alloc(), &mut Input::new(text))?;
     let events = script.events.as_slice();
-    assert_eq!(rt; events.len(), 4);
+    assert!(rt; events.len() == 4);
     let source = Address {
         ip: [255, 0, 0, 5],
         port: 65535,
@@ -302,19 +296,19 @@ fn replacements_are_read(rt: HostRuntime) -> Result<(), Fail> {
         turn 0\n  replace  0012 007  paced 2500 1280 \n";
     let script = read_script(rt.alloc(), &mut Input::new(text))?;
     let events = script.events.as_slice();
-    assert_eq!(rt; events.len(), 3);
-    assert_eq!(rt; script.events.replacements(), 2);
+    assert!(rt; events.len() == 3);
+    assert!(rt; script.events.replacements() == 2);
     let Some(first) = replacement_in(&events[0]) else {
         panic!(rt; "the first event replaces a pool");
     };
-    assert_eq!(rt; first.pool, usize::MAX);
-    assert_eq!(rt; first.moment.milliseconds(), 9_007_199_254_740_991);
+    assert!(rt; first.pool == usize::MAX);
+    assert!(rt; first.moment.milliseconds() == 9_007_199_254_740_991);
     assert!(rt; matches!(first.fresh, PoolSpec::Fixed { limit: 0 }));
     assert!(rt; is_turn(&events[1], 0));
     let Some(last) = replacement_in(&events[2]) else {
         panic!(rt; "the last event replaces a pool");
     };
-    assert_eq!(rt; (last.pool, last.moment.milliseconds()), (7, 12));
+    assert!(rt; (last.pool, last.moment.milliseconds()) == (7, 12));
     Ok(())
 }
 
@@ -325,16 +319,16 @@ fn fresh_pools_are_described_in_order(rt: HostRuntime) -> Result<(), Fail> {
     let script = read_script(rt.alloc(), &mut Input::new(text))?;
     let fresh = script.events.fresh_pools(rt.alloc())?;
     let specs = fresh.as_slice();
-    assert_eq!(rt; specs.len(), 2);
+    assert!(rt; specs.len() == 2);
     let PoolSpec::Step { limit, step } = specs[0] else {
         panic!(rt; "the first is a step pool");
     };
-    assert_eq!(rt; (limit, step.get()), (2500, 64));
+    assert!(rt; (limit, step.get()) == (2500, 64));
     let PoolSpec::Paced { limit, burst } = specs[1] else {
         panic!(rt; "the second is a paced pool");
     };
-    assert_eq!(rt; (limit, burst.get()), (2500, 1280));
-    assert_eq!(rt; script.pools.as_slice().len(), 1);
+    assert!(rt; (limit, burst.get()) == (2500, 1280));
+    assert!(rt; script.pools.as_slice().len() == 1);
     Ok(())
 }
 
@@ -347,14 +341,11 @@ fn each_setting_has_its_key(rt: HostRuntime) -> Result<(), Fail> {
     let script = read_script(rt.alloc(), &mut Input::new(text))?;
     let parts = script.config.parts();
     let calls = (parts.limit, parts.call_limit, parts.calls, parts.endpoints);
-    assert_eq!(rt; calls, (1, 2, 5, 4));
+    assert!(rt; calls == (1, 2, 5, 4));
     let times = (parts.time_to_live, parts.window, parts.silence, parts.delay);
-    assert_eq!(rt; times, (3, 7, 8, 9));
-    assert_eq!(rt; (parts.kept, parts.retries, parts.asks), (6, 10, 11));
-    assert_eq!(rt;
-        (parts.ask_wait, parts.pool_turn, parts.least_grant),
-        (12, 13, 14)
-    );
+    assert!(rt; times == (3, 7, 8, 9));
+    assert!(rt; (parts.kept, parts.retries, parts.asks) == (6, 10, 11));
+    assert!(rt; (parts.ask_wait, parts.pool_turn, parts.least_grant) == (12, 13, 14));
     Ok(())
 }
 
@@ -364,18 +355,18 @@ fn pool_lines_describe_the_pools(rt: HostRuntime) -> Result<(), Fail> {
         pool step 1000000000000 64 for 10.2.0.1/32\npool paced 2500 4294967295\n";
     let script = read_script(rt.alloc(), &mut Input::new(text))?;
     let specs = script.pools.as_slice();
-    assert_eq!(rt; specs.len(), 3);
+    assert!(rt; specs.len() == 3);
     assert!(rt; matches!(specs[0], PoolSpec::Fixed { limit: 0 }));
     let PoolSpec::Step { limit, step } = specs[1] else {
         panic!(rt; "the second is a step pool");
     };
-    assert_eq!(rt; (limit, step.get()), (1_000_000_000_000, 64));
+    assert!(rt; (limit, step.get()) == (1_000_000_000_000, 64));
     let PoolSpec::Paced { limit, burst } = specs[2] else {
         panic!(rt; "the third is a paced pool");
     };
-    assert_eq!(rt; (limit, burst.get()), (2500, 4_294_967_295));
+    assert!(rt; (limit, burst.get()) == (2500, 4_294_967_295));
     let networks = script.config.parts().networks.as_slice();
-    assert_eq!(rt; networks.len(), 3);
+    assert!(rt; networks.len() == 3);
     let first = Network {
         ip: [10, 1, 0, 0],
         bits: 16,
@@ -390,7 +381,7 @@ fn without_a_pool_line_there_is_a_fixed_pool_of_the_limit(rt: HostRuntime) -> Re
     let text: &[u8] = b"zone gk 10.0.0.1:1719\nset limit 3000\n";
     let script = read_script(rt.alloc(), &mut Input::new(text))?;
     let specs = script.pools.as_slice();
-    assert_eq!(rt; specs.len(), 1);
+    assert!(rt; specs.len() == 1);
     assert!(rt; matches!(specs[0], PoolSpec::Fixed { limit: 3000 }));
     assert!(rt; script.config.parts().networks.as_slice()[0].is_none());
     Ok(())
@@ -404,7 +395,7 @@ fn a_zone_has_at_most_16_pools(rt: HostRuntime) -> Result<(), Fail> {
         for _ in 0..count {
             script.extend_from_slice(b"pool fixed 1\n")?;
         }
-        assert_eq!(rt; fault_of(rt.alloc(), &script), fault, "{count}");
+        assert!(rt; fault_of(rt.alloc(), &script) == fault, "{count}");
     }
     Ok(())
 }
@@ -419,8 +410,8 @@ fn faults_have_numbers_and_texts(rt: HostRuntime) -> Result<(), Fail> {
         (ScriptFault::Stream, 5, "stream failed"),
         (ScriptFault::Memory, 6, "out of memory"),
     ] {
-        assert_eq!(rt; fault.number(), number);
-        assert_eq!(rt; format!(in rt.alloc(); "{fault}")?.as_str(), text);
+        assert!(rt; fault.number() == number);
+        assert!(rt; format!(in rt.alloc(); "{fault}")?.as_str() == text);
     }
     for (fault, number, text) in [
         (RunFault::Memory(0), 1, "out of memory"),
@@ -429,8 +420,8 @@ fn faults_have_numbers_and_texts(rt: HostRuntime) -> Result<(), Fail> {
         (RunFault::Stream, 3, "stream failed"),
         (RunFault::WrongPools, 4, "wrong pools"),
     ] {
-        assert_eq!(rt; fault.number(), number);
-        assert_eq!(rt; format!(in rt.alloc(); "{fault}")?.as_str(), text);
+        assert!(rt; fault.number() == number);
+        assert!(rt; format!(in rt.alloc(); "{fault}")?.as_str() == text);
     }
     Ok(())
 }

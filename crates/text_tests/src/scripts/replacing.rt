@@ -160,8 +160,8 @@ fn another_number_of_fresh_pools_is_refused_before_anything_is_written(
 ) -> Result<(), Fail> {
     for count in [0, 2] {
         let answer = answer_with(rt.alloc(), count)?;
-        assert_eq!(rt; answer, (Err(RunFault::WrongPools), 0), "{count}");
+        assert!(rt; answer == (Err(RunFault::WrongPools), 0), "{count}");
     }
-    assert_eq!(rt; answer_with(rt.alloc(), 1)?, (Ok(()), 20));
+    assert!(rt; answer_with(rt.alloc(), 1)? == (Ok(()), 20));
     Ok(())
 }

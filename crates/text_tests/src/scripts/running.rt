@@ -21,7 +21,7 @@ fn a_script_is_run(rt: HostRuntime) -> Result<(), Fail> {
     run_script(rt.alloc(), script, pools, Vec::new(rt.alloc()), &mut out)?;
     let lines = b"1 ignored unreadable\n2 ignored too-long\n3 ignored not-served\n4 idle\n\
         5 done pool-turn\n6 idle\n";
-    assert_eq!(rt; out.into_writer().as_slice(), lines.as_slice());
+    assert!(rt; out.into_writer().as_slice() == lines.as_slice());
     Ok(())
 }
 
@@ -45,16 +45,16 @@ fn wrong_pools_are_refused_before_anything_is_written(rt: HostRuntime) -> Result
         for _ in 0..count {
             pools.push(Box::new(alloc, FixedPool::new(1))?)?;
         }
-        assert_eq!(rt; answer_with(alloc, pools), refused, "{count}");
+        assert!(rt; answer_with(alloc, pools) == refused, "{count}");
     }
     let mut busy = FixedPool::new(10);
-    assert_eq!(rt; busy.lend(1), Lend::Lent(1));
+    assert!(rt; busy.lend(1) == Lend::Lent(1));
     let mut pools: Vec<Box<dyn Pool + Send>> = Vec::new(alloc);
     pools.push(Box::new(alloc, busy)?)?;
-    assert_eq!(rt; answer_with(alloc, pools), refused);
+    assert!(rt; answer_with(alloc, pools) == refused);
     let mut pools: Vec<Box<dyn Pool + Send>> = Vec::new(alloc);
     pools.push(Box::new(alloc, StepPool::new(10, 2))?)?;
-    assert_eq!(rt; answer_with(alloc, pools), Some((Ok(()), 21)));
+    assert!(rt; answer_with(alloc, pools) == Some((Ok(()), 21)));
     Ok(())
 }
 
@@ -107,10 +107,7 @@ impl io::Write for Full {
 fn a_stream_that_fails_is_told(rt: HostRuntime) -> Result<(), Fail> {
     let text = b"zone gk 10.0.0.1:1719\nat 0 from 10.0.0.5:1719\nat 1 from 10.0.0.5:1719\n";
     let mut input = Input::new(Faltering { text, reads: 0 });
-    assert_eq!(rt;
-        read_script(rt.alloc(), &mut input).err(),
-        Some(ScriptFault::Stream)
-    );
+    assert!(rt; read_script(rt.alloc(), &mut input).err() == Some(ScriptFault::Stream));
     let mut input = Input::new(Faltering { text, reads: 2 });
     assert!(rt; read_script(rt.alloc(), &mut input).is_ok());
     for flushes in [true, false] {
@@ -118,9 +115,9 @@ fn a_stream_that_fails_is_told(rt: HostRuntime) -> Result<(), Fail> {
         let mut out = Output::new(Full { writes: 0, flushes });
         let mut pools = Vec::new(rt.alloc());
         pools.push(FixedPool::new(100_000))?;
-        assert_eq!(rt;
-            run_script(rt.alloc(), script, pools, Vec::new(rt.alloc()), &mut out),
-            Err(RunFault::Stream)
+        assert!(rt;
+            run_script(rt.alloc(), script, pools, Vec::new(rt.alloc()), &mut out)
+                == Err(RunFault::Stream)
         );
     }
     Ok(())

@@ -36,13 +36,13 @@ fn loan_of_fewer_units_than_the_least_goes_back(rt: HostRuntime) -> Result<(), F
     let alloc = rt.alloc();
     let mut pools: Vec<Boxed> = Vec::new(alloc);
     pools.push(Box::new(alloc, FixedPool::new(100))?)?;
-    assert_eq!(rt;
-        ask_least_thrice(pools),
-        Some((
-            (Lend::Lent(50), true, 50, 0),
-            (Lend::Lent(50), false, 50, 0),
-            (Lend::Refused, true, 50, 1),
-        ))
+    assert!(rt;
+        ask_least_thrice(pools)
+            == Some((
+                (Lend::Lent(50), true, 50, 0),
+                (Lend::Lent(50), false, 50, 0),
+                (Lend::Refused, true, 50, 1),
+            ))
     );
     Ok(())
 }
@@ -61,9 +61,8 @@ fn loan_that_went_back_counts_against_the_burst(rt: HostRuntime) -> Result<(), F
     let alloc = rt.alloc();
     let mut pools: Vec<Boxed> = Vec::new(alloc);
     pools.push(Box::new(alloc, PacedPool::new(2500, 1280))?)?;
-    assert_eq!(rt;
-        ask_least_and_again(pools),
-        Some(((Lend::Lent(1000), false, 0, 0), Lend::Lent(280)))
+    assert!(rt;
+        ask_least_and_again(pools) == Some(((Lend::Lent(1000), false, 0, 0), Lend::Lent(280)))
     );
     Ok(())
 }

@@ -104,7 +104,7 @@ fn pool_of_ones_own_is_lent_from_in_a_set(rt: HostRuntime) -> Result<(), Fail> {
     };
     let are_two = are_two(&back);
     drop(back);
-    assert_eq!(rt; (first, second), (Lend::Lent(50), Lend::Lent(25)));
+    assert!(rt; (first, second) == (Lend::Lent(50), Lend::Lent(25)));
     assert!(rt; are_two);
     Ok(())
 }

@@ -91,17 +91,11 @@ fn fresh_pool_takes_over_the_loans(rt: HostRuntime) -> Result<(), Fail> {
     let Some((replaced, first, second)) = replace_and_ask(one_pool(alloc)?, fresh, 720, 1) else {
         panic!(rt; "not asked");
     };
-    assert_eq!(rt; replaced.fault, 0);
-    assert_eq!(rt;
-        replaced.back,
-        (figures(2500, 0, 1), Some((1300, Lend::Refused)))
-    );
-    assert_eq!(rt;
-        replaced.stands,
-        (figures(2000, 1280, 0), Some((1280, Lend::Lent(1280))))
-    );
-    assert_eq!(rt; replaced.counts, (1, 0));
-    assert_eq!(rt; (first, second), (Lend::Lent(720), Lend::Refused));
+    assert!(rt; replaced.fault == 0);
+    assert!(rt; replaced.back == (figures(2500, 0, 1), Some((1300, Lend::Refused))));
+    assert!(rt; replaced.stands == (figures(2000, 1280, 0), Some((1280, Lend::Lent(1280)))));
+    assert!(rt; replaced.counts == (1, 0));
+    assert!(rt; (first, second) == (Lend::Lent(720), Lend::Refused));
     Ok(())
 }
 
@@ -112,12 +106,12 @@ fn fresh_pool_may_have_lent_all_then(rt: HostRuntime) -> Result<(), Fail> {
     let Some((replaced, first, _)) = replace_and_ask(one_pool(alloc)?, full, 1, 1) else {
         panic!(rt; "not asked");
     };
-    assert_eq!(rt; (replaced.fault, first), (0, Lend::Refused));
+    assert!(rt; (replaced.fault, first) == (0, Lend::Refused));
     let spent: Boxed = Box::new(alloc, PacedPool::new(2500, 1280))?;
     let Some((replaced, first, _)) = replace_and_ask(one_pool(alloc)?, spent, 1, 1) else {
         panic!(rt; "not asked");
     };
-    assert_eq!(rt; (replaced.fault, first), (0, Lend::Wait));
+    assert!(rt; (replaced.fault, first) == (0, Lend::Wait));
     Ok(())
 }
 
@@ -163,12 +157,9 @@ fn refused_pool_comes_back_with_what_it_had_lent(rt: HostRuntime) -> Result<(), 
         let Some(replaced) = replace_alone(one_pool(alloc)?, i, fresh) else {
             panic!(rt; "not asked");
         };
-        assert_eq!(rt; (replaced.fault, replaced.back), (fault, back));
-        assert_eq!(rt;
-            replaced.stands,
-            (figures(2500, 1280, 1), Some((1300, Lend::Refused)))
-        );
-        assert_eq!(rt; replaced.counts, (2, 0));
+        assert!(rt; (replaced.fault, replaced.back) == (fault, back));
+        assert!(rt; replaced.stands == (figures(2500, 1280, 1), Some((1300, Lend::Refused))));
+        assert!(rt; replaced.counts == (2, 0));
     }
     Ok(())
 }
@@ -201,8 +192,8 @@ fn many_units_are_lent_in_parts(rt: HostRuntime) -> Result<(), Fail> {
     drop(seen);
     let last = Some((410_065_410, Lend::Lent(410_065_410)));
     let stands = (figures(10_000_000_000, 9_000_000_000, 0), last);
-    assert_eq!(rt; replaced, Some((0, stands, (3, 0))));
-    assert_eq!(rt; (lends, asked, asked_last), (3, 9_000_000_000, 410_065_410));
+    assert!(rt; replaced == Some((0, stands, (3, 0))));
+    assert!(rt; (lends, asked, asked_last) == (3, 9_000_000_000, 410_065_410));
     Ok(())
 }
 
@@ -225,8 +216,8 @@ fn fresh_pool_is_not_asked_if_nothing_is_lent(rt: HostRuntime) -> Result<(), Fai
     let lends = seen.lends.load(Ordering::SeqCst);
     let take_backs = seen.take_backs.load(Ordering::SeqCst);
     drop(seen);
-    assert_eq!(rt; replaced, Some((0, (figures(100, 0, 0), None), (0, 0))));
-    assert_eq!(rt; (lends, take_backs), (0, 0));
+    assert!(rt; replaced == Some((0, (figures(100, 0, 0), None), (0, 0))));
+    assert!(rt; (lends, take_backs) == (0, 0));
     Ok(())
 }
 
@@ -264,10 +255,10 @@ fn old_box_comes_back(rt: HostRuntime) -> Result<(), Fail> {
     let drops = seen.drops.load(Ordering::SeqCst);
     let lent_at_drop = seen.lent_at_drop.load(Ordering::SeqCst);
     drop(seen);
-    assert_eq!(rt; (old_mark, lent), (2, 0));
+    assert!(rt; (old_mark, lent) == (2, 0));
     // at replace and at close, each of the one pool that has something lent
-    assert_eq!(rt; take_backs, 2);
-    assert_eq!(rt; (early_drops, drops, lent_at_drop), (0, 3, 0));
+    assert!(rt; take_backs == 2);
+    assert!(rt; (early_drops, drops, lent_at_drop) == (0, 3, 0));
     Ok(())
 }
 
@@ -288,8 +279,8 @@ fn faults_have_numbers_and_messages(rt: HostRuntime) -> Result<(), Fail> {
         ),
         (ReplaceFault::Memory, 5, "there is no memory"),
     ] {
-        assert_eq!(rt; fault.number(), number);
-        assert_eq!(rt; format!(in rt.alloc(); "{fault}")?.as_str(), message);
+        assert!(rt; fault.number() == number);
+        assert!(rt; format!(in rt.alloc(); "{fault}")?.as_str() == message);
     }
     Ok(())
 }

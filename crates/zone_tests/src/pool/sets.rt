@@ -48,7 +48,7 @@ fn lists_that_make_no_set_come_back(rt: HostRuntime) -> Result<(), Fail> {
         (1, 1, 2, PoolFault::NotIdle),
     ] {
         let pools = list_of(rt.alloc(), idle, lending)?;
-        assert_eq!(rt; fault_of(pools), Some((fault, count, lending)), "{fault}");
+        assert!(rt; fault_of(pools) == Some((fault, count, lending)), "{fault}");
     }
     Ok(())
 }
@@ -64,8 +64,8 @@ fn faults_have_numbers_and_messages(rt: HostRuntime) -> Result<(), Fail> {
             "a pool is not idle: it has units lent, or has counted 2^62 refusals or waits",
         ),
     ] {
-        assert_eq!(rt; fault.number(), number);
-        assert_eq!(rt; format!(in rt.alloc(); "{fault}")?.as_str(), message);
+        assert!(rt; fault.number() == number);
+        assert!(rt; format!(in rt.alloc(); "{fault}")?.as_str() == message);
     }
     Ok(())
 }
@@ -119,10 +119,7 @@ fn turn_of_a_set_reaches_a_boxed_paced_pool(rt: HostRuntime) -> Result<(), Fail>
     for (turn, second) in [(false, Lend::Wait), (true, Lend::Lent(1280))] {
         let mut pools: Vec<Boxed> = Vec::new(alloc);
         pools.push(Box::new(alloc, PacedPool::new(5000, 1280))?)?;
-        assert_eq!(rt;
-            lend_twice(pools, 2000, turn),
-            Some((Lend::Lent(1280), second))
-        );
+        assert!(rt; lend_twice(pools, 2000, turn) == Some((Lend::Lent(1280), second)));
     }
     Ok(())
 }
@@ -173,11 +170,11 @@ fn dropped_set_asks_once_and_drops_pools_with_nothing_lent(rt: HostRuntime) -> R
     let drops = seen.drops.load(Ordering::SeqCst);
     let lent_at_drop = seen.lent_at_drop.load(Ordering::SeqCst);
     drop(seen);
-    assert_eq!(rt; lent, Some((70, 30)));
-    assert_eq!(rt; lends, 2);
-    assert_eq!(rt; turns, 2);
-    assert_eq!(rt; drops, 2);
-    assert_eq!(rt; lent_at_drop, 0);
+    assert!(rt; lent == Some((70, 30)));
+    assert!(rt; lends == 2);
+    assert!(rt; turns == 2);
+    assert!(rt; drops == 2);
+    assert!(rt; lent_at_drop == 0);
     Ok(())
 }
 
@@ -232,9 +229,9 @@ fn set_counts_what_it_calls_of_each_pool(rt: HostRuntime) -> Result<(), Fail> {
     let second_met = met(&second);
     drop(first);
     drop(second);
-    assert_eq!(rt; counts, Some(((3, 2), (1, 2))));
-    assert_eq!(rt; first_met, (3, 2));
-    assert_eq!(rt; second_met, (1, 2));
+    assert!(rt; counts == Some(((3, 2), (1, 2))));
+    assert!(rt; first_met == (3, 2));
+    assert!(rt; second_met == (1, 2));
     Ok(())
 }
 
@@ -277,13 +274,13 @@ fn closed_set_hands_back_the_same_boxes_with_nothing_lent(rt: HostRuntime) -> Re
         refusals: 1,
         waits: 0,
     };
-    assert_eq!(rt; figures, lent);
-    assert_eq!(rt; last, Some((70, Lend::Refused)));
-    assert_eq!(rt; early_drops, 0);
+    assert!(rt; figures == lent);
+    assert!(rt; last == Some((70, Lend::Refused)));
+    assert!(rt; early_drops == 0);
     assert!(rt; are_three);
-    assert_eq!(rt; out_of_order, None);
-    assert_eq!(rt; drops, 3);
-    assert_eq!(rt; lent_at_drop, 0);
+    assert!(rt; out_of_order == None);
+    assert!(rt; drops == 3);
+    assert!(rt; lent_at_drop == 0);
     Ok(())
 }
 
@@ -310,8 +307,8 @@ fn loans_go_back_by_one_call_of_each_pool_that_has_some(rt: HostRuntime) -> Resu
         let drops = seen.drops.load(Ordering::SeqCst);
         let lent_at_drop = seen.lent_at_drop.load(Ordering::SeqCst);
         drop(seen);
-        assert_eq!(rt; lent, Some((Lend::Lent(70), Lend::Lent(50))));
-        assert_eq!(rt; (take_backs, drops, lent_at_drop), (2, 3, 0));
+        assert!(rt; lent == Some((Lend::Lent(70), Lend::Lent(50))));
+        assert!(rt; (take_backs, drops, lent_at_drop) == (2, 3, 0));
     }
     Ok(())
 }

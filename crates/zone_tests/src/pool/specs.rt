@@ -14,8 +14,8 @@ fn units_are_a_bandwidth_of_at_least_one(rt: HostRuntime) -> Result<(), Fail> {
     for number in [1, 2, 64, 65_535, 65_536, 4_294_967_295] {
         let some = units(number)?;
         let copy = some;
-        assert_eq!(rt; some.get(), number);
-        assert_eq!(rt; copy.get(), number);
+        assert!(rt; some.get() == number);
+        assert!(rt; copy.get() == number);
     }
     Ok(())
 }
@@ -72,9 +72,9 @@ fn pools_to_be_made_keep_their_order_kinds_and_numbers(rt: HostRuntime) -> Resul
         (1_000_000_000_000, Lend::Lent(2_000), 2_000),
         (0, Lend::Refused, 0),
     ];
-    assert_eq!(rt; specs.as_slice().len(), answers.len());
+    assert!(rt; specs.as_slice().len() == answers.len());
     for (spec, answer) in specs.as_slice().iter().zip(answers) {
-        assert_eq!(rt; answer_of(*spec, 2_000), Some(answer));
+        assert!(rt; answer_of(*spec, 2_000) == Some(answer));
     }
     Ok(())
 }

@@ -15,16 +15,16 @@ fn figures<P: Pool>(pool: &P) -> (u64, u64, u64, u64) {
 #[test]
 fn a_fixed_pool_lends_all_or_nothing(rt: HostRuntime) -> Result<(), Fail> {
     let mut pool = StandardPool::new(PoolSpec::Fixed { limit: 2500 });
-    assert_eq!(rt; pool.last(), None);
-    assert_eq!(rt; pool.lend(1280), Lend::Lent(1280));
-    assert_eq!(rt; pool.lend(1221), Lend::Refused);
-    assert_eq!(rt; pool.lend(1220), Lend::Lent(1220));
-    assert_eq!(rt; figures(&pool), (2500, 2500, 1, 0));
+    assert!(rt; pool.last() == None);
+    assert!(rt; pool.lend(1280) == Lend::Lent(1280));
+    assert!(rt; pool.lend(1221) == Lend::Refused);
+    assert!(rt; pool.lend(1220) == Lend::Lent(1220));
+    assert!(rt; figures(&pool) == (2500, 2500, 1, 0));
     pool.take_back(1280);
-    assert_eq!(rt; figures(&pool), (2500, 1220, 1, 0));
+    assert!(rt; figures(&pool) == (2500, 1220, 1, 0));
     pool.turn();
-    assert_eq!(rt; figures(&pool), (2500, 1220, 1, 0));
-    assert_eq!(rt; pool.last(), Some((1220, Lend::Lent(1220))));
+    assert!(rt; figures(&pool) == (2500, 1220, 1, 0));
+    assert!(rt; pool.last() == Some((1220, Lend::Lent(1220))));
     Ok(())
 }
 
@@ -35,13 +35,13 @@ fn a_step_pool_lends_whole_steps(rt: HostRuntime) -> Result<(), Fail> {
         step: units(64)?,
     };
     let mut pool = StandardPool::new(spec);
-    assert_eq!(rt; pool.lend(100), Lend::Lent(64));
-    assert_eq!(rt; pool.lend(63), Lend::Refused);
-    assert_eq!(rt; figures(&pool), (2500, 64, 1, 0));
-    assert_eq!(rt; pool.last(), Some((63, Lend::Refused)));
+    assert!(rt; pool.lend(100) == Lend::Lent(64));
+    assert!(rt; pool.lend(63) == Lend::Refused);
+    assert!(rt; figures(&pool) == (2500, 64, 1, 0));
+    assert!(rt; pool.last() == Some((63, Lend::Refused)));
     pool.take_back(64);
     pool.turn();
-    assert_eq!(rt; figures(&pool), (2500, 0, 1, 0));
+    assert!(rt; figures(&pool) == (2500, 0, 1, 0));
     Ok(())
 }
 
@@ -52,13 +52,13 @@ fn a_paced_pool_waits_for_its_turn(rt: HostRuntime) -> Result<(), Fail> {
         burst: units(1280)?,
     };
     let mut pool = StandardPool::new(spec);
-    assert_eq!(rt; pool.lend(1000), Lend::Lent(1000));
-    assert_eq!(rt; pool.lend(1000), Lend::Lent(280));
-    assert_eq!(rt; pool.lend(1), Lend::Wait);
-    assert_eq!(rt; figures(&pool), (2500, 1280, 0, 1));
-    assert_eq!(rt; pool.last(), Some((1, Lend::Wait)));
+    assert!(rt; pool.lend(1000) == Lend::Lent(1000));
+    assert!(rt; pool.lend(1000) == Lend::Lent(280));
+    assert!(rt; pool.lend(1) == Lend::Wait);
+    assert!(rt; figures(&pool) == (2500, 1280, 0, 1));
+    assert!(rt; pool.last() == Some((1, Lend::Wait)));
     pool.turn();
-    assert_eq!(rt; pool.lend(2000), Lend::Lent(1220));
-    assert_eq!(rt; figures(&pool), (2500, 2500, 0, 1));
+    assert!(rt; pool.lend(2000) == Lend::Lent(1220));
+    assert!(rt; figures(&pool) == (2500, 2500, 0, 1));
     Ok(())
 }

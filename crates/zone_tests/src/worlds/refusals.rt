@@ -105,6 +105,6 @@ fn worlds_out_of_range_are_refused(rt: HostRuntime) -> Looked {
 
 #[test]
 fn the_faults_have_their_numbers(rt: HostRuntime) {
-    assert_eq!(rt; WorldFault::Memory.number(), 1);
-    assert_eq!(rt; WorldFault::Closed.number(), 2);
+    assert!(rt; WorldFault::Memory.number() == 1);
+    assert!(rt; WorldFault::Closed.number() == 2);
 }

@@ -46,7 +46,7 @@ fn a_key_out_of_its_range_is_named(rt: HostRuntime) -> Result<(), Fail> {
             "{limit} {calls} {asks} {pool_turn} {least_grant}"
         );
     }
-    assert_eq!(rt; ConfigFault::OutOfRange("zone.limit").number(), 1);
+    assert!(rt; ConfigFault::OutOfRange("zone.limit").number() == 1);
     Ok(())
 }
 
@@ -54,7 +54,7 @@ fn a_key_out_of_its_range_is_named(rt: HostRuntime) -> Result<(), Fail> {
 fn moments_end_below_2_to_the_53(rt: HostRuntime) -> Result<(), Fail> {
     let end = 9_007_199_254_740_992;
     let last = Moment::new(end - 1).ok_or("the last moment")?;
-    assert_eq!(rt; last.milliseconds(), end - 1);
+    assert!(rt; last.milliseconds() == end - 1);
     assert!(rt; Moment::new(end).is_none());
     Ok(())
 }
@@ -107,6 +107,6 @@ fn a_zone_has_a_pool_for_each_network(rt: HostRuntime) -> Result<(), Fail> {
     parts.networks = Networks::from_vec(networks);
     let refused = Config::new(parts);
     assert!(rt; matches!(refused, Err(ConfigFault::NoDefaultPool)));
-    assert_eq!(rt; ConfigFault::NoDefaultPool.number(), 2);
+    assert!(rt; ConfigFault::NoDefaultPool.number() == 2);
     Ok(())
 }
