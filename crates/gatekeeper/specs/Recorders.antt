@@ -1,5 +1,7 @@
 -- What a record gets of the entries that leave a zone's history while it is served.
-use Rattle.std.specs.Prelude.{ℕ, ◌==◌, ◌&&◌, Bool, true, false, List, Result}
+use Rattle.std.specs.Prelude.{ℕ, ◌≡◌, ◌==◌, ◌&&◌, ◌⊎◌, Bool, true, false, List, Result}
+use Rattle.std.specs.Io.KnownBytes.{Keeps}
+use Rattle.std.specs.declared.io.Error.{Error}
 use Rattle.books.specs.declared.book.Entry.{Entry}
 use Rattle.zone_lock.specs.declared.handing.HandedOut.{HandedOut}
 use Rattle.recording.specs.declared.writer.Recorded.{Recorded}
@@ -20,3 +22,13 @@ IsPutDownIf false old entries result new = IsEndAnswer Overrun old result new
 abbrev pub IsPutDown : {E : Type 0} → Standing → HandedOut → Result Recorded E → Standing → Type 0
 IsPutDown old handed result new =
     IsPutDownIf (go_on old.steps handed) old handed.entries.items result new
+
+-- a record was flushed: what was written stays, and if it couldn't be flushed, the record is closed
+pub record IsFlushed (old new : Standing) : Type 0 where
+  pub same : new ≡ record old { output = new.output; is_open = new.is_open }
+  pub text : Keeps old.output.contents new.output.contents
+
+-- the entries were put down, and behind that the record may have been flushed
+abbrev pub ArePut : Standing → HandedOut → Standing → Type 0
+ArePut old handed new = (answer : Result Recorded Error) × (mid : Standing)
+    × IsPutDown old handed answer mid × ((new ≡ mid) ⊎ IsFlushed mid new)

@@ -1,7 +1,7 @@
 //! The record that is written while a zone is served.
 
 ghost use Rattle.std.specs.Prelude.{◌≡◌, [], IfErr};
-ghost use Rattle.gatekeeper.specs.Recorders.{IsPutDown};
+ghost use Rattle.gatekeeper.specs.Recorders.{ArePut, IsFlushed, IsPutDown};
 ghost use Rattle.surroundings.specs.Faults.{IsBeginFault};
 
 use log::Log;
@@ -73,7 +73,8 @@ fn put_down<W: Write + Drop>(
 impl<R: Log, W: Write + Drop> Recorder<'_, R, W> {
     /// Writes down what was handed out. A warning tells if the record goes no further.
     fn put(&mut self, handed: &mut HandedOut)
-        ensures { handed.new.entries.items ≡ [] }
+        ensures put { ArePut self.old.record handed.old self.new.record }
+        ensures taken { handed.new.entries.items ≡ [] }
     {
         match put_down(&mut self.record, handed) {
             Ok(Recorded::Written) | Ok(Recorded::Closed) => {}
@@ -90,7 +91,9 @@ impl<R: Log, W: Write + Drop> Recorder<'_, R, W> {
     }
 
     /// Hands what is held to the system. A warning tells if that fails.
-    fn flush(&mut self) {
+    fn flush(&mut self)
+        ensures { IsFlushed self.old.record self.new.record }
+    {
         if self.record.flush().is_err() {
             warn_of_lost_record(self.rt, self.name);
         }
