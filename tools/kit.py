@@ -67,22 +67,37 @@ def build_below(above):
     return next((it.name for it in below if it.build_rlib(["--jobs", "2"], anew=False)), None)
 
 
-def build(name, jobs):
-    """Builds the library or the program of a crate whose libraries below stand. Returns rt's status.
+def build_statements(crate, flags):
+    """Proves a library, if it has changed, and writes what others can cite of it. Returns rt's status.
 
-    If rt check kept nothing of what it proved, neither does this: over a folder that keeps it, the
-    prover parts a large crate into many checks, each of which loads all that stands below.
+    Its proofs are left out: no check above it needs one, and each would load them all.
     """
+    stamp, folder = crate.stamp(), f"{crate.folder}/out/rlib"
+    if crate.is_built():
+        return 0
+    shutil.rmtree(folder, ignore_errors=True)
+    os.makedirs(folder)
+    words = ["build", *crate.words(flags, keeps=False), "--statements", "-o", crate.rlib]
+    status = crate.call(toolchain().RATTLE, *words)
+    if status == 0 and stamp == crate.stamp():
+        with open(f"{folder}/stamp", "w", encoding="utf-8") as out:
+            out.write(stamp)
+    return status
+
+
+def build(name, jobs):
+    """Builds the library or the program of a crate whose libraries below stand. Returns rt's status."""
     tool = toolchain()
     for crate in crates():
         if crate.name == name:
             os.chdir(crate.folder)
-            if not crate.has_kept():
-                tool.KEPT, tool.libraries_keep = [], lambda: False
+            # (over a folder that keeps what was proved, the prover parts a large program into many
+            # checks, each of which loads all that stands below)
+            tool.KEPT = []
             flags, crate.held = ["--jobs", str(jobs)], []
             if crate.is_program:
                 return crate.build_and_run(flags, ["--version"], False)
-            return crate.build_rlib(flags, anew=False)
+            return build_statements(crate, flags)
     sys.exit(f"kit.py: there is no crate {name}")
 
 

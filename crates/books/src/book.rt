@@ -8,7 +8,6 @@ use zone_events::{Change, Outcome};
 
 /// One step: which seat made it, the number of that seat's call, counted from 0, and the event with
 /// its outcome. Like an event stands here a pool that took the place of another one.
-#[derive(Drop)]
 pub struct Entry {
     pub seat: usize,
     pub call: usize,
@@ -16,9 +15,36 @@ pub struct Entry {
     pub outcome: Outcome,
 }
 
+// By hand, so that it is one call where one is dropped.
+impl Drop for Entry {
+    fn drop(self) {
+        let Entry {
+            seat: _,
+            call: _,
+            event: _,
+            outcome: _,
+        } = self;
+    }
+}
+
+impl Entry {
+    /// What changed, and what came of that.
+    pub fn into_change(self) -> (Change, Outcome)
+        ensures event { result.0 ≡ self.event }
+        ensures outcome { result.1 ≡ self.outcome }
+    {
+        let Entry {
+            seat: _,
+            call: _,
+            event,
+            outcome,
+        } = self;
+        (event, outcome)
+    }
+}
+
 /// What a seat is told of a step that it made: the entry, and the place at which it stands in the
 /// book.
-#[derive(Drop)]
 pub struct Receipt {
     pub seat: usize,
     pub call: usize,
@@ -27,11 +53,33 @@ pub struct Receipt {
     pub outcome: Outcome,
 }
 
+// By hand, so that it is one call where one is dropped.
+impl Drop for Receipt {
+    fn drop(self) {
+        let Receipt {
+            seat: _,
+            call: _,
+            place: _,
+            event: _,
+            outcome: _,
+        } = self;
+    }
+}
+
 /// The state in which a history began, and its steps in the order in which they were made.
-#[derive(Drop)]
 pub struct Book {
     pub base: Snapshot,
     pub entries: Vec<Entry>,
+}
+
+// By hand, so that it is one call where one is dropped.
+impl Drop for Book {
+    fn drop(self) {
+        let Book {
+            base: _,
+            entries: _,
+        } = self;
+    }
 }
 
 impl Book {

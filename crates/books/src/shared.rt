@@ -9,9 +9,15 @@ use std::sync::Arc;
 
 /// The state in which a chapter of a history ends and the next one begins. Both have it, and it is
 /// copied for neither of them. Contracts see the state, which is sound by the type.
-#[derive(Drop)]
 pub struct SharedSnapshot {
     snapshot: Arc<Snapshot, Global>,
+}
+
+// By hand, so that it is one call where one is dropped.
+impl Drop for SharedSnapshot {
+    fn drop(self) {
+        let SharedSnapshot { snapshot: _ } = self;
+    }
 }
 
 impl Model for SharedSnapshot {

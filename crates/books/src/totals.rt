@@ -58,7 +58,7 @@ impl Totals {
 /// What these steps add up to. What came back is not told by the steps alone, and is 0 here.
 ///
 /// promise totals-are-sums: Totals are sums over the entries; a loan that went back counts as lent
-/// and as returned (`totals_with`, `units_lent`, `returned_by`).
+/// (`totals_with`, `units_lent`).
 pub fn totals_of(entries: &[Entry]) -> Totals
     ensures totals { result ≡ totals_with no_totals entries.now 0 }
     ensures few { result.lent ≤ 2 ^ 64 * length entries.now }

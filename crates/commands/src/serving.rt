@@ -62,9 +62,9 @@ there, over HTTP, that tells what it does: endpoints, calls, bandwidth, counts; 
 
 With --record FILE it writes down what it does, as lines that `gatekeeper audit FILE` does again,
 also while it serves: the zone that is set, then each datagram and each turn of the timers with what
-came of it. FILE is made for that: one that is there already is refused. It begins with the time from
-which moments are counted. It ends before the server if the next step has no room in OCTETS, if a
-write fails, or if 65,536 steps wait to be written: a warning says so, and the server goes on.
+came of it. FILE is made for that: one that is there already is refused. It begins with the time
+from which moments are counted. It ends before the server if the next step has no room in OCTETS, if
+a write fails, or if 65,536 steps wait to be written: a warning says so, and the server goes on.
 
 It ends in good order at SIGTERM or SIGINT, if it was started with these blocked, as
 `./gatekeeper` starts it, or once each receiving thread has received N times. Then it prints

@@ -2,7 +2,8 @@
 use Rattle.std.proofs.Common.{◌≡◌, ℕ, true, List, [], ◌∷◌, ◌++◌, refl, ◌∙◌, arith}
 use Rattle.std.specs.List.{flat_map}
 use Rattle.std.proofs.lemmas.Bool.Decides.{nat_tests}
-use Rattle.escapes.specs.Escapes.{html_piece, label_piece, json_piece, is_html_text, is_json_text, is_label_text}
+use Rattle.escapes.specs.Escapes.{html_piece, label_piece, json_piece}
+use Rattle.escapes.specs.Escapes.{is_html_text, is_json_text, is_label_text}
 
 -- a piece before an escaped text leaves it escaped
 pub label_step : (c : ℕ) (cs : List ℕ) → is_label_text (label_piece c ++ cs) ≡ is_label_text cs

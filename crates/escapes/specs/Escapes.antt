@@ -1,5 +1,6 @@
 -- What each character of a text becomes, and what it is that no character is left unescaped.
-use Rattle.std.specs.Prelude.{ℕ, Bool, true, false, cond, ◌&&◌, ◌||◌, nat_eq, nat_lt, ◌+◌, ◌/◌, ◌%◌, List, [], ◌∷◌, codes, take}
+use Rattle.std.specs.Prelude.{ℕ, Bool, true, false, cond, ◌&&◌, ◌||◌, nat_eq, nat_lt, ◌+◌, ◌/◌, ◌%◌}
+use Rattle.std.specs.Prelude.{List, [], ◌∷◌, codes, take}
 use Rattle.std.specs.Str.{bytes_eq}
 
 -- what a character becomes in HTML

@@ -11,7 +11,7 @@ abbrev pub fault_number_of : Result (Option Request) ReadFault → ℕ
 fault_number_of (Ok request) = 0
 fault_number_of (Err fault) = read_fault_number fault
 
--- from this count of octets at the front on, and at most so many more: the first with this fault
+-- from this count of octets at the front on, the first with this fault; at most these are added
 abbrev pub place_from : List ℕ → ℕ → ℕ → ℕ → ℕ
 place_from octets number count zero = count
 place_from octets number count (suc more) =

@@ -23,7 +23,8 @@ abbrev pub IsPutDown : {E : Type 0} → Standing → HandedOut → Result Record
 IsPutDown old handed result new =
     IsPutDownIf (go_on old.steps handed) old handed.entries.items result new
 
--- a record was flushed: what was written stays, and if it couldn't be flushed, the record is closed
+-- a flush was tried: what was written stays, and nothing changes but the output and whether a
+-- further step may be written
 pub record IsFlushed (old new : Standing) : Type 0 where
   pub same : new ≡ record old { output = new.output; is_open = new.is_open }
   pub text : Keeps old.output.contents new.output.contents

@@ -11,12 +11,19 @@ use ras_module::Request;
 use std::alloc::AllocError;
 
 /// What is kept of the reply to a datagram. Moments are in milliseconds.
-#[derive(PartialEq, Eq, Drop)]
+#[derive(PartialEq, Eq)]
 pub struct KeptEntry {
     /// How many steps the gatekeeper had made before. No two entries share this number.
     pub born: u64,
     /// How far the request is.
     pub state: KeptState,
+}
+
+// By hand, so that it is one call where one is dropped.
+impl Drop for KeptEntry {
+    fn drop(self) {
+        let KeptEntry { born: _, state: _ } = self;
+    }
 }
 
 /// How far a request is.

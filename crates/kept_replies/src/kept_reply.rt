@@ -18,10 +18,19 @@ use std::marker::Model;
 
 /// A reply as it is kept: the octets that are sent again, and the identifier that they tell if it
 /// is a RegistrationConfirm. Contracts see the reply.
-#[derive(Drop)]
 pub struct KeptReply {
     encoded: EncodedReply,
     told: Option<ToldId>,
+}
+
+// By hand, so that it is one call where one is dropped.
+impl Drop for KeptReply {
+    fn drop(self) {
+        let KeptReply {
+            encoded: _,
+            told: _,
+        } = self;
+    }
 }
 
 impl Model for KeptReply {

@@ -12,12 +12,22 @@ use std::hash::{Hash, Hasher};
 
 /// The datagram that a reply answers: a request that is sent again has the same octets and comes
 /// from the same address.
-#[derive(PartialEq, Eq, Drop)]
+#[derive(PartialEq, Eq)]
 pub struct KeptKey {
     /// The address that the datagram came from.
     pub source: Source,
     /// All its octets, also those after the request.
     pub bytes: RequestOctets,
+}
+
+// By hand, so that it is one call where one is dropped.
+impl Drop for KeptKey {
+    fn drop(self) {
+        let KeptKey {
+            source: _,
+            bytes: _,
+        } = self;
+    }
 }
 
 impl Hash for KeptKey {

@@ -10,9 +10,10 @@ use crate::sights::{is_listed, sight_of};
 use book_audit::audit;
 use books::{Chapter, Finished, Receipt};
 use pools::Pool;
-use ras_core::{Event, Outcome, Zone};
+use ras_core::{Event, Note, Outcome, Zone};
 use std::alloc::Global;
 use std::marker::Brand;
+use std::mem;
 use std::sync::Wait;
 use std::sync::atomic::AtomicU64;
 use std::sync::ledger::Ledger;
@@ -267,7 +268,8 @@ fn lock_zone<P: Pool, R: Wait>(
 /// Hands out the outcomes of the steps of the receipts.
 fn hand_out(receipts: Vec<Receipt>, outcomes: &mut Vec<Outcome>) -> Result<(), &'static str> {
     for receipt in receipts {
-        let Receipt { outcome, .. } = receipt;
+        let mut receipt = receipt;
+        let outcome = mem::replace(&mut receipt.outcome, Outcome::noted(Note::Idle, None));
         if outcomes.push(outcome).is_err() {
             return Err(NO_PLACE);
         }

@@ -11,6 +11,7 @@ use books::{Book, Entry};
 use pools::Pool;
 use ras_core::{Change, Event, Outcome, Snapshot};
 use std::alloc::Global;
+use std::mem;
 use step_check::same;
 
 const CHANGED: &str = "a refused call changed the zone or the book";
@@ -104,7 +105,7 @@ fn is_run<P: Pool>(stage: &Stage<P>, book: &Book) -> Result<bool, &'static str> 
 /// Hands out the outcomes of the steps of a book.
 fn hand_out(entries: Vec<Entry>, outcomes: &mut Vec<Outcome>) -> Result<(), &'static str> {
     for entry in entries {
-        let Entry { outcome, .. } = entry;
+        let (_, outcome) = entry.into_change();
         if outcomes.push(outcome).is_err() {
             return Err("no place for an outcome");
         }
@@ -122,8 +123,8 @@ pub fn keep_book<P: Pool>(
     let mut book = Book::new(alloc, snapshot_of(stage)?);
     let recorded = record_all(stage, &mut book, events);
     let led = is_run(stage, &book);
-    let Book { base, entries } = book;
-    drop(base);
+    let entries = mem::replace(&mut book.entries, Vec::new(alloc));
+    drop(book);
     let handed_out = hand_out(entries, outcomes);
     recorded?;
     if !led? {

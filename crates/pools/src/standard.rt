@@ -22,8 +22,8 @@ pub enum StandardPool {
 impl StandardPool {
     /// The pool that is described, of which nothing is lent.
     ///
-    /// promise described-pool-is-of-its-kind: A described pool is made of its kind, and answers by
-    /// that kind's rule (`pool_of`, `AnswersByKind`).
+    /// promise described-pool-is-of-its-kind: A described pool is made of its kind; its `lend`
+    /// answers by that kind's rule (`pool_of`, `AnswersByKind`).
     pub fn new(spec: PoolSpec) -> StandardPool
         ensures { result ≡ pool_of spec }
     {

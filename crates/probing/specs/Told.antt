@@ -67,7 +67,7 @@ with_reject text reject =
     then text ++ codes "rejected: " ++ reason_words reject.reason ++ codes "\n"
     else with_no_confirm text
 
--- what a reading of an answer is told as, so many microseconds after the request
+-- what a reading of an answer is told as, these microseconds after the request
 abbrev pub with_told : List ℕ → Result DiscoveryReply ReadFault → ℕ → List ℕ
 with_told text (Ok (reply.Confirm confirm)) microseconds = with_confirm text confirm microseconds
 with_told text (Ok (reply.Reject reject)) microseconds = with_reject text reject

@@ -92,7 +92,7 @@ fn bound<R: Net>(rt: &R, from: Option<Address>) -> io::Result<UdpSocket> {
     UdpSocket::bind(rt, system_address(from.unwrap_or(any)))
 }
 
-/// Lets only the gatekeeper be heard, and for so long.
+/// Lets only the gatekeeper be heard, and no longer than the timeout.
 fn connect(socket: &UdpSocket, probe: Probe) -> io::Result<()> {
     socket.connect(system_address(probe.target))?;
     socket.set_read_timeout(Some(Duration::from_millis(probe.timeout)))

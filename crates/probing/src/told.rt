@@ -97,8 +97,8 @@ fn push_reject(out: &mut String, reject: Reject) -> Result<(), AllocError>
     out.push_str("\n")
 }
 
-/// Writes a line that tells what octets say as an answer to a discovery that was sent so long ago,
-/// and says whether they confirm it.
+/// Writes a line that tells what octets say as an answer to a discovery that was sent these
+/// microseconds ago, and says whether they confirm it.
 ///
 /// promise answers-are-told-as-they-read: The line follows from the reading (`with_told`).
 pub fn push_told(

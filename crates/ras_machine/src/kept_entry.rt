@@ -37,10 +37,10 @@ pub fn state_after(
     requires same { kept ≡ reply }
     ensures { result ≡ state_after request reply waits term }
 {
-    match reply {
+    match &reply {
         Reply::Rip { seq, delay } if waits => KeptState::Pending {
             request,
-            reply: InProgress::new(seq, delay),
+            reply: InProgress::new(*seq, *delay),
             retry: term.retry,
             left: term.times,
         },

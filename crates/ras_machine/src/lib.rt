@@ -12,10 +12,11 @@
 //! | turn.rt | `due`, `turn_course` | what a turn calls for |
 //! | machine.rt | `identify`, `perform` | the identifier that is handed out; the deed of one step |
 //! | course.rt | `Course::may_return_units` | whether units may come back to a pool in the deed |
-//! | readiness.rt | `is_ready`, `is_over`, `is_due`, `may_be_named` | whether choices that were recorded may be made |
+//! | readiness.rt | `is_ready`, `is_over`, `is_due`, `may_be_named` | whether choices fit |
 //! | replacing.rt | `replace_pool` | a fresh pool takes the place of one |
 //! | machine.rt | `new`, `copy`, `is_same` | a machine in which no step was made; copies |
-//! | machine.rt | `clock`, `steps`, `is_closed`, `tables`, `pools`, `allocator` | what it has |
+//! | machine.rt | `clock`, `steps`, `is_closed`, `tables`, `kept_len`, `pools` | what it has |
+//! | machine.rt | `allocator` | where its memory comes from |
 //!
 //! The words are those of the definitions (specs/Machine.antt): an event calls for a `Course`; a
 //! request that is served is a `Task`, which has a `Job` and a `Plan`.

@@ -1,5 +1,5 @@
-//! The outcomes of steps in which no request is served. A note is large: each of these functions has
-//! the place for its own, so that a step that needs none doesn't clear it.
+//! The outcomes of steps in which no request is served. A note is large: each of these functions
+//! has the place for its own, so that a step that needs none doesn't clear it.
 
 ghost use Rattle.std.specs.Prelude.{◌≡◌, None, Some};
 ghost use Rattle.zone_events.specs.Events.{noted_outcome};

@@ -13,7 +13,7 @@ pub enum GatekeeperRejectReason {
 }
 
 /// Why a registration is rejected (H.225.0, RegistrationRejectReason).
-#[derive(PartialEq, Eq, Drop)]
+#[derive(PartialEq, Eq)]
 pub enum RegistrationRejectReason {
     DiscoveryRequired,
     InvalidCallSignalAddress,
@@ -22,6 +22,20 @@ pub enum RegistrationRejectReason {
     DuplicateAlias(ReplyAliases),
     ResourceUnavailable,
     FullRegistrationRequired,
+}
+
+// By hand, so that it is one call where one is dropped.
+impl Drop for RegistrationRejectReason {
+    fn drop(self) {
+        match self {
+            RegistrationRejectReason::DiscoveryRequired
+            | RegistrationRejectReason::InvalidCallSignalAddress
+            | RegistrationRejectReason::InvalidRasAddress
+            | RegistrationRejectReason::DuplicateAlias(_)
+            | RegistrationRejectReason::ResourceUnavailable
+            | RegistrationRejectReason::FullRegistrationRequired => {}
+        }
+    }
 }
 
 /// Why an unregistration is rejected (H.225.0, UnregRejectReason).

@@ -21,7 +21,7 @@ use std::alloc::AllocError;
 /// number of the request; an IRQ has a number of the gatekeeper's own. Bandwidth is in units of 100
 /// bit/s. The two that tell identifiers stand in boxes, so that a reply has some 40 octets where it
 /// is moved.
-#[derive(PartialEq, Eq, Drop)]
+#[derive(PartialEq, Eq)]
 pub enum Reply {
     Gcf(Boxed<GatekeeperConfirm>),
     /// GatekeeperReject.
@@ -86,6 +86,36 @@ pub enum Reply {
     },
 }
 
+// By hand, so that it is one call where one is dropped.
+impl Drop for Reply {
+    fn drop(self) {
+        match self {
+            Reply::Gcf(_)
+            | Reply::Grj { seq: _, reason: _ }
+            | Reply::Rcf(_)
+            | Reply::Rrj { seq: _, reason: _ }
+            | Reply::Ucf { seq: _ }
+            | Reply::Urj { seq: _, reason: _ }
+            | Reply::Acf {
+                seq: _,
+                units: _,
+                dest: _,
+            }
+            | Reply::Arj { seq: _, reason: _ }
+            | Reply::Bcf { seq: _, units: _ }
+            | Reply::Brj {
+                seq: _,
+                reason: _,
+                allowed: _,
+            }
+            | Reply::Dcf { seq: _ }
+            | Reply::Drj { seq: _, reason: _ }
+            | Reply::Irq { seq: _ }
+            | Reply::Rip { seq: _, delay: _ } => {}
+        }
+    }
+}
+
 /// A GatekeeperConfirm (H.225.0, GCF): this gatekeeper, and its address for RAS messages.
 #[derive(Clone, Copy, PartialEq, Eq)]
 pub struct GatekeeperConfirm {
@@ -95,7 +125,7 @@ pub struct GatekeeperConfirm {
 }
 
 /// A RegistrationConfirm (H.225.0, RCF): what is registered, and for how long it is.
-#[derive(PartialEq, Eq, Drop)]
+#[derive(PartialEq, Eq)]
 pub struct RegistrationConfirm {
     pub seq: RequestSeqNum,
     pub call_signal: Address,
@@ -104,6 +134,20 @@ pub struct RegistrationConfirm {
     pub endpoint: EndpointId,
     /// The time to live.
     pub granted: TimeToLive,
+}
+
+// By hand, so that it is one call where one is dropped.
+impl Drop for RegistrationConfirm {
+    fn drop(self) {
+        let RegistrationConfirm {
+            seq: _,
+            call_signal: _,
+            aliases: _,
+            gatekeeper: _,
+            endpoint: _,
+            granted: _,
+        } = self;
+    }
 }
 
 impl RegistrationConfirm {

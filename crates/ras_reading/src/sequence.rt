@@ -44,7 +44,7 @@ pub fn sized_octet_string<'a>(
 }
 
 /// Characters of 16 bits, with zeros after them.
-// this and the next two are inlined, so that a text is not copied from each to the one that calls it
+// this and the next two are inlined, so that a text is not copied from each to the caller of it
 #[inline(always)]
 fn characters<const MOST: usize>(
     decoder: &mut Decoder<'_>,

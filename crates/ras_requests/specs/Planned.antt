@@ -139,8 +139,8 @@ abbrev pub IsPlanOf : Tables → ℕ → Request → CodePlan → Type 0
 IsPlanOf z now request p =
     (plan : Plan) → plan_of z now request ≡ Some plan → IsPlan z now request plan p
 
--- Memory is wanted for a plan at most if it is that of a discovery or a full registration that names
--- no other gatekeeper: for a confirm, and for the aliases that are registered.
+-- Memory is wanted for a plan at most if it is that of a discovery or a full registration that
+-- names no other gatekeeper: for a confirm, and for the aliases that are registered.
 abbrev pub MayWantMemory : Tables → Request → Type 0
 MayWantMemory z (Grq q) = is_foreign z q.gatekeeper ≡ false
 MayWantMemory z (Rrq q) = (is_foreign z q.gatekeeper ≡ false) × (q.keep_alive ≡ false)

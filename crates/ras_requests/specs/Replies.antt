@@ -11,8 +11,8 @@ use Rattle.zone_tables.specs.declared.unit_request.Purpose.TheVariants.{Opening,
 use Rattle.zone_tables.specs.declared.unit_request.UnitRequest.{UnitRequest}
 use Rattle.zone_tables.specs.Pools.{grant_of}
 
--- if it gets these units: an AdmissionConfirm for a call that opens, a BandwidthConfirm for one that
--- gets more
+-- if it gets these units: an AdmissionConfirm for a call that opens, a BandwidthConfirm for one
+-- that gets more
 abbrev pub granted_reply : ℕ → Purpose → ℕ → Reply
 granted_reply seq (Opening told) units = Acf seq units told
 granted_reply seq (Raising had) units = Bcf seq (had + units)

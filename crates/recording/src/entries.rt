@@ -24,7 +24,7 @@ impl<W: Write + Drop> RecordWriter<W> {
     pub fn write_entry(&mut self, entry: Entry) -> io::Result<Recorded>
         ensures { IsEntryAnswer self.old entry result self.new }
     {
-        let Entry { event, outcome, .. } = entry;
+        let (event, outcome) = entry.into_change();
         match told_event(event) {
             Some(event) => self.write(&event, &outcome),
             None => self.end(End::PoolReplaced),

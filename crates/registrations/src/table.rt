@@ -220,8 +220,7 @@ impl Registrations {
     /// The registration under this identifier.
     ///
     /// promise registrations-are-a-finite-map: A look-up returns what the map has; no two
-    /// registrations share a call signal address, nor, while the aliases agree, an alias
-    /// (`IsConsistent`, `Agree`).
+    /// registrations share a call signal address (`IsConsistent`).
     pub fn get(&self, id: &EndpointId) -> Option<&Registration>
         ensures found { option_copied result ≡ map.get self.now.live id.now }
         ensures sound { IsConsistent self.now.live }
@@ -299,7 +298,7 @@ impl Registrations {
     /// An identifier that no registration has, and that is not taken: any such one.
     ///
     /// promise free-identifier-is-not-reused-soon: An unused identifier isn't below where the
-    /// search begins, which rises with each registration (`IsFoundFrom`, `start_after`).
+    /// search begins, unless the search passes 2^64 (`IsFoundFrom`).
     pub fn unused(&self, taken: &[EndpointId]) -> EndpointId
         ensures unused { IsUnused self.now.live taken.now result }
         ensures from { IsFoundFrom self.now.next
@@ -331,7 +330,7 @@ impl Registrations {
     ///
     /// promise new-endpoint-has-unused-identifier: An endpoint is refused as Full if and only if
     /// the table is; else, want of memory aside, it gets an identifier that nobody has and that
-    /// isn't taken (`IsUnused`).
+    /// isn't taken, and the next search begins behind that (`IsUnused`, `start_after`).
     pub fn add(
         &mut self,
         registration: Registration,

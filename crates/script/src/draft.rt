@@ -41,7 +41,7 @@ impl Model for Draft {
 }
 
 impl Draft {
-    /// What no line has said, with room for so many events.
+    /// What no line has said, with room for this count of events.
     pub fn with_room(alloc: Global, events: usize) -> Result<Draft, AllocError>
         ensures { IfOk result (λ draft. draft
             ≡ record { zone = None; settings = []; pools = []; events = [] }) }

@@ -49,7 +49,7 @@ pub(crate) fn push_span(out: &mut String, milliseconds: u64) -> Result<(), Alloc
     out.push_str(" min")
 }
 
-/// Writes how many days there are in so many seconds, if there are any.
+/// Writes how many days there are in these seconds, if there are any.
 fn push_days(out: &mut String, seconds: u64) -> Result<(), AllocError>
     ensures { OnOk result (string_bytes out.new ≡ string_bytes out.old ++ days_text seconds) }
 {
@@ -60,7 +60,7 @@ fn push_days(out: &mut String, seconds: u64) -> Result<(), AllocError>
     out.push_str(" d ")
 }
 
-/// Writes how many hours there are in so many seconds beside the days, if it's an hour or more.
+/// Writes how many hours there are in these seconds beside the days, if it's an hour or more.
 fn push_hours(out: &mut String, seconds: u64) -> Result<(), AllocError>
     ensures { OnOk result (string_bytes out.new ≡ string_bytes out.old ++ hours_text seconds) }
 {

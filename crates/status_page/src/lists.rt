@@ -34,7 +34,7 @@ pub struct CallList {
     pub is_more: bool,
 }
 
-/// The endpoints behind this one, or from the first one on, by rising identifiers: at most so many.
+/// The endpoints behind this one, or from the first one on, by rising identifiers: `most` at most.
 /// One that stays while the zone tells them all isn't left out. One that comes or goes meanwhile
 /// may be missing.
 ///
@@ -109,7 +109,7 @@ fn is_endpoint_after(after: Option<EndpointId>, key: &EndpointId) -> bool
     }
 }
 
-/// The calls behind this one, or from the first one on, by rising keys: at most so many. One that
+/// The calls behind this one, or from the first one on, by rising keys: `most` at most. One that
 /// stays while the zone tells them all isn't left out; one that comes or goes meanwhile may be
 /// missing.
 pub fn calls_after<Z: RunningZone>(

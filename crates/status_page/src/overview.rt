@@ -36,6 +36,8 @@ impl Overview {
             Z.has_figures zone.now overview.figures overview.pools.items) }
         ensures within { IfOk result (λ overview.
             overview.figures.in_use ≤ overview.figures.limit) }
+        ensures server { IfOk result (λ overview. Z.has_server zone.now overview.server) }
+        ensures counts { IfOk result (λ overview. Z.has_counts zone.now overview.counts) }
     {
         let mut pools = Vec::with_capacity(alloc, MOST_POOLS)?;
         let figures = zone.figures(&mut pools);

@@ -127,7 +127,7 @@ fn with_call(query: Query, value: &[u8]) -> Option<Query>
     }
 }
 
-/// A query of at most so many rows as a value says. None if it says no number from 1 to 200.
+/// A query of at most as many rows as a value says. None if it says no number from 1 to 200.
 fn with_most(query: Query, value: &[u8]) -> Option<Query>
     ensures { result ≡ with_most query value.now }
 {

@@ -1,1 +1,5 @@
+pub mod Answered
 pub mod Paged
+pub mod SameAsked
+pub mod Sent
+pub mod Sited

@@ -1,4 +1,5 @@
 pub mod Bind
 pub mod Fields
 pub mod Pace
+pub mod Requests
 pub mod Shown

@@ -5,6 +5,7 @@ ghost use Rattle.std.specs.String.{string_bytes};
 ghost use Rattle.hyper.specs.Response.{body_of, head_of};
 ghost use Rattle.status_page.specs.Statuses.{code_of};
 ghost use Rattle.status_server.specs.Fields.{IsBody, fields_of};
+ghost use Rattle.status_server.specs.Requests.{IsAnswered};
 ghost use Rattle.tokio.specs.Timers.{sleep_source};
 
 use crate::fields::{set_fields, status_code};
@@ -49,9 +50,14 @@ fn as_hyper(alloc: Global, response: Response) -> Result<hyper::Response<Full<By
 
 impl<V: View> Question<V> {
     /// The answer, as hyper has it.
-    fn answer(self) -> Result<hyper::Response<Full<Bytes>>, AllocError> {
+    fn answer(self) -> Result<hyper::Response<Full<Bytes>>, AllocError>
+        ensures { IfOk result (λ sent.
+            IsAnswered (V.answers self.view.value self.asked)
+            (head_of sent).status (head_of sent).headers (body_of sent).buf) }
+    {
         let Question { alloc, view, asked } = self;
-        as_hyper(alloc, view.response(asked)?)
+        let response = view.response(asked)?;
+        as_hyper(alloc, response)
     }
 }
 
@@ -68,6 +74,10 @@ impl<V: View> Future for Answer<V> {
     type Output = Result<hyper::Response<Full<Bytes>>, AllocError>;
 
     ghost needs = { λ answer s. IsSomeAnd answer.pause (λ pause. s ≡ sleep_source pause) };
+
+    ghost gives = { λ answer r. IfOk r (λ sent. IsSomeAnd answer.question (λ question.
+        IsAnswered (V.answers question.view.value question.asked)
+        (head_of sent).status (head_of sent).headers (body_of sent).buf)) };
 
     fn poll(&mut self, cx: &mut Context<'_>) -> Poll<Self::Output> {
         if let Some(pause) = &mut self.pause {

@@ -1,7 +1,7 @@
 //! Binding the address of the status page.
 
-ghost use Rattle.std.specs.Prelude.{◌≡◌};
-ghost use Rattle.status_server.specs.Bind.{cause_text};
+ghost use Rattle.std.specs.Prelude.{◌≡◌, Some};
+ghost use Rattle.status_server.specs.Bind.{address_of, cause_text, fault_of};
 
 use ras_module::Address;
 use std::io::ErrorKind;
@@ -32,7 +32,9 @@ pub enum BindFault {
 }
 
 impl BindFault {
-    fn of(kind: ErrorKind) -> BindFault {
+    fn of(kind: ErrorKind) -> BindFault
+        ensures { result ≡ fault_of kind }
+    {
         match kind {
             ErrorKind::AddrInUse => BindFault::InUse,
             ErrorKind::AddrNotAvailable => BindFault::NotHere,
@@ -59,9 +61,7 @@ pub fn bind_status<R: Net<Listener = TcpListener, Stream = TcpStream>>(
     rt: &R,
     address: Address,
 ) -> Result<BoundListener, BindFault> {
-    let [a, b, c, d] = address.ip;
-    let address = SocketAddr::new(IpAddr::V4(Ipv4Addr::new(a, b, c, d)), address.port);
-    match TcpListener::bind(rt, address) {
+    match TcpListener::bind(rt, system_address(address)) {
         Ok(listener) => Ok(BoundListener { listener }),
         Err(error) => Err(BindFault::of(error.kind())),
     }
@@ -71,12 +71,27 @@ impl BoundListener {
     /// The address that is bound; None if the system doesn't tell one of IPv4. If the port 0 was
     /// asked for, the system has chosen another.
     pub fn address(&self) -> Option<Address> {
-        match self.listener.local_addr().ok()? {
-            SocketAddr::V4(address) => Some(Address {
-                ip: address.ip().octets(),
-                port: address.port(),
-            }),
-            SocketAddr::V6(_) => None,
-        }
+        ipv4_address(self.listener.local_addr().ok()?)
+    }
+}
+
+/// The address as the system has it.
+fn system_address(address: Address) -> SocketAddr
+    ensures { address_of result ≡ Some address }
+{
+    let [a, b, c, d] = address.ip;
+    SocketAddr::new(IpAddr::V4(Ipv4Addr::new(a, b, c, d)), address.port)
+}
+
+/// An address of the system's; None if it isn't one of IPv4.
+fn ipv4_address(address: SocketAddr) -> Option<Address>
+    ensures { result ≡ address_of address }
+{
+    match address {
+        SocketAddr::V4(address) => Some(Address {
+            ip: address.ip().octets(),
+            port: address.port(),
+        }),
+        SocketAddr::V6(_) => None,
     }
 }

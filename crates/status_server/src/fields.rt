@@ -2,12 +2,13 @@
 
 ghost use Rattle.std.specs.Prelude.{◌≡◌, [], OnOk};
 ghost use Rattle.hyper.specs.FieldValue.{plain_value};
+ghost use Rattle.hyper.specs.HeaderMap.{insert};
 ghost use Rattle.status_page.specs.Statuses.{code_of, media_type_of};
 ghost use Rattle.status_server.specs.Fields.{fields_of};
 
 use hyper::header::{
-    ALLOW, CACHE_CONTROL, CONTENT_SECURITY_POLICY, CONTENT_TYPE, HeaderMapError, HeaderValue,
-    X_CONTENT_TYPE_OPTIONS,
+    ALLOW, CACHE_CONTROL, CONTENT_SECURITY_POLICY, CONTENT_TYPE, HeaderMapError, HeaderName,
+    HeaderValue, X_CONTENT_TYPE_OPTIONS,
 };
 use hyper::{HeaderMap, StatusCode};
 use status_page::{Content, Status};
@@ -33,18 +34,31 @@ pub(crate) fn set_fields(
     requires { fields.old ≡ [] }
     ensures { OnOk result (fields.new ≡ fields_of status content) }
 {
-    fields.insert(CONTENT_TYPE, content_type(content))?;
-    fields.insert(CACHE_CONTROL, HeaderValue::from_static("no-store"))?;
-    fields.insert(X_CONTENT_TYPE_OPTIONS, HeaderValue::from_static("nosniff"))?;
-    fields.insert(
+    set(fields, CONTENT_TYPE, content_type(content))?;
+    set(fields, CACHE_CONTROL, HeaderValue::from_static("no-store"))?;
+    set(
+        fields,
+        X_CONTENT_TYPE_OPTIONS,
+        HeaderValue::from_static("nosniff"),
+    )?;
+    set(
+        fields,
         CONTENT_SECURITY_POLICY,
         HeaderValue::from_static(
             "default-src 'none'; style-src 'unsafe-inline'; frame-ancestors 'none'",
         ),
     )?;
     if status == Status::NotAllowed {
-        fields.insert(ALLOW, HeaderValue::from_static("GET, HEAD"))?;
+        set(fields, ALLOW, HeaderValue::from_static("GET, HEAD"))?;
     }
+    Ok(())
+}
+
+/// Sets a field to this one value.
+fn set(fields: &mut HeaderMap, name: HeaderName, value: HeaderValue) -> Result<(), HeaderMapError>
+    ensures { OnOk result (fields.new ≡ insert fields.old name value) }
+{
+    fields.insert(name, value)?;
     Ok(())
 }
 

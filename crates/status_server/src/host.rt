@@ -1,8 +1,10 @@
 //! Who serves a connection.
 
-ghost use Rattle.std.specs.Prelude.{IfOk};
-ghost use Rattle.hyper.specs.ServerDispatch.{GivesBodies, Runs};
-ghost use Rattle.tokio.specs.Timers.{timeout_future};
+ghost use Rattle.std.specs.Prelude.{◌≡◌, ◌*◌, IfOk};
+ghost use Rattle.std.specs.Duration.{as_nanos};
+ghost use Rattle.std.specs.declared.time.Duration.{Duration};
+ghost use Rattle.hyper.specs.ServerDispatch.{GivesBodies, IsNewFor, Runs};
+ghost use Rattle.tokio.specs.Timers.{IsDelayedBy, sleep_deadline, timeout_delay, timeout_future};
 
 use crate::pages::Pages;
 use crate::view::View;
@@ -43,8 +45,14 @@ where
     requires can_call { S.can_call service }
     requires bodies { (req : _) (future : _) → S.calls service req future
         → GivesBodies S.Future.gives B.can_poll future }
-    ensures { IfOk result (λ t. Runs I.AsyncRead I.AsyncWrite S.Service S.Future.Future B.Body
+    ensures runs { IfOk result (λ t. Runs I.AsyncRead I.AsyncWrite S.Service S.Future.Future B.Body
         B.Data.Into (timeout_future t).conn) }
+    ensures service { IfOk result (λ t. IsNewFor (timeout_future t).conn io service) }
+    ensures options { IfOk result (λ t.
+        (timeout_future t).conn.options ≡ http.now.options) }
+    ensures limit { IfOk result (λ t. (limit : Duration)
+        × (as_nanos limit ≡ MOST_SECONDS * 1000000000)
+        × IsDelayedBy limit (sleep_deadline (timeout_delay t))) }
 {
     let limit = Duration::from_secs(MOST_SECONDS);
     timers.timeout(rt, limit, http.serve_connection(io, service))

@@ -1,9 +1,10 @@
 //! A server of the status pages of a running zone over HTTP, for a thread of its own. It answers
 //! reads and nothing else.
 //!
-//! proved: that it is safe; a page is sent with its status, header fields and body (`as_hyper`); a
-//! list is of rows of the zone (`listed`)
-//! tested: the built program, which page is sent
+//! proved: that it is safe; what a connection sends is the answer to what its request asks for, of the
+//! zone that is shown and under its name, also if it is told again (`serve_one`, `response`); a page is
+//! sent with its status, header fields and body (`as_hyper`)
+//! tested: the built program; how long a page is told again; when a zone has ended
 #![tactic(auto)]
 
 mod answer;
@@ -14,7 +15,9 @@ mod pace;
 mod pages;
 mod server;
 mod shown;
+mod site;
 mod view;
+mod young;
 
 pub use bound::{BindFault, BoundListener, bind_status};
 pub use server::serve;

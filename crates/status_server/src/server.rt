@@ -1,23 +1,29 @@
 //! Serving the pages, several connections at a time.
 
+ghost use Rattle.std.specs.Prelude.{◌≡◌, IfOk, IsFalse, Some};
+
 use crate::bound::BoundListener;
 use crate::host::{Host, PageHost};
 use crate::pace::Pace;
 use crate::shown::Shown;
+use crate::site::Site;
 use crate::view::View;
+use futures::Future;
 use hyper::server::conn::http1::Builder;
 use status_page::About;
 use std::alloc::AllocGlobal;
 use std::hash::RandomState;
 use std::io;
+use std::marker::Brand;
 use std::net::Net;
 use std::random::RandomSource;
 use std::rc::Rc;
 use std::sync::Wait;
 use std::time::{Clock, Duration, Instant};
-use tokio::net::TcpListener;
+use tokio::net::{TcpListener, TcpStream};
 use tokio::runtime::LocalRuntime;
 use tokio::task::LocalSet;
+use tokio::time::{Handle, Sleep};
 use zone_view::RunningZone;
 
 /// The most connections at a time.
@@ -37,7 +43,19 @@ where
     R: Wait + Clock + Net + RandomSource + AllocGlobal,
     Z: RunningZone,
 {
-    serve_view(rt, listener, Shown::new(rt, rt.alloc(), about, zone))
+    serve_site::<R, Z, Brand>(rt, listener, about, zone)
+}
+
+/// The site is the caller's to pick.
+fn serve_site<R, Z, S>(rt: &R, listener: &BoundListener, about: About, zone: &Z) -> io::Result<()>
+where
+    R: Wait + Clock + Net + RandomSource + AllocGlobal,
+    Z: RunningZone,
+    S: Site<Z>,
+    requires { S.site ≡ Some (about, zone.now) }
+{
+    let view = Shown::<R, Z, S>::new(rt, rt.alloc(), about, zone);
+    serve_view(rt, listener, view)
 }
 
 /// Serves the pages of a view until it has ended.
@@ -48,20 +66,32 @@ where
 {
     let alloc = rt.alloc();
     let mut runtime = LocalRuntime::new(rt)?;
-    let own = listener.listener.try_clone()?;
-    let listener = TcpListener::from_std(own, runtime.handle().reactor())?;
-    let timers = runtime.handle().time().clone()?;
-    let mut http = Builder::new(alloc, RandomState::new(rt)?);
-    http.keep_alive(false).max_buf_size(MOST_HEAD);
     let host = PageHost {
         rt,
         alloc,
-        timers,
-        http,
+        timers: runtime.handle().time().clone()?,
+        http: one_request(rt)?,
         view: Rc::new(alloc, view)?,
         connections: Rc::new(alloc, ())?,
     };
+    let listener = listener_in(&runtime, listener)?;
     serve_all(rt, &mut runtime, listener, host)
+}
+
+/// How a connection is served: it has one request, with a head that isn't long.
+fn one_request<R: RandomSource + AllocGlobal>(rt: &R) -> io::Result<Builder>
+    ensures one { IfOk result (λ http. IsFalse http.options.keep_alive) }
+    ensures head { IfOk result (λ http. http.config.max_buf_size ≡ MOST_HEAD) }
+{
+    let mut http = Builder::new(rt.alloc(), RandomState::new(rt)?);
+    http.keep_alive(false).max_buf_size(MOST_HEAD);
+    Ok(http)
+}
+
+/// A listener in this runtime, at the bound address.
+fn listener_in(runtime: &LocalRuntime, listener: &BoundListener) -> io::Result<TcpListener> {
+    let own = listener.listener.try_clone()?;
+    TcpListener::from_std(own, runtime.handle().reactor())
 }
 
 /// Serves the connections that come, until the host has ended.
@@ -85,21 +115,13 @@ where
             break;
         }
         if let Some(moment) = pace.pause() {
-            let pause = timers.sleep_until(moment)?;
-            let _ = works.block_on_local(rt, runtime, pause)?;
+            rest(rt, runtime, &works, timers.sleep_until(moment)?)?;
         }
         if host.open() >= MOST_CONNECTIONS {
-            let pause = timers.sleep(rt, turn)?;
-            let _ = works.block_on_local(rt, runtime, pause)?;
+            rest(rt, runtime, &works, timers.sleep(rt, turn)?)?;
             continue;
         }
-        let accepting = timers.timeout(rt, turn, listener.accept())?;
-        let Ok(accepted) = works.block_on_local(rt, runtime, accepting)? else {
-            continue;
-        };
-        let Ok((socket, _)) = accepted else {
-            let pause = timers.sleep(rt, turn)?;
-            let _ = works.block_on_local(rt, runtime, pause)?;
+        let Some(socket) = accepted(rt, runtime, &works, &timers, &mut listener)? else {
             continue;
         };
         pace.count(Instant::now(rt)?);
@@ -108,4 +130,46 @@ where
         }
     }
     Ok(())
+}
+
+/// Serves the connections that are open, until a pause is over.
+fn rest<R, W>(
+    rt: &R,
+    runtime: &mut LocalRuntime,
+    works: &LocalSet<W>,
+    pause: Sleep,
+) -> io::Result<()>
+where
+    R: Wait + Clock + RandomSource + AllocGlobal,
+    W: Future<Output = ()>,
+{
+    let _ = works.block_on_local(rt, runtime, pause)?;
+    Ok(())
+}
+
+/// A connection that comes before the next turn, if one does. Meanwhile those that are open are
+/// served, also if the listener fails.
+fn accepted<R, W>(
+    rt: &R,
+    runtime: &mut LocalRuntime,
+    works: &LocalSet<W>,
+    timers: &Handle,
+    listener: &mut TcpListener,
+) -> io::Result<Option<TcpStream>>
+where
+    R: Wait + Clock + RandomSource + AllocGlobal,
+    W: Future<Output = ()>,
+{
+    let turn = Duration::from_millis(TURN);
+    let accepting = timers.timeout(rt, turn, listener.accept())?;
+    let Ok(accepted) = works.block_on_local(rt, runtime, accepting)? else {
+        return Ok(None);
+    };
+    match accepted {
+        Ok((socket, _)) => Ok(Some(socket)),
+        Err(_) => {
+            rest(rt, runtime, works, timers.sleep(rt, turn)?)?;
+            Ok(None)
+        }
+    }
 }

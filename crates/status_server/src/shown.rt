@@ -1,16 +1,21 @@
 //! A zone as it is shown.
 
-ghost use Rattle.std.specs.Prelude.{◌≡◌, IfOk};
+ghost use Rattle.std.specs.Prelude.{◌≡◌, IfOk, IfSome, IsSome, IsSomeAnd, IsTrue, Some};
 ghost use Rattle.std.specs.String.{string_bytes};
-ghost use Rattle.status_server.specs.Shown.{IsHomeOf, IsRowPageOf};
+ghost use Rattle.status_server.specs.Shown.{IsAnswerOf, IsCallPageOf, IsEndpointPageOf};
+ghost use Rattle.status_server.specs.Shown.{IsHomeOf, IsMetricsOf, IsOverviewOf, IsZonePageOf};
+ghost use Rattle.status_server.specs.Shown.{has_rows};
 
+use crate::site::Site;
 use crate::view::View;
+use crate::young::is_fresh;
 use status_page::{
     About, Asked, Overview, Query, Response, Status, calls_after, calls_json, endpoints_after,
     endpoints_json, home, line, metrics, zone_json,
 };
 use std::alloc::{AllocError, Global};
 use std::cell::RefCell;
+use std::marker::PhantomData;
 use std::rc::Rc;
 use std::time::{Clock, Duration, Instant};
 use zone_view::RunningZone;
@@ -24,33 +29,35 @@ const ROWS_AGE: u64 = 200;
 /// A zone as it is shown. What it told is told again for a short time, so that many requests don't
 /// keep those from their work who make its steps.
 #[derive(Drop)]
-pub(crate) struct Shown<'a, R, Z> {
+pub(crate) struct Shown<'a, R, Z: RunningZone, S: Site<Z>> {
     rt: &'a R,
     alloc: Global,
     about: About,
     zone: &'a Z,
-    overview: RefCell<Option<Told>>,
-    rows: RefCell<Option<Listed>>,
+    overview: RefCell<Option<Told<Z, S>>>,
+    rows: RefCell<Option<Listed<Z, S>>>,
+    ghost is_site: { ∥ S.site ≡ Some (about, zone.now) ∥₁ },
 }
 
-/// Figures that were told, and when.
+/// Figures that the site's zone told, and when.
 #[derive(Drop)]
-struct Told {
+struct Told<Z: RunningZone, S: Site<Z>> {
     moment: Instant,
     overview: Rc<Overview>,
+    site: PhantomData<(Z, S)>,
+    ghost is_told: { ∥ IsSomeAnd S.site (λ site.
+        IsOverviewOf Z.RunningZone site.1 overview.value) ∥₁ },
 }
 
-/// Rows that were told: when, what was asked, and what was answered.
+/// Rows that the site's zone told: when, what was asked, and what was answered.
 #[derive(Drop)]
-struct Listed {
+struct Listed<Z: RunningZone, S: Site<Z>> {
     moment: Instant,
     asked: Asked,
     response: Response,
-}
-
-/// How long ago a moment was; None if the clock doesn't tell.
-fn age<R: Clock>(rt: &R, moment: Instant) -> Option<Duration> {
-    moment.elapsed(rt).ok()
+    site: PhantomData<(Z, S)>,
+    ghost is_answer: { ∥ IsSomeAnd S.site (λ site.
+        IsAnswerOf Z.RunningZone site.1 site.0 asked response) ∥₁ },
 }
 
 fn copied(response: &Response) -> Result<Response, AllocError>
@@ -65,8 +72,12 @@ fn copied(response: &Response) -> Result<Response, AllocError>
     })
 }
 
-impl<'a, R: Clock, Z: RunningZone> Shown<'a, R, Z> {
-    pub(crate) fn new(rt: &'a R, alloc: Global, about: About, zone: &'a Z) -> Self {
+impl<'a, R: Clock, Z: RunningZone, S: Site<Z>> Shown<'a, R, Z, S> {
+    pub(crate) fn new(rt: &'a R, alloc: Global, about: About, zone: &'a Z) -> Self
+        requires { S.site ≡ Some (about, zone.now) }
+        ensures about { result.about ≡ about }
+        ensures zone { result.zone.now ≡ zone.now }
+    {
         Shown {
             rt,
             alloc,
@@ -78,79 +89,123 @@ impl<'a, R: Clock, Z: RunningZone> Shown<'a, R, Z> {
     }
 
     /// The figures: those that were told last if they aren't old.
-    fn overview(&self) -> Result<Rc<Overview>, AllocError> {
-        let mut last = self.overview.try_borrow_mut().map_err(|_| AllocError)?;
-        if let Some(told) = &*last {
-            if let Some(age) = age(self.rt, told.moment) {
-                if age < Duration::from_millis(FIGURES_AGE) {
-                    return told.overview.clone();
-                }
-            }
+    fn overview(&self) -> Result<Rc<Overview>, AllocError>
+        ensures { IfOk result (λ overview.
+            ∥ IsOverviewOf Z.RunningZone self.now.zone.now overview.value ∥₁) }
+    {
+        if let Some(overview) = self.last_overview()? {
+            return Ok(overview);
         }
         let overview = Rc::new(self.alloc, Overview::of(self.alloc, self.zone)?)?;
-        if let Ok(moment) = Instant::now(self.rt) {
-            *last = Some(Told {
-                moment,
-                overview: overview.clone()?,
-            });
-        }
+        self.keep_overview(overview.clone()?)?;
         Ok(overview)
     }
 
-    /// The response with rows: the last one if the same was asked just before.
-    fn rows(&self, asked: Asked) -> Result<Response, AllocError> {
-        let mut last = self.rows.try_borrow_mut().map_err(|_| AllocError)?;
-        if let Some(listed) = &*last {
-            if listed.asked == asked && self.is_fresh(listed) {
-                return copied(&listed.response);
+    /// The figures that were told last; None if they are old, or if there are none.
+    fn last_overview(&self) -> Result<Option<Rc<Overview>>, AllocError>
+        ensures { IfOk result (λ last. IfSome last (λ overview.
+            ∥ IsOverviewOf Z.RunningZone self.now.zone.now overview.value ∥₁)) }
+    {
+        let last = self.overview.try_borrow().map_err(|_| AllocError)?;
+        match &*last {
+            Some(told) if is_fresh(self.rt, told.moment, FIGURES_AGE) => {
+                Ok(Some(told.overview.clone()?))
             }
+            _ => Ok(None),
         }
-        let response = self.listed(&asked)?;
+    }
+
+    /// Keeps figures that were told now, so that they can be told again.
+    fn keep_overview(&self, overview: Rc<Overview>) -> Result<(), AllocError>
+        requires { ∥ IsOverviewOf Z.RunningZone self.now.zone.now overview.value ∥₁ }
+    {
         if let Ok(moment) = Instant::now(self.rt) {
-            *last = Some(Listed {
+            let mut last = self.overview.try_borrow_mut().map_err(|_| AllocError)?;
+            let told = Told {
                 moment,
-                asked,
-                response: copied(&response)?,
-            });
+                overview,
+                site: PhantomData,
+            };
+            *last = Some(told);
         }
+        Ok(())
+    }
+
+    /// The response with rows: the last one if the same was asked just before.
+    fn rows(&self, asked: Asked) -> Result<Response, AllocError>
+        ensures { IfOk result (λ response.
+            ∥ IsAnswerOf Z.RunningZone self.now.zone.now self.now.about asked response ∥₁) }
+    {
+        if let Some(response) = self.last_rows(&asked)? {
+            return Ok(response);
+        }
+        let response = self.answer(&asked)?;
+        let copy = copied(&response)?;
+        self.keep_rows(asked, copy)?;
         Ok(response)
     }
 
-    /// Whether rows were told so short ago that no others are told.
-    fn is_fresh(&self, listed: &Listed) -> bool {
-        match age(self.rt, listed.moment) {
-            Some(age) => age < Duration::from_millis(ROWS_AGE),
-            None => false,
+    /// The last response with rows; None if it is old, if it answers another question, or if there
+    /// is none.
+    fn last_rows(&self, asked: &Asked) -> Result<Option<Response>, AllocError>
+        ensures { IfOk result (λ last. IfSome last (λ response.
+            ∥ IsAnswerOf Z.RunningZone self.now.zone.now self.now.about asked.now response ∥₁)) }
+    {
+        let last = self.rows.try_borrow().map_err(|_| AllocError)?;
+        match &*last {
+            Some(listed) if listed.asked == *asked && self.is_fresh(listed) => {
+                Ok(Some(copied(&listed.response)?))
+            }
+            _ => Ok(None),
         }
     }
 
-    /// A response with rows that are told now.
-    fn listed(&self, asked: &Asked) -> Result<Response, AllocError>
-        ensures { IfOk result (IsRowPageOf self.now.about asked.now
-            (Z.has_endpoint self.now.zone.now) (Z.has_endpoints_below self.now.zone.now)
-            (Z.has_call self.now.zone.now) (Z.has_calls_below self.now.zone.now)) }
+    /// Keeps a response with rows that was made now, so that it can be given again.
+    fn keep_rows(&self, asked: Asked, response: Response) -> Result<(), AllocError>
+        requires { ∥ IsAnswerOf Z.RunningZone self.now.zone.now self.now.about asked response ∥₁ }
+    {
+        if let Ok(moment) = Instant::now(self.rt) {
+            let mut last = self.rows.try_borrow_mut().map_err(|_| AllocError)?;
+            let listed = Listed {
+                moment,
+                asked,
+                response,
+                site: PhantomData,
+            };
+            *last = Some(listed);
+        }
+        Ok(())
+    }
+
+    /// Whether rows were told so short ago that no others are told.
+    fn is_fresh(&self, listed: &Listed<Z, S>) -> bool {
+        is_fresh(self.rt, listed.moment, ROWS_AGE)
+    }
+
+    /// The answer to what is asked for, as the zone is now.
+    fn answer(&self, asked: &Asked) -> Result<Response, AllocError>
+        ensures { IfOk result (
+            IsAnswerOf Z.RunningZone self.now.zone.now self.now.about asked.now) }
     {
         let alloc = self.alloc;
         match asked {
             Asked::Home(query) => self.home(query),
-            Asked::Endpoints(query) => {
-                let most = query.most as usize;
-                let list = endpoints_after(alloc, self.zone, query.endpoint().copied(), most)?;
-                endpoints_json(alloc, &list)
-            }
-            Asked::Calls(query) => {
-                let list = calls_after(alloc, self.zone, query.call, query.most as usize)?;
-                calls_json(alloc, &list)
-            }
-            _ => line(alloc, Status::NotFound, "no such page"),
+            Asked::Endpoints(query) => self.endpoints(query),
+            Asked::Calls(query) => self.calls(query),
+            Asked::Metrics => self.metrics(),
+            Asked::Zone => self.zone_page(),
+            Asked::Health if self.zone.has_ended() => line(alloc, Status::Unavailable, "ended"),
+            Asked::Health => line(alloc, Status::Found, "ok"),
+            Asked::WrongQuery => line(alloc, Status::BadRequest, "no such query"),
+            Asked::NoPage => line(alloc, Status::NotFound, "no such page"),
+            Asked::NotAllowed => line(alloc, Status::NotAllowed, "GET and HEAD alone"),
         }
     }
 
     /// The page for people.
     fn home(&self, query: &Query) -> Result<Response, AllocError>
-        ensures { IfOk result (IsHomeOf self.now.about query.now
-            (Z.has_endpoint self.now.zone.now) (Z.has_endpoints_below self.now.zone.now)
-            (Z.has_call self.now.zone.now) (Z.has_calls_below self.now.zone.now)) }
+        ensures { IfOk result (
+            IsHomeOf Z.RunningZone self.now.zone.now self.now.about query.now) }
     {
         let alloc = self.alloc;
         let most = query.most as usize;
@@ -159,17 +214,58 @@ impl<'a, R: Clock, Z: RunningZone> Shown<'a, R, Z> {
         let calls = calls_after(alloc, self.zone, query.call, most)?;
         home(alloc, &self.about, &overview, query, &endpoints, &calls)
     }
+
+    /// The list of endpoints in JSON.
+    fn endpoints(&self, query: &Query) -> Result<Response, AllocError>
+        ensures { IfOk result (IsEndpointPageOf Z.RunningZone self.now.zone.now query.now) }
+    {
+        let most = query.most as usize;
+        let list = endpoints_after(self.alloc, self.zone, query.endpoint().copied(), most)?;
+        endpoints_json(self.alloc, &list)
+    }
+
+    /// The list of calls in JSON.
+    fn calls(&self, query: &Query) -> Result<Response, AllocError>
+        ensures { IfOk result (IsCallPageOf Z.RunningZone self.now.zone.now query.now) }
+    {
+        let list = calls_after(self.alloc, self.zone, query.call, query.most as usize)?;
+        calls_json(self.alloc, &list)
+    }
+
+    /// The metrics.
+    fn metrics(&self) -> Result<Response, AllocError>
+        ensures { IfOk result (IsMetricsOf Z.RunningZone self.now.zone.now self.now.about) }
+    {
+        let overview = self.overview()?;
+        metrics(self.alloc, &self.about, &overview)
+    }
+
+    /// The zone in JSON.
+    fn zone_page(&self) -> Result<Response, AllocError>
+        ensures { IfOk result (IsZonePageOf Z.RunningZone self.now.zone.now self.now.about) }
+    {
+        let overview = self.overview()?;
+        zone_json(self.alloc, &self.about, &overview)
+    }
 }
 
 /// Whether what is asked for has rows.
-fn has_rows(asked: &Asked) -> bool {
+fn has_rows(asked: &Asked) -> bool
+    ensures { result ≡ has_rows asked.now }
+{
     matches!(
         asked,
         Asked::Home(_) | Asked::Endpoints(_) | Asked::Calls(_)
     )
 }
 
-impl<R: Clock, Z: RunningZone> View for Shown<'_, R, Z> {
+impl<R: Clock, Z: RunningZone, S: Site<Z>> View for Shown<'_, R, Z, S> {
+    ghost answers = { λ view asked response.
+        ∥ IsAnswerOf Z.RunningZone view.zone.now view.about asked response ∥₁ };
+
+    /// What has no rows needn't wait.
+    ghost turns = { λ _ asked turn. IsSome turn → IsTrue (has_rows asked) };
+
     /// Other rows than the last ones wait until those are old enough.
     fn turn(&self, asked: &Asked) -> Option<Instant> {
         if !has_rows(asked) {
@@ -185,22 +281,10 @@ impl<R: Clock, Z: RunningZone> View for Shown<'_, R, Z> {
     }
 
     fn response(&self, asked: Asked) -> Result<Response, AllocError> {
-        let alloc = self.alloc;
-        match asked {
-            Asked::Home(_) | Asked::Endpoints(_) | Asked::Calls(_) => self.rows(asked),
-            Asked::Metrics => {
-                let overview = self.overview()?;
-                metrics(alloc, &self.about, &overview)
-            }
-            Asked::Zone => {
-                let overview = self.overview()?;
-                zone_json(alloc, &self.about, &overview)
-            }
-            Asked::Health if self.zone.has_ended() => line(alloc, Status::Unavailable, "ended"),
-            Asked::Health => line(alloc, Status::Found, "ok"),
-            Asked::WrongQuery => line(alloc, Status::BadRequest, "no such query"),
-            Asked::NoPage => line(alloc, Status::NotFound, "no such page"),
-            Asked::NotAllowed => line(alloc, Status::NotAllowed, "GET and HEAD alone"),
+        if has_rows(&asked) {
+            self.rows(asked)
+        } else {
+            self.answer(&asked)
         }
     }
 

@@ -20,7 +20,7 @@ const VALUE: u8 = 7;
 /// The room of a large buffer.
 const LARGE: usize = 5_000;
 
-/// Whether these are so many octets of this value.
+/// Whether these octets have this length, and each has this value.
 fn is_all(octets: &[u8], len: usize, value: u8) -> bool {
     octets.len() == len && octets.iter().all(|octet| *octet == value)
 }

@@ -1,2 +1,4 @@
+pub mod Carrying
 pub mod Counts
 pub mod Steps
+pub mod Ticks

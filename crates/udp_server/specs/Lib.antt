@@ -1,9 +1,11 @@
 pub mod Ends
 pub mod Faults
 pub mod Headline
+pub mod Joint
 pub mod Orders
 pub mod Plans
 pub mod Rooms
 pub mod Sending
 pub mod Served
+pub mod Ticks
 pub mod Working

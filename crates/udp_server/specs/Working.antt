@@ -132,36 +132,6 @@ CameOfTurns opened tells most why old new =
 abbrev pub IsTold : {C : Type 0} → (C → ℕ → C → Type 0) → C → ℕ → Type 0
 IsTold {C} tells clock moment = (clock_then : C) × tells clock moment clock_then
 
--- whether a worker goes on after turns that ended so: it ends only if no step is made any more
-abbrev pub goes_on_after_turns : TurnsEnd → Bool
-goes_on_after_turns turns_end.Idle = true
-goes_on_after_turns turns_end.More = true
-goes_on_after_turns (turns_end.Refused step_fault.Memory) = true
-goes_on_after_turns (turns_end.Refused step_fault.Closed) = false
-
--- What a worker did last is turns, and it goes on or not as these ended.
-pub record AreLastTurns {C : Type 0} (opened : State) (tells : C → ℕ → C → Type 0) (most : ℕ)
-    (goes_on : Bool) (new : Standing) : Type 0 where
-  pub clock : C
-  pub old : Standing
-  pub why : TurnsEnd
-  pub came : CameOfTurns opened (IsTold tells clock) most why old new
-  pub end : goes_on ≡ goes_on_after_turns why
-
--- What a worker did last is one turn at a moment that its clock told, and it goes on or not by what
--- came of that. If there was no memory for a chapter that was due behind it, that is counted.
-pub record IsLastTurn {C : Type 0} (opened : State) (tells : C → ℕ → C → Type 0) (goes_on : Bool)
-    (new : Standing) : Type 0 where
-  pub clock : C
-  pub moment : ℕ
-  pub old : Standing
-  pub came : StepResult
-  pub then : Standing
-  pub told : IsTold tells clock moment
-  pub made : CameOf opened (event.Turn moment) came old then
-  pub chapter : (new ≡ then) ⊎ IsRefusalCounted then new
-  pub end : goes_on ≡ goes_on_after came
-
 -- what a receive gave, with the octets of its datagram, if it gave one
 abbrev pub Gives : Type 1
 Gives = ReceiveResult → List ℕ → Type 0

@@ -1,8 +1,10 @@
 //! The worker that makes the turns of the timers.
 
-ghost use Rattle.std.specs.Prelude.{IsFalse};
+ghost use Rattle.std.specs.Prelude.{◌≡◌, IsFalse};
 ghost use Rattle.zone_lock.specs.Held.{IsClosed};
-ghost use Rattle.udp_server.specs.Working.{AreLastTurns, IsLastTurn, standing};
+ghost use Rattle.udp_server.specs.Ticks.{AreTurnsOfRound, IsTick, IsTurnOfRound};
+ghost use Rattle.udp_server.specs.Ticks.{goes_on_after_turns, is_more_due, is_more_due_after};
+ghost use Rattle.udp_server.specs.Working.{goes_on_after, standing};
 
 use crate::chapters::Chapters;
 use crate::gate::Gate;
@@ -75,6 +77,10 @@ pub(crate) fn expire<
 
 /// Makes turns until nothing is due, or one is refused, many of them each time that it holds the
 /// lock. Whether the worker goes on: it ends only if no step may be made any more.
+///
+/// promise tick-makes-turns-while-due: All that a worker does at a tick is rounds of turns, until
+/// none is due, one is refused, or 20 rounds were made; or, if they are recorded, 1,000 turns
+/// (`IsTick`, `AreTurnsOfRound`).
 fn goes_on_unrecorded<
     P: Pool,
     D: Hall,
@@ -90,17 +96,32 @@ fn goes_on_unrecorded<
     replies: &mut Vec<Datagram>,
 ) -> bool
     ensures closed { IsFalse result → IsClosed D.opened }
-    ensures last { AreLastTurns D.opened C.tells 50 result
+    ensures tick { IsTick (AreTurnsOfRound D.opened C.tells 50) MOST_HOLDS is_more_due
+        goes_on_after_turns result
+        (standing worker.old.seat worker.old.outlet worker.old.counts)
         (standing worker.new.seat worker.new.outlet worker.new.counts) }
 {
     for _ in 0..MOST_HOLDS {
-        match worker.turns(shared, replies) {
-            TurnsEnd::More => {}
-            TurnsEnd::Idle | TurnsEnd::Refused(StepFault::Memory) => return true,
-            TurnsEnd::Refused(StepFault::Closed) => return false,
+        let end = worker.turns(shared, replies);
+        if !is_more_due(end) {
+            return goes_on_after(end);
         }
     }
     true
+}
+
+/// Whether more turns may be due after some that ended so.
+fn is_more_due(end: TurnsEnd) -> bool
+    ensures { result ≡ is_more_due end }
+{
+    matches!(end, TurnsEnd::More)
+}
+
+/// Whether the worker goes on after turns that ended so.
+fn goes_on_after(end: TurnsEnd) -> bool
+    ensures { result ≡ goes_on_after_turns end }
+{
+    !matches!(end, TurnsEnd::Refused(StepFault::Closed))
 }
 
 /// Makes turns until nothing is due, or one is refused, and ends a chapter after each if one is
@@ -120,20 +141,14 @@ fn goes_on_recorded<
     chapters: &mut Chapters,
 ) -> bool
     ensures closed { IsFalse result → IsClosed D.opened }
-    ensures last { IsLastTurn D.opened C.tells result
+    ensures tick { IsTick (IsTurnOfRound D.opened C.tells) MOST_TURNS is_more_due_after
+        goes_on_after result
+        (standing worker.old.seat worker.old.outlet worker.old.counts)
         (standing worker.new.seat worker.new.outlet worker.new.counts) }
 {
     for _ in 0..MOST_TURNS {
-        let moment = worker.clock.now();
-        match worker.step_recorded(shared, Event::Turn(moment)) {
-            StepResult::Made { place, is_idle } => {
-                let ended = match place {
-                    Some(place) => chapters.end_if_due(shared, place),
-                    None => Ok(()),
-                };
-                if ended.is_err() {
-                    worker.counts.refuse();
-                }
+        match make_turn(shared, worker, chapters) {
+            StepResult::Made { place: _, is_idle } => {
                 if is_idle {
                     return true;
                 }
@@ -143,4 +158,28 @@ fn goes_on_recorded<
         }
     }
     true
+}
+
+/// Makes one turn, and ends a chapter behind it if one is due. What came of the turn.
+fn make_turn<P: Pool, D: Hall, T: Ledger, U: Ledger, V: Ledger, R: Wait, G: Gate, C: Moments>(
+    shared: &Shared<'_, P, D, T, U, V, R, G>,
+    worker: &mut Worker<D, T, U, V, C>,
+    chapters: &mut Chapters,
+) -> StepResult
+    ensures { IsTurnOfRound D.opened C.tells result
+        (standing worker.old.seat worker.old.outlet worker.old.counts)
+        (standing worker.new.seat worker.new.outlet worker.new.counts) }
+{
+    let moment = worker.clock.now();
+    let came = worker.step_recorded(shared, Event::Turn(moment));
+    if let StepResult::Made {
+        place: Some(place),
+        is_idle: _,
+    } = came
+    {
+        if chapters.end_if_due(shared, place).is_err() {
+            worker.counts.refuse();
+        }
+    }
+    came
 }

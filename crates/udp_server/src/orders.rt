@@ -1,7 +1,10 @@
 //! Pools that are to be replaced while a server runs.
 
-ghost use Rattle.std.specs.Prelude.{◌≡◌, ◌≤◌, ◌<◌, ◌+◌, OnSome, vec_capacity, vec_len};
-ghost use Rattle.udp_server.specs.Orders.{IsNextAt};
+ghost use Rattle.std.specs.Prelude.{◌≡◌, ◌≤◌, ◌<◌, ◌+◌, IsFalse, IsTrue, OnSome, vec_capacity};
+ghost use Rattle.std.specs.Prelude.{vec_len};
+ghost use Rattle.udp_server.specs.Orders.{AreCarriedOut, IsNextAt, IsNextTried, IsNoneDue};
+ghost use Rattle.udp_server.specs.Orders.{ordering};
+ghost use Rattle.udp_server.specs.Working.{IsTold, standing};
 
 use crate::gate::Gate;
 use crate::moments::Moments;
@@ -51,23 +54,59 @@ impl<P: Pool> Orders<P> {
 
     /// Tries each order, in the list's order, whose moment the worker's clock has reached. An order
     /// waits for those before it, and none is tried twice.
+    ///
+    /// promise orders-are-tried-once: Each order is tried once, at its moment or later and behind
+    /// those before it; what comes back of it stands beside its pool's number (`AreCarriedOut`,
+    /// `IsNextTried`).
     pub(crate) fn carry_out<D: Hall, T: Ledger, U: Ledger, V: Ledger, R: Wait, G: Gate, C: Moments>(
         &mut self,
         shared: &Shared<'_, P, D, T, U, V, R, G>,
         worker: &mut Worker<D, T, U, V, C>,
-    ) {
+    )
+        ensures { AreCarriedOut D.opened P.account C.tells
+            (ordering self.old.waiting.items self.old.boxes.items
+            (standing worker.old.seat worker.old.outlet worker.old.counts))
+            (ordering self.new.waiting.items self.new.boxes.items
+            (standing worker.new.seat worker.new.outlet worker.new.counts)) }
+    {
         for _ in 0..self.waiting.len() {
-            let now = worker.clock.now();
-            let Some(order) = self.next_at(now) else {
+            if !self.has_tried_next(shared, worker) {
                 return;
-            };
-            let PoolOrder { at: _, pool, fresh } = order;
-            let (back, is_old) = match worker.replace(shared, pool, fresh, now) {
-                Ok(old) => (old, true),
-                Err(fresh) => (fresh, false),
-            };
-            self.boxes.push_reserved((pool, back, is_old));
+            }
         }
+    }
+
+    /// Tries the next order, if there is one whose moment the worker's clock has reached. Whether
+    /// it has.
+    fn has_tried_next<D: Hall, T: Ledger, U: Ledger, V: Ledger, R: Wait, G: Gate, C: Moments>(
+        &mut self,
+        shared: &Shared<'_, P, D, T, U, V, R, G>,
+        worker: &mut Worker<D, T, U, V, C>,
+    ) -> bool
+        ensures tried { IsTrue result
+            → IsNextTried D.opened P.account (IsTold C.tells worker.old.clock)
+            (ordering self.old.waiting.items self.old.boxes.items
+            (standing worker.old.seat worker.old.outlet worker.old.counts))
+            (ordering self.new.waiting.items self.new.boxes.items
+            (standing worker.new.seat worker.new.outlet worker.new.counts)) }
+        ensures none { IsFalse result
+            → IsNoneDue (IsTold C.tells worker.old.clock) self.new.waiting.items }
+        ensures same { IsFalse result
+            → ordering self.new.waiting.items self.new.boxes.items
+            (standing worker.new.seat worker.new.outlet worker.new.counts)
+            ≡ ordering self.old.waiting.items self.old.boxes.items
+            (standing worker.old.seat worker.old.outlet worker.old.counts) }
+    {
+        let now = worker.clock.now();
+        let Some(order) = self.next_at(now) else {
+            return false;
+        };
+        let PoolOrder { at: _, pool, fresh } = order;
+        match worker.replace(shared, pool, fresh, now) {
+            Ok(old) => self.boxes.push_reserved((pool, old, true)),
+            Err(fresh) => self.boxes.push_reserved((pool, fresh, false)),
+        }
+        true
     }
 
     /// The next order, if its moment is reached. There is room for what comes back of it.

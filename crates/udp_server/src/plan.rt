@@ -1,5 +1,8 @@
 //! How a server runs.
 
+ghost use Rattle.std.specs.Prelude.{◌≡◌};
+ghost use Rattle.udp_server.specs.Plans.{has_history};
+
 /// How a server runs.
 #[derive(Clone, Copy)]
 pub struct Plan {
@@ -26,7 +29,9 @@ pub struct Plan {
 impl Plan {
     /// Whether steps are recorded: for receipts, for chapters that are kept, or for a history that
     /// isn't parted. Otherwise nothing is kept of a step but what it adds to the totals.
-    pub(crate) fn is_recorded(&self) -> bool {
+    pub(crate) fn is_recorded(&self) -> bool
+        ensures { result ≡ has_history self.now }
+    {
         self.receipts || self.chapter == 0 || self.latest > 0
     }
 }

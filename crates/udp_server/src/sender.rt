@@ -1,7 +1,7 @@
 //! The sender.
 
-ghost use Rattle.std.specs.Prelude.{◌≡◌, IsFalse, IsTrue};
-ghost use Rattle.reply_queues.specs.Rings.{datagrams_taken};
+ghost use Rattle.std.specs.Prelude.{◌≡◌, [], All, IsFalse, IsTrue};
+ghost use Rattle.reply_queues.specs.Rings.{datagrams_seen, datagrams_taken};
 ghost use Rattle.udp_server.specs.Sending.{IsNextSent, IsSendCounted};
 
 use crate::board::Board;
@@ -65,7 +65,10 @@ pub(crate) fn send_all<R: Wait, N: Datagrams>(
 
 impl<N: Datagrams> Sender<N> {
     /// Sends the next reply of each ring. Whether there was any.
-    fn has_sent(&mut self, inlets: &mut [Inlet]) -> bool {
+    fn has_sent(&mut self, inlets: &mut [Inlet]) -> bool
+        ensures looked { IsFalse result → All (λ inlet. datagrams_seen inlet ≡ []) inlets.new }
+        ensures same { IsFalse result → self.new.sent ≡ self.old.sent }
+    {
         let mut is_any = false;
         for inlet in inlets.iter_mut() {
             if self.has_sent_next(inlet) {
@@ -78,10 +81,12 @@ impl<N: Datagrams> Sender<N> {
     /// Sends the next reply of a ring, if there is one. Whether there was one.
     ///
     /// promise sender-sends-each-once: A reply taken from a ring is the next there, is handed to
-    /// the end once, and is counted as sent or failed (`IsNextSent`, `IsSendCounted`).
+    /// the end once, and is counted as sent or failed; the sender tells that there was none only if
+    /// it looked and saw none (`IsNextSent`, `IsSendCounted`, `datagrams_seen`).
     fn has_sent_next(&mut self, inlet: &mut Inlet) -> bool
         ensures none { IsFalse result → datagrams_taken inlet.new ≡ datagrams_taken inlet.old }
         ensures same { IsFalse result → self.new.sent ≡ self.old.sent }
+        ensures looked { IsFalse result → datagrams_seen inlet.new ≡ [] }
         ensures next { IsTrue result
             → IsNextSent (λ datagram given. N.sends self.old.end datagram given self.new.end)
             (datagrams_taken inlet.old) (datagrams_taken inlet.new)

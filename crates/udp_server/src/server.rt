@@ -1,9 +1,11 @@
 //! Running a server.
 
-ghost use Rattle.std.specs.Prelude.{◌≡◌, ◌≢◌, ◌≤◌, ◌+◌, ◌^◌, ◌↔◌, Err, IfOk, length, vec_len};
+ghost use Rattle.std.specs.Prelude.{◌≡◌, ◌≢◌, ◌≤◌, ◌+◌, ◌^◌, ◌↔◌, ◌++◌, ◌∷◌, [], Err, IfOk};
+ghost use Rattle.std.specs.Prelude.{OnOk, flat_map, length, map, vec_len};
 ghost use Rattle.books.specs.Totals.{changes_of, datagrams_of, turns_of};
 ghost use Rattle.udp_server.specs.Faults.{AreCounts, AreCountsOfEnds};
-ghost use Rattle.udp_server.specs.Plans.{IsPlan};
+ghost use Rattle.udp_server.specs.Joint.{counts_of_both, joint_count};
+ghost use Rattle.udp_server.specs.Plans.{IsPlan, beginning_of};
 ghost use Rattle.udp_server.specs.Served.{IsServed};
 
 use crate::board::Board;
@@ -151,22 +153,42 @@ pub fn serve_watched<
     }
 }
 
-/// Lets the state in which the history begins go, if the report has no part of the history. Without
-/// it no chapter can be cut, and so steps are made without a record, unless entries are handed out.
+/// What becomes of the history that stands behind the lock before any step is made.
+#[derive(Clone, Copy, PartialEq, Eq)]
+enum Beginning {
+    /// The state in which it begins is kept, and steps are recorded.
+    Kept,
+    /// It goes, and steps are recorded for one who takes their entries.
+    HandedOut,
+    /// It goes, and steps are made without a record.
+    LetGo,
+}
+
+/// What becomes of it by this plan. If the report has no part of the history, the state in which it
+/// begins goes: without it no chapter can be cut.
+fn beginning_of(plan: Plan) -> Beginning
+    ensures { result ≡ beginning_of plan }
+{
+    if plan.is_recorded() {
+        Beginning::Kept
+    } else if plan.hands_out {
+        Beginning::HandedOut
+    } else {
+        Beginning::LetGo
+    }
+}
+
+/// Lets the history that stands behind the lock go, or hands it out, if it isn't kept.
 fn begin_history<P: Pool, D: Hall, T: Ledger, U: Ledger, V: Ledger, R: Wait>(
     rt: &R,
     alloc: Global,
     lock: &ZoneLock<P, D, T, U, V>,
     plan: Plan,
 ) {
-    if plan.is_recorded() {
-        return;
-    }
-    let room = Vec::new(alloc);
-    if plan.hands_out {
-        drop(lock.hand_out(rt, room));
-    } else {
-        drop(lock.discard(rt, room));
+    match beginning_of(plan) {
+        Beginning::Kept => {}
+        Beginning::HandedOut => drop(lock.hand_out(rt, Vec::new(alloc))),
+        Beginning::LetGo => drop(lock.discard(rt, Vec::new(alloc))),
     }
 }
 
@@ -211,27 +233,58 @@ struct JointRecord<D: Hall, T: Ledger, U: Ledger, V: Ledger> {
     counts: Counts,
 }
 
+impl<D: Hall, T: Ledger, U: Ledger, V: Ledger> JointRecord<D, T, U, V> {
+    /// Puts what one worker left behind what others did.
+    fn join(&mut self, left: WorkerRecord<D, T, U, V>) -> Result<(), AllocError>
+        ensures seats { OnOk result (self.new.seats.items
+            ≡ self.old.seats.items ++ left.seat ∷ []) }
+        ensures receipts { OnOk result (self.new.receipts.items
+            ≡ self.old.receipts.items ++ left.receipts.items) }
+        ensures chapters { OnOk result (self.new.chapters.items
+            ≡ self.old.chapters.items ++ left.chapters.items) }
+        ensures counts { OnOk result (self.new.counts
+            ≡ counts_of_both self.old.counts left.counts) }
+    {
+        let WorkerRecord {
+            seat,
+            mut receipts,
+            mut chapters,
+            counts,
+        } = left;
+        self.seats.push(seat).map_err(AllocError::from)?;
+        self.receipts.append(&mut receipts)?;
+        self.chapters.append(&mut chapters)?;
+        self.counts = self.counts.and(counts);
+        Ok(())
+    }
+}
+
+/// What these workers leave together, in their order.
 fn join_records<D: Hall, T: Ledger, U: Ledger, V: Ledger>(
     alloc: Global,
     workers: Vec<WorkerRecord<D, T, U, V>>,
-) -> Result<JointRecord<D, T, U, V>, AllocError> {
+) -> Result<JointRecord<D, T, U, V>, AllocError>
+    ensures seats { IfOk result (λ joint. joint.seats.items
+        ≡ map (λ worker. worker.seat) workers.items) }
+    ensures receipts { IfOk result (λ joint. joint.receipts.items
+        ≡ flat_map (λ worker. worker.receipts.items) workers.items) }
+    ensures chapters { IfOk result (λ joint. joint.chapters.items
+        ≡ flat_map (λ worker. worker.chapters.items) workers.items) }
+    ensures dropped { IfOk result (λ joint. joint.counts.dropped
+        ≡ joint_count (λ worker. worker.counts.dropped) workers.items) }
+    ensures refused { IfOk result (λ joint. joint.counts.refused
+        ≡ joint_count (λ worker. worker.counts.refused) workers.items) }
+    ensures faults { IfOk result (λ joint. joint.counts.faults
+        ≡ joint_count (λ worker. worker.counts.faults) workers.items) }
+{
     let mut joint = JointRecord {
         seats: Vec::with_capacity(alloc, workers.len())?,
         receipts: Vec::new(alloc),
         chapters: Vec::new(alloc),
         counts: Counts::NONE,
     };
-    for record in workers {
-        let WorkerRecord {
-            seat,
-            mut receipts,
-            mut chapters,
-            counts,
-        } = record;
-        joint.seats.push(seat).map_err(AllocError::from)?;
-        joint.receipts.append(&mut receipts)?;
-        joint.chapters.append(&mut chapters)?;
-        joint.counts = joint.counts.and(counts);
+    for worker in workers {
+        joint.join(worker)?;
     }
     Ok(joint)
 }
@@ -240,17 +293,30 @@ fn join_records<D: Hall, T: Ledger, U: Ledger, V: Ledger>(
 fn report_of<P: Pool, D: Hall, T: Ledger, U: Ledger, V: Ledger>(
     alloc: Global,
     lock: ZoneLock<P, D, T, U, V>,
-    record: CrewRecord<P, D, T, U, V>,
+    left: CrewRecord<P, D, T, U, V>,
 ) -> Result<Report<P>, ServeFault>
     ensures served { IfOk result (λ r. IsServed D.opened r.finished r.datagrams r.turns
         r.changes) }
     ensures counts { result ≢ Err ServeFault.WrongCounts }
+    ensures sent { IfOk result (λ r. r.sent ≡ left.sent.replies) }
+    ensures send_faults { IfOk result (λ r. r.send_faults ≡ left.sent.faults) }
+    ensures dropped { IfOk result (λ r. r.dropped
+        ≡ joint_count (λ worker. worker.counts.dropped) left.workers.items) }
+    ensures refused { IfOk result (λ r. r.refused
+        ≡ joint_count (λ worker. worker.counts.refused) left.workers.items) }
+    ensures receive_faults { IfOk result (λ r. r.receive_faults
+        ≡ joint_count (λ worker. worker.counts.faults) left.workers.items) }
+    ensures chapters { IfOk result (λ r. r.chapters.items
+        ≡ flat_map (λ worker. worker.chapters.items) left.workers.items) }
+    ensures receipts { IfOk result (λ r. r.receipts.items
+        ≡ flat_map (λ worker. worker.receipts.items) left.workers.items) }
+    ensures boxes { IfOk result (λ r. r.boxes ≡ left.boxes) }
 {
     let CrewRecord {
         workers,
         boxes,
         sent,
-    } = record;
+    } = left;
     match join_records(alloc, workers) {
         Ok(joint) => report_with(lock, joint, boxes, sent),
         Err(AllocError) => Err(ServeFault::Memory),

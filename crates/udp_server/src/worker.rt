@@ -1,10 +1,11 @@
 //! One who makes steps of the zone, and hands the replies to the sender.
 
-ghost use Rattle.std.specs.Prelude.{◌≡◌, ◌<◌, ◌+◌, ◌↔◌, min, IfOk, IsTrue, Some};
-ghost use Rattle.std.specs.Prelude.{vec_capacity, vec_len};
+ghost use Rattle.std.specs.Prelude.{◌≡◌, ◌<◌, ◌+◌, ◌↔◌, min, IfErr, IfOk, IsTrue, OnOk};
+ghost use Rattle.std.specs.Prelude.{Some, vec_capacity, vec_len};
 ghost use Rattle.std.specs.Option.{ForSome};
 ghost use Rattle.ras_machine.specs.Steps.{HasFewOctets};
 ghost use Rattle.udp_server.specs.Ends.{fault_count, most_count};
+ghost use Rattle.udp_server.specs.Orders.{IsPoolKept, IsPoolReplaced, refused_after_fault};
 ghost use Rattle.udp_server.specs.Rooms.{IsRoom};
 ghost use Rattle.udp_server.specs.Working.{CameOf, IsHandedOn, standing};
 
@@ -94,6 +95,21 @@ impl Counts {
         ensures faults { self.new.faults ≡ self.old.faults }
     {
         self.refused = self.refused.saturating_add(1);
+    }
+
+    /// Counts the step of a pool that was refused for want of memory, if that is the reason.
+    fn count_fault(&mut self, fault: ReplaceFault)
+        ensures refused { self.new.refused ≡ refused_after_fault fault self.old.refused }
+        ensures dropped { self.new.dropped ≡ self.old.dropped }
+        ensures faults { self.new.faults ≡ self.old.faults }
+    {
+        match fault {
+            ReplaceFault::Memory => self.refuse(),
+            ReplaceFault::Closed
+            | ReplaceFault::NoPool
+            | ReplaceFault::NotIdle
+            | ReplaceFault::NotLent => {}
+        }
     }
 
     /// What both count together.
@@ -191,13 +207,24 @@ impl<D: Hall, T: Ledger, U: Ledger, V: Ledger, C: Moments> Worker<D, T, U, V, C>
         ensures same { standing self.new.seat self.new.outlet self.new.counts
             ≡ standing self.old.seat self.old.outlet self.old.counts }
     {
+        let buffer = self.room_for_copy(shared.alloc, shared.plan)?;
         let prepared = prepare(shared.alloc, event)?;
-        if !shared.plan.receipts {
-            return Ok((prepared, None));
+        Ok((prepared, buffer))
+    }
+
+    /// Makes room for a receipt, and for the copy of a reply, if receipts are kept.
+    fn room_for_copy(&mut self, alloc: Global, plan: Plan) -> Result<Option<Vec<u8>>, AllocError>
+        ensures room { IfOk result (λ buffer. ForSome buffer (λ buffer.
+            IsRoom buffer self.new.receipts)) }
+        ensures same { standing self.new.seat self.new.outlet self.new.counts
+            ≡ standing self.old.seat self.old.outlet self.old.counts }
+    {
+        if !plan.receipts {
+            return Ok(None);
         }
         self.receipts.reserve(1)?;
-        let buffer = Vec::with_capacity(shared.alloc, Reply::MOST)?;
-        Ok((prepared, Some(buffer)))
+        let buffer = Vec::with_capacity(alloc, Reply::MOST)?;
+        Ok(Some(buffer))
     }
 
     /// Makes a step that is prepared, of a datagram with this first octet, if of one.
@@ -238,14 +265,26 @@ impl<D: Hall, T: Ledger, U: Ledger, V: Ledger, C: Moments> Worker<D, T, U, V, C>
 
     /// Puts a fresh pool in the place of the zone's pool with this number. The old pool comes back.
     /// If that can't be, the fresh one does: a want of memory is counted.
+    ///
+    /// promise worker-replaces-that-pool: A pool that a worker replaces is the named one, by one
+    /// step of its seat; the old pool comes back, or the fresh one, with the reason
+    /// (`IsPoolReplaced`, `IsPoolKept`, `IsPoolRefused`).
     pub(crate) fn replace<P: Pool, R: Wait, G: Gate>(
         &mut self,
         shared: &Shared<'_, P, D, T, U, V, R, G>,
         pool: usize,
         fresh: P,
         now: Moment,
-    ) -> Result<P, P> {
-        if shared.plan.receipts && self.receipts.reserve(1).is_err() {
+    ) -> Result<P, P>
+        ensures replaced { IfOk result (λ back. IsPoolReplaced D.opened pool (P.account fresh) now
+            (P.account back)
+            (standing self.old.seat self.old.outlet self.old.counts)
+            (standing self.new.seat self.new.outlet self.new.counts)) }
+        ensures kept { IfErr result (λ back. IsPoolKept D.opened P.account pool fresh back
+            (standing self.old.seat self.old.outlet self.old.counts)
+            (standing self.new.seat self.new.outlet self.new.counts)) }
+    {
+        if self.reserve_receipt(shared.plan).is_err() {
             self.counts.refuse();
             return Err(fresh);
         }
@@ -260,12 +299,23 @@ impl<D: Hall, T: Ledger, U: Ledger, V: Ledger, C: Moments> Worker<D, T, U, V, C>
                 Ok(old)
             }
             Err((fresh, fault)) => {
-                if fault == ReplaceFault::Memory {
-                    self.counts.refuse();
-                }
+                self.counts.count_fault(fault);
                 Err(fresh)
             }
         }
+    }
+
+    /// Makes room for a receipt, if receipts are kept.
+    fn reserve_receipt(&mut self, plan: Plan) -> Result<(), AllocError>
+        ensures room { OnOk result (IsTrue plan.receipts
+            → vec_len self.new.receipts < vec_capacity self.new.receipts) }
+        ensures same { standing self.new.seat self.new.outlet self.new.counts
+            ≡ standing self.old.seat self.old.outlet self.old.counts }
+    {
+        if plan.receipts {
+            self.receipts.reserve(1)?;
+        }
+        Ok(())
     }
 
     /// What is sent. The receipt is kept if there is a buffer for the copy of what is sent.
@@ -374,19 +424,6 @@ pub(crate) fn was_idle(outcome: &Outcome) -> bool
 fn output_of(receipt: Receipt) -> Option<Datagram>
     ensures { result ≡ receipt.outcome.output }
 {
-    let Receipt {
-        seat: _,
-        call: _,
-        place: _,
-        event: _,
-        outcome,
-    } = receipt;
-    let Outcome {
-        answer: _,
-        output,
-        note: _,
-        dropped: _,
-        given: _,
-    } = outcome;
-    output
+    let mut receipt = receipt;
+    receipt.outcome.output.take()
 }

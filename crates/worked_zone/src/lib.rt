@@ -45,7 +45,7 @@ pub fn zone(alloc: Global) -> Option<Zone<FixedPool>> {
     zone_of(alloc, LIMIT, 0)
 }
 
-/// A zone of so many units, with this least grant. None for want of memory.
+/// A zone with this limit and this least grant. None for want of memory.
 pub fn zone_of(alloc: Global, limit: u64, least_grant: u64) -> Option<Zone<FixedPool>> {
     let mut parts = parts(alloc)?;
     parts.limit = limit;

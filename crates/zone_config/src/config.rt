@@ -21,7 +21,7 @@ use thiserror::Error;
 /// The settings of a zone, before their ranges are tested. Bandwidth is in units of 100 bit/s, for
 /// both directions of a call. Times are in milliseconds, except `time_to_live`. `Key` has the range
 /// and the default of each number.
-#[derive(PartialEq, Eq, Drop)]
+#[derive(PartialEq, Eq)]
 pub struct ConfigParts {
     /// The GatekeeperIdentifier of the zone.
     pub identifier: Name,
@@ -59,6 +59,31 @@ pub struct ConfigParts {
     /// no network, or whose network holds the call signal address of the endpoint that opens the
     /// call. The last pool has none.
     pub networks: Networks,
+}
+
+// By hand, so that it is one call where one is dropped.
+impl Drop for ConfigParts {
+    fn drop(self) {
+        let ConfigParts {
+            identifier: _,
+            address: _,
+            limit: _,
+            call_limit: _,
+            time_to_live: _,
+            endpoints: _,
+            calls: _,
+            kept: _,
+            window: _,
+            silence: _,
+            delay: _,
+            retries: _,
+            asks: _,
+            ask_wait: _,
+            pool_turn: _,
+            least_grant: _,
+            networks: _,
+        } = self;
+    }
 }
 
 impl ConfigParts {
@@ -140,9 +165,15 @@ impl ConfigFault {
 }
 
 /// The settings of a zone, each within its range. Contracts see the settings.
-#[derive(Drop)]
 pub struct Config {
     parts: ConfigParts,
+}
+
+// By hand, so that it is one call where one is dropped.
+impl Drop for Config {
+    fn drop(self) {
+        let Config { parts: _ } = self;
+    }
 }
 
 impl Model for Config {

@@ -81,13 +81,26 @@ pub enum Note {
 /// What a step did: the answer of the pool that was asked; what is sent; what happened; the birth
 /// of the kept entry that was dropped for a reply; and the identifier that was handed out to a new
 /// endpoint.
-#[derive(PartialEq, Eq, Drop)]
+#[derive(PartialEq, Eq)]
 pub struct Outcome {
     pub answer: Option<Lend>,
     pub output: Option<Datagram>,
     pub note: Note,
     pub dropped: Option<u64>,
     pub given: Option<EndpointId>,
+}
+
+// By hand, so that it is one call where one is dropped.
+impl Drop for Outcome {
+    fn drop(self) {
+        let Outcome {
+            answer: _,
+            output: _,
+            note: _,
+            dropped: _,
+            given: _,
+        } = self;
+    }
 }
 
 impl Outcome {

@@ -146,15 +146,14 @@ inside_entered opened h sums next units d t u v d1 t1 u1 v1 entry after es items
     (inside_more opened h sums next units d t u v d1 t1 u1 v1 entry after is step few ds ts us rs
     cs dt tt ut vt)
 
--- There is room for one step more in the totals and in the calls of a seat, which made no more
--- steps than all seats together.
-pub room_for_more : (opened : State) (h : Held) (sums : Totals) (units d t u v calls : ℕ)
-    → IsInside opened h sums units d t u v → calls ≤ d + t + v
-    → (sums.datagrams + sums.turns + sums.changes + 1 < 2 ^ 64) × (calls + 1 < 2 ^ 64)
-room_for_more opened h sums units d t u v calls is bound =
+-- there is room for one step more in the totals so far, and in those of the ledgers
+pub room_for_more : (opened : State) (h : Held) (sums : Totals) (units d t u v : ℕ)
+    → IsInside opened h sums units d t u v
+    → (sums.datagrams + sums.turns + sums.changes + 1 < 2 ^ 64) × (d + t + v + 1 < 2 ^ 64)
+room_for_more opened h sums units d t u v is =
     let many = so_many opened h sums units d t u v is in (
       omega (arith, many.0, many.1),
-      omega (arith, bound, is.datagrams, is.turns, is.changes, many.0, many.1),
+      omega (arith, is.datagrams, is.turns, is.changes, many.0, many.1),
     )
 
 no_entries : (es : List Entry) → length es ≡ 0 → es ≡ []

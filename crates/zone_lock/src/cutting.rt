@@ -138,13 +138,25 @@ pub fn discard_locked<P: Pool, D: Hall, T: Ledger, U: Ledger, V: Ledger>(
     ensures before { IsKept D.opened locked.old }
     ensures kept { IsKept D.opened locked.new }
 {
-    let first = locked.first + locked.entries.len();
+    locked.first += locked.entries.len();
     locked.so_far.returned = locked.opened_units as u128 + locked.so_far.lent
         - locked.zone.in_use() as u128;
     locked.carried = locked.so_far;
-    let entries = mem::replace(&mut locked.entries, room);
-    let base = mem::replace(&mut locked.base, None);
     locked.is_recorded = false;
-    locked.first = first;
-    Discarded { base, entries }
+    taken_out(&mut locked.base, &mut locked.entries, room)
+}
+
+/// What was kept of a book, which is taken out of its place. The room stands there instead.
+fn taken_out(
+    base: &mut Option<SharedSnapshot>,
+    entries: &mut Vec<Entry>,
+    room: Vec<Entry>,
+) -> Discarded
+    ensures base { (result.base ≡ base.old) × (base.new ≡ None) }
+    ensures entries { (result.entries.items ≡ entries.old.items) × (entries.new ≡ room) }
+{
+    Discarded {
+        base: mem::replace(base, None),
+        entries: mem::replace(entries, room),
+    }
 }

@@ -22,7 +22,7 @@ pub(crate) struct Ledgers<D: Hall, T: Ledger, U: Ledger, V: Ledger> {
 
 impl<D: Hall, T: Ledger, U: Ledger, V: Ledger> Ledgers<D, T, U, V> {
     /// Changes nothing: a seat made no more steps than all seats together.
-    pub(crate) fn audit(&mut self, seat: &mut Seat<D, T, U, V>)
+    fn audit(&mut self, seat: &mut Seat<D, T, U, V>)
         ensures datagrams { self.new.datagrams.total ≡ self.old.datagrams.total }
         ensures turns { self.new.turns.total ≡ self.old.turns.total }
         ensures lent { self.new.lent.total ≡ self.old.lent.total }
@@ -43,7 +43,8 @@ impl<D: Hall, T: Ledger, U: Ledger, V: Ledger> Ledgers<D, T, U, V> {
         kind: StepKind,
         answer: Option<Lend>,
     )
-        requires { seat.old.calls + 1 < 2 ^ 64 }
+        requires { self.old.datagrams.total + self.old.turns.total + self.old.changes.total + 1
+            < 2 ^ 64 }
         ensures seat { seat.new ≡ seated_by seat.old kind answer }
         ensures datagrams { self.new.datagrams.total
             ≡ self.old.datagrams.total + datagrams_of_kind kind }
@@ -52,25 +53,11 @@ impl<D: Hall, T: Ledger, U: Ledger, V: Ledger> Ledgers<D, T, U, V> {
         ensures changes { self.new.changes.total
             ≡ self.old.changes.total + changes_of_kind kind }
     {
-        let Ledgers {
-            datagrams,
-            turns,
-            lent,
-            changes,
-        } = self;
-        let Seat {
-            number: _,
-            calls,
-            datagrams: my_datagrams,
-            turns: my_turns,
-            lent: my_lent,
-            changes: my_changes,
-            buffer: _,
-        } = seat;
-        datagrams.add(my_datagrams, kind.datagrams());
-        turns.add(my_turns, kind.turns());
-        lent.add(my_lent, units_lent(answer));
-        changes.add(my_changes, kind.changes());
-        *calls += 1;
+        self.audit(seat);
+        self.datagrams.add(&mut seat.datagrams, kind.datagrams());
+        self.turns.add(&mut seat.turns, kind.turns());
+        self.lent.add(&mut seat.lent, units_lent(answer));
+        self.changes.add(&mut seat.changes, kind.changes());
+        seat.calls += 1;
     }
 }

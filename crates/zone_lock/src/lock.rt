@@ -26,7 +26,7 @@ use crate::ledgers::Ledgers;
 use crate::listing::Listing;
 use crate::locked::{Locked, fault_without_order, list_locked, make_step};
 use crate::looking::{calls_locked, endpoints_locked, figures_locked};
-use crate::order::Order;
+use crate::order::ToldOrder;
 use crate::replacing::replace_locked;
 use crate::seat::{Hall, Seat};
 use crate::stepping::step_locked;
@@ -190,8 +190,8 @@ impl<P: Pool, D: Hall, T: Ledger, U: Ledger, V: Ledger> ZoneLock<P, D, T, U, V> 
         ensures memory { result ≡ Err StepFault.Memory → IsOpen D.opened }
         ensures err { OnErr result (seat.new ≡ seat.old) }
     {
-        match Order::with_told(self.alloc, prepared, seat) {
-            Ok((order, told)) => make_step(&mut *self.inner.lock(rt), seat, order, told),
+        match ToldOrder::new(self.alloc, prepared, seat) {
+            Ok(ordered) => make_step(&mut *self.inner.lock(rt), seat, ordered),
             Err(_) => Err(fault_without_order(&*self.inner.lock(rt))),
         }
     }

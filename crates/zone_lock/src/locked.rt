@@ -1,7 +1,7 @@
 //! What stands behind the lock, and what is done with it by whoever holds it.
 
 ghost use Rattle.std.specs.Prelude.{◌≡◌, ◌≤◌, ◌<◌, ◌+◌, ◌*◌, ◌^◌, ◌++◌, ◌∷◌, [], ◌↔◌, length};
-ghost use Rattle.std.specs.Prelude.{IfOk, OnErr, OnOk, Err, vec_capacity};
+ghost use Rattle.std.specs.Prelude.{IfOk, OnErr, OnOk, Err, vec_capacity, vec_len};
 ghost use Rattle.ras_module.specs.declared.reply.TheConstants.Reply as reply_octets;
 ghost use Rattle.ras_machine.specs.Machine.{most_steps};
 ghost use Rattle.ras_core.specs.Runs.{RunningStep};
@@ -11,7 +11,7 @@ ghost use Rattle.zone_lock.specs.Seats.{seated_after};
 
 use crate::ledgers::Ledgers;
 use crate::listing::{Listing, listing_of};
-use crate::order::Order;
+use crate::order::{Order, ToldOrder};
 use crate::seat::{Hall, Seat};
 use books::{Entry, Receipt, SharedSnapshot, StepKind, Totals};
 use pools::Pool;
@@ -103,34 +103,33 @@ pub fn apply_locked<P: Pool, D: Hall, T: Ledger, U: Ledger, V: Ledger>(
     ensures err_seat { OnErr result (seat.new ≡ seat.old) }
     ensures kept { IsKept D.opened locked.new }
 {
-    if locked.zone.is_closed() {
-        return Err(StepFault::Closed);
+    match ToldOrder::new(*locked.entries.allocator(), prepared, seat) {
+        Ok(ordered) => make_step(locked, seat, ordered),
+        Err(_) => Err(fault_without_order(locked)),
     }
-    let (order, told) = Order::with_told(*locked.entries.allocator(), prepared, seat)?;
-    make_step(locked, seat, order, told)
 }
 
 /// The step of an order, with its receipt, which tells this event.
 pub(crate) fn make_step<P: Pool, D: Hall, T: Ledger, U: Ledger, V: Ledger>(
     locked: &mut Locked<P, D, T, U, V>,
     seat: &mut Seat<D, T, U, V>,
-    order: Order,
-    told: Change,
+    ordered: ToldOrder,
 ) -> Result<Receipt, StepFault>
-    requires kept { order.kept ≡ Change.Event order.prepared }
-    requires told { told ≡ Change.Event order.prepared }
-    requires empty { order.buffer.items ≡ [] }
-    requires room { reply_octets.MOST ≤ vec_capacity order.buffer }
+    requires kept { ordered.order.kept ≡ Change.Event ordered.order.prepared }
+    requires told { ordered.told ≡ Change.Event ordered.order.prepared }
+    requires empty { ordered.order.buffer.items ≡ [] }
+    requires room { reply_octets.MOST ≤ vec_capacity ordered.order.buffer }
     ensures step { IfOk result (λ receipt.
-        RunningStep locked.old.zone order.prepared receipt.outcome locked.new.zone) }
+        RunningStep locked.old.zone ordered.order.prepared receipt.outcome locked.new.zone) }
     ensures entry { IfOk result (λ receipt. locked.new.entries ≡ locked.old.entries
-        ++ entry_by seat.old.number seat.old.calls (Change.Event order.prepared)
+        ++ entry_by seat.old.number seat.old.calls (Change.Event ordered.order.prepared)
         receipt.outcome ∷ []) }
     ensures receipt { IfOk result (λ receipt. receipt
         ≡ receipt_at (locked.old.first + length locked.old.entries)
-        (entry_by seat.old.number seat.old.calls (Change.Event order.prepared) receipt.outcome)) }
+        (entry_by seat.old.number seat.old.calls (Change.Event ordered.order.prepared)
+        receipt.outcome)) }
     ensures seat { IfOk result (λ receipt.
-        seat.new ≡ seated_after seat.old (Change.Event order.prepared) receipt.outcome) }
+        seat.new ≡ seated_after seat.old (Change.Event ordered.order.prepared) receipt.outcome) }
     ensures first { locked.new.first ≡ locked.old.first }
     ensures carried { locked.new.carried ≡ locked.old.carried }
     ensures base { locked.new.base ≡ locked.old.base }
@@ -142,6 +141,7 @@ pub(crate) fn make_step<P: Pool, D: Hall, T: Ledger, U: Ledger, V: Ledger>(
     ensures before { IsKept D.opened locked.old }
     ensures kept { IsKept D.opened locked.new }
 {
+    let ToldOrder { order, told } = ordered;
     let (number, call) = (seat.number, seat.calls);
     let place = locked.first + locked.entries.len();
     let mut outcome = Outcome::noted(Note::Idle, None);
@@ -185,26 +185,52 @@ pub(crate) fn enter_step<P: Pool, D: Hall, T: Ledger, U: Ledger, V: Ledger>(
     ensures before { IsKept D.opened locked.old }
     ensures kept { IsKept D.opened locked.new }
 {
-    if locked.zone.is_closed() {
-        return Err(StepFault::Closed);
-    }
-    locked.entries.reserve(1)?;
-    locked.ledgers.audit(seat);
     let Order {
         prepared,
         kept,
         buffer,
     } = order;
-    locked.zone.step_into(prepared, outcome)?;
+    step_with_room(&mut locked.zone, &mut locked.entries, prepared, outcome)?;
     let kind = StepKind::of(&kept);
+    seat.enter(&mut locked.entries, kept, outcome, buffer);
     locked.so_far = locked.so_far.with_step(kind, outcome.answer);
-    locked.entries.push_reserved(Entry {
-        seat: seat.number,
-        call: seat.calls,
-        event: kept,
-        outcome: seat.copy_of(outcome, buffer),
-    });
     locked.ledgers.count(seat, kind, outcome.answer);
+    Ok(())
+}
+
+/// Makes the step of a zone, once there is room for its entry. After a refusal what stands in place
+/// of the outcome means nothing.
+fn step_with_room<P: Pool>(
+    zone: &mut Zone<P>,
+    entries: &mut Vec<Entry>,
+    prepared: Prepared,
+    outcome: &mut Outcome,
+) -> Result<(), StepFault>
+    ensures step { OnOk result (RunningStep zone.old prepared outcome.new zone.new) }
+    ensures room { OnOk result (vec_len entries.new < vec_capacity entries.new) }
+    ensures entries { entries.new.items ≡ entries.old.items }
+    ensures closed { (result ≡ Err StepFault.Closed) ↔ (zone.old.state.steps ≡ most_steps) }
+    ensures err { OnErr result (zone.new ≡ zone.old) }
+{
+    match make_room(zone, entries) {
+        Ok(()) => zone.step_into(prepared, outcome),
+        Err(fault) => {
+            drop(prepared);
+            Err(fault)
+        }
+    }
+}
+
+/// Makes room for the entry of a step, unless as many steps were made as there may be.
+fn make_room<P: Pool>(zone: &Zone<P>, entries: &mut Vec<Entry>) -> Result<(), StepFault>
+    ensures room { OnOk result (vec_len entries.new < vec_capacity entries.new) }
+    ensures entries { entries.new.items ≡ entries.old.items }
+    ensures closed { (result ≡ Err StepFault.Closed) ↔ (zone.now.state.steps ≡ most_steps) }
+{
+    if zone.is_closed() {
+        return Err(StepFault::Closed);
+    }
+    entries.reserve(1)?;
     Ok(())
 }
 

@@ -32,31 +32,84 @@ impl Order {
         ensures empty { IfOk result (λ order. order.buffer.items ≡ []) }
         ensures room { IfOk result (λ order. Reply.MOST ≤ vec_capacity order.buffer) }
     {
-        let kept = Change::Event(prepared.event()?);
-        let mut buffer = mem::replace(&mut seat.buffer, Vec::new(alloc));
-        buffer.clear();
-        buffer.reserve(Reply::MOST)?;
-        Ok(Order {
-            prepared,
-            kept,
-            buffer,
-        })
+        match kept_with_buffer(alloc, &prepared, &mut seat.buffer) {
+            Ok((kept, buffer)) => Ok(Order {
+                prepared,
+                kept,
+                buffer,
+            }),
+            Err(fault) => {
+                drop(prepared);
+                Err(fault)
+            }
+        }
     }
-    /// The same, with one more copy of the event, for the receipt.
-    pub(crate) fn with_told<D: Hall, T: Ledger, U: Ledger, V: Ledger>(
+}
+
+/// An order of a step that is told of, with one more copy of its event, for the receipt.
+#[derive(Drop)]
+pub(crate) struct ToldOrder {
+    pub(crate) order: Order,
+    pub(crate) told: Change,
+}
+
+impl ToldOrder {
+    /// What a step of this event by a seat needs, as `Order::new` makes it, and its receipt.
+    pub(crate) fn new<D: Hall, T: Ledger, U: Ledger, V: Ledger>(
         alloc: Global,
         prepared: Prepared,
         seat: &mut Seat<D, T, U, V>,
-    ) -> Result<(Self, Change), AllocError>
+    ) -> Result<Self, AllocError>
         ensures seat { seat.new ≡ seat.old }
-        ensures prepared { IfOk result (λ both. both.0.prepared ≡ prepared) }
-        ensures kept { IfOk result (λ both. both.0.kept ≡ Change.Event prepared) }
-        ensures told { IfOk result (λ both. both.1 ≡ Change.Event prepared) }
-        ensures empty { IfOk result (λ both. both.0.buffer.items ≡ []) }
-        ensures room { IfOk result (λ both. Reply.MOST ≤ vec_capacity both.0.buffer) }
+        ensures prepared { IfOk result (λ both. both.order.prepared ≡ prepared) }
+        ensures kept { IfOk result (λ both. both.order.kept ≡ Change.Event prepared) }
+        ensures told { IfOk result (λ both. both.told ≡ Change.Event prepared) }
+        ensures empty { IfOk result (λ both. both.order.buffer.items ≡ []) }
+        ensures room { IfOk result (λ both. Reply.MOST ≤ vec_capacity both.order.buffer) }
     {
-        let told = Change::Event(prepared.event()?);
-        let order = Order::new(alloc, prepared, seat)?;
-        Ok((order, told))
+        match change_of(&prepared) {
+            Ok(told) => match Order::new(alloc, prepared, seat) {
+                Ok(order) => Ok(ToldOrder { order, told }),
+                Err(fault) => Err(fault),
+            },
+            Err(fault) => {
+                drop(prepared);
+                Err(fault)
+            }
+        }
     }
+}
+
+/// A copy of the event, and a buffer, as `buffer_of` has it.
+fn kept_with_buffer(
+    alloc: Global,
+    prepared: &Prepared,
+    place: &mut Vec<u8>,
+) -> Result<(Change, Vec<u8>), AllocError>
+    ensures kept { IfOk result (λ both. both.0 ≡ Change.Event prepared.now) }
+    ensures empty { IfOk result (λ both. both.1.items ≡ []) }
+    ensures room { IfOk result (λ both. Reply.MOST ≤ vec_capacity both.1) }
+{
+    let kept = change_of(prepared)?;
+    let buffer = buffer_of(alloc, place)?;
+    Ok((kept, buffer))
+}
+
+/// The event, copied, as a change of the zone.
+fn change_of(prepared: &Prepared) -> Result<Change, AllocError>
+    ensures { IfOk result (λ change. change ≡ Change.Event prepared.now) }
+{
+    Ok(Change::Event(prepared.event()?))
+}
+
+/// An empty buffer with room for what any step sends: the one that stands there, if it is large
+/// enough. None is left there.
+fn buffer_of(alloc: Global, place: &mut Vec<u8>) -> Result<Vec<u8>, AllocError>
+    ensures empty { IfOk result (λ buffer. buffer.items ≡ []) }
+    ensures room { IfOk result (λ buffer. Reply.MOST ≤ vec_capacity buffer) }
+{
+    let mut buffer = mem::replace(place, Vec::new(alloc));
+    buffer.clear();
+    buffer.reserve(Reply::MOST)?;
+    Ok(buffer)
 }

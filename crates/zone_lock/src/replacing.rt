@@ -1,7 +1,7 @@
 //! A pool is replaced by whoever holds the lock.
 
 ghost use Rattle.std.specs.Prelude.{◌≡◌, ◌≢◌, ◌+◌, ◌++◌, ◌∷◌, [], IfErr, IfOk, MatchResult, None};
-ghost use Rattle.std.specs.Prelude.{OnErr, length};
+ghost use Rattle.std.specs.Prelude.{◌<◌, OnErr, OnOk, length, vec_capacity, vec_len};
 ghost use Rattle.pools.specs.Replacing.{IsHandedBack};
 ghost use Rattle.zone_tables.specs.Pools.{figures_at};
 ghost use Rattle.ras_core.specs.Replacing.{IsOldPool, IsRefusalOrMemory, change_by, fault_unasked};
@@ -14,7 +14,7 @@ use crate::locked::Locked;
 use crate::seat::{Hall, Seat};
 use books::{Entry, Receipt, StepKind};
 use pools::{Pool, ReplaceFault};
-use ras_core::{Change, Moment, PoolChange, figures_of};
+use ras_core::{Change, Moment, Outcome, PoolChange, Zone, figures_of};
 use std::sync::ledger::Ledger;
 
 /// Puts a fresh pool in the place of the locked zone's pool with this number, as `Zone::replace`
@@ -64,36 +64,59 @@ pub fn replace_locked<P: Pool, D: Hall, T: Ledger, U: Ledger, V: Ledger>(
     ensures before { IsKept D.opened locked.old }
     ensures kept { IsKept D.opened locked.new }
 {
-    let unasked = locked.zone.fault_unasked(pool, &fresh);
-    if let Some(fault) = unasked {
-        return Err((fresh, fault));
-    }
-    if locked.entries.reserve(1).is_err() {
-        return Err((fresh, ReplaceFault::Memory));
-    }
-    locked.ledgers.audit(seat);
     let change = &PoolChange {
         pool,
         offered: figures_of(&fresh),
         moment,
     };
-    let (outcome, old) = locked.zone.replace(pool, fresh, moment)?;
-    let room = Vec::new(*locked.entries.allocator());
-    let receipt = Receipt {
-        seat: seat.number,
-        call: seat.calls,
-        place: locked.first + locked.entries.len(),
-        event: Change::PoolChange(*change),
-        outcome: outcome.copy_into(room),
-    };
+    let (outcome, old) = replace_with_room(
+        &mut locked.zone,
+        &mut locked.entries,
+        pool,
+        fresh,
+        moment,
+    )?;
+    let answer = outcome.answer;
+    let place = locked.first + locked.entries.len();
+    let receipt = seat.enter_replacement(&mut locked.entries, place, change, outcome);
     let kind = StepKind::PoolChange;
-    locked.so_far = locked.so_far.with_step(kind, outcome.answer);
-    locked.ledgers.count(seat, kind, outcome.answer);
-    locked.entries.push_reserved(Entry {
-        seat: receipt.seat,
-        call: receipt.call,
-        event: Change::PoolChange(*change),
-        outcome,
-    });
+    locked.so_far = locked.so_far.with_step(kind, answer);
+    locked.ledgers.count(seat, kind, answer);
     Ok((receipt, old))
+}
+
+/// Replaces a pool of a zone as `Zone::replace` does. The memory for the entry is asked for before,
+/// once the fresh pool is found to be idle.
+fn replace_with_room<P: Pool>(
+    zone: &mut Zone<P>,
+    entries: &mut Vec<Entry>,
+    pool: usize,
+    fresh: P,
+    moment: Moment,
+) -> Result<(Outcome, P), (P, ReplaceFault)>
+    ensures step { IfOk result (λ done. RunningReplacement zone.old
+        (change_by pool (P.account fresh) moment) done.0 zone.new) }
+    ensures tallies { IfOk result (λ _. zone.new.tallies
+        ≡ tallies_after_replacing zone.old.tallies pool (P.account fresh)
+        (figures_at zone.old.state.tables.pools pool).lent) }
+    ensures old_pool { IfOk result (λ done. IsOldPool zone.old pool (P.account done.1)) }
+    ensures room { OnOk result (vec_len entries.new < vec_capacity entries.new) }
+    ensures entries { entries.new.items ≡ entries.old.items }
+    ensures fault { MatchResult result
+        (λ _. fault_unasked zone.old.state pool (P.account fresh) ≡ None)
+        (λ refused. IsRefusalOrMemory zone.old.state pool (P.account fresh)
+        (P.account refused.0) refused.1) }
+    ensures unasked { IfErr result (λ refused. refused.1 ≢ ReplaceFault.NotLent →
+        refused.0 ≡ fresh) }
+    ensures handed_back { IfErr result (λ refused. refused.1 ≡ ReplaceFault.NotLent →
+        IsHandedBack (P.account fresh) (P.account refused.0)) }
+    ensures err { OnErr result (zone.new ≡ zone.old) }
+{
+    if let Some(fault) = zone.fault_unasked(pool, &fresh) {
+        return Err((fresh, fault));
+    }
+    match entries.reserve(1) {
+        Ok(()) => zone.replace(pool, fresh, moment),
+        Err(_) => Err((fresh, ReplaceFault::Memory)),
+    }
 }

@@ -6,7 +6,7 @@ ghost use Rattle.ras_core.specs.Runs.{RunningStep};
 ghost use Rattle.zone_lock.specs.Held.{IsEntered, IsKept, entry_by, goes_on};
 ghost use Rattle.zone_lock.specs.Seats.{seated_after};
 
-use crate::locked::{Locked, enter_step};
+use crate::locked::{Locked, enter_step, fault_without_order};
 use crate::order::Order;
 use crate::seat::{Hall, Seat};
 use books::StepKind;
@@ -51,7 +51,6 @@ pub fn step_locked<P: Pool, D: Hall, T: Ledger, U: Ledger, V: Ledger>(
     if goes_on(locked) {
         return step_recorded(locked, seat, prepared, outcome);
     }
-    locked.ledgers.audit(seat);
     let kind = StepKind::of_prepared(&prepared);
     locked.zone.step_into(prepared, outcome)?;
     locked.so_far = locked.so_far.with_step(kind, outcome.answer);
@@ -96,9 +95,8 @@ fn step_recorded<P: Pool, D: Hall, T: Ledger, U: Ledger, V: Ledger>(
     ensures before { IsKept D.opened locked.old }
     ensures kept { IsKept D.opened locked.new }
 {
-    if locked.zone.is_closed() {
-        return Err(StepFault::Closed);
+    match Order::new(*locked.entries.allocator(), prepared, seat) {
+        Ok(order) => enter_step(locked, seat, order, outcome),
+        Err(_) => Err(fault_without_order(locked)),
     }
-    let order = Order::new(*locked.entries.allocator(), prepared, seat)?;
-    enter_step(locked, seat, order, outcome)
 }

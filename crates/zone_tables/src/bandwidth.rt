@@ -34,12 +34,23 @@ use zone_config::Config;
 
 /// The calls, with the figures of the pools from which they have their units. Contracts see that
 /// each pool has lent what its calls use.
-#[derive(Drop)]
 pub struct Bandwidth {
     calls: Calls,
     pools: PoolFigures,
     limit: u64,
     call_limit: u32,
+}
+
+// By hand, so that it is one call where one is dropped.
+impl Drop for Bandwidth {
+    fn drop(self) {
+        let Bandwidth {
+            calls: _,
+            pools: _,
+            limit: _,
+            call_limit: _,
+        } = self;
+    }
 }
 
 impl Model for Bandwidth {

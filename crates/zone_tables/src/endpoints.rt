@@ -26,10 +26,19 @@ use std::marker::Model;
 use zone_config::Moment;
 
 /// The endpoints that are registered. The table of their aliases agrees with them.
-#[derive(Drop)]
 pub struct Endpoints {
     registrations: Registrations,
     aliases: AliasTable,
+}
+
+// By hand, so that it is one call where one is dropped.
+impl Drop for Endpoints {
+    fn drop(self) {
+        let Endpoints {
+            registrations: _,
+            aliases: _,
+        } = self;
+    }
 }
 
 impl Model for Endpoints {

@@ -14,12 +14,12 @@ no_counts = replicate 55 0
 abbrev pub count_at : Count → List ℕ → ℕ
 count_at count numbers = get_or numbers (count_place count) 0
 
--- so often more at this place, if there is one; a count that is as high as it can be stays there
+-- this is added at this place, if there is one; a count that is as high as it can be stays there
 abbrev pub with_more_at : ℕ → ℕ → List ℕ → List ℕ
 with_more_at place more numbers =
     set numbers place (min (get_or numbers place 0 + more) (2 ^ 64 - 1))
 
--- it came so often more
+-- this is added to a count
 abbrev pub with_more : Count → ℕ → List ℕ → List ℕ
 with_more count more numbers = with_more_at (count_place count) more numbers
 

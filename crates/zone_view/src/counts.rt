@@ -52,7 +52,7 @@ impl Counts {
         }
     }
 
-    /// Counts this so often more at this place, if there is one.
+    /// Adds to the count at this place, if there is one.
     pub fn add_at(&mut self, place: usize, more: u64)
         ensures { self.new ≡ with_more_at place more self.old }
     {
@@ -61,7 +61,7 @@ impl Counts {
         }
     }
 
-    /// Counts this so often more.
+    /// Adds to a count.
     ///
     /// promise counts-have-places-of-their-own: A count rises by what is added, and no other does;
     /// at its highest it stays (`with_more`).

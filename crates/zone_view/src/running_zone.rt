@@ -16,11 +16,18 @@ pub trait RunningZone: Drop {
     ghost use Rattle.std.specs.Prelude.{ℕ, List};
     ghost use Rattle.pools.specs.declared.interface.Figures.{Figures};
     ghost use Rattle.zone_view.specs.declared.figures.ZoneFigures.{ZoneFigures};
+    ghost use Rattle.zone_view.specs.declared.figures.ServerFigures.{ServerFigures};
     ghost use Rattle.zone_view.specs.declared.rows.CallRow.{CallRow};
     ghost use Rattle.zone_view.specs.declared.rows.EndpointRow.{EndpointRow};
 
     /// These are its figures, and those of its pools, at some moment.
     ghost has_figures: { Self → ZoneFigures → List Figures → Type 0 };
+
+    /// At some moment its server has counted this.
+    ghost has_server: { Self → ServerFigures → Type 0 } = { λ _ _. Unit {0} };
+
+    /// At some moment this has been counted of its steps.
+    ghost has_counts: { Self → List ℕ → Type 0 } = { λ _ _. Unit {0} };
 
     /// At some moment it has an endpoint with this row.
     ghost has_endpoint: { Self → EndpointRow → Type 0 };
@@ -49,10 +56,12 @@ pub trait RunningZone: Drop {
         ensures within { result.in_use ≤ result.limit };
 
     /// What the server counted so far.
-    fn server(&self) -> ServerFigures;
+    fn server(&self) -> ServerFigures
+        ensures told { has_server self.now result };
 
     /// What was counted of its steps so far.
-    fn counts(&self) -> Counts;
+    fn counts(&self) -> Counts
+        ensures told { has_counts self.now result };
 
     /// Puts rows of endpoints at places below this one into `rows`, which has none yet: as many as
     /// there is room for. Returns the place below which the next ones stand; 0 if there are none.

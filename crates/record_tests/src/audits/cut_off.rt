@@ -29,7 +29,7 @@ fn a_record_is_audited_up_to_where_it_is_cut_off(rt: HostRuntime) -> Result<(), 
     Ok(())
 }
 
-/// Gives so many octets at a time; the read of this number fails, if it comes to that.
+/// Gives at most these octets at a time; the read of this number fails, if it comes to that.
 #[derive(Drop)]
 struct Pieces<'a> {
     text: &'a [u8],
@@ -87,7 +87,7 @@ fn a_read_fails_in_midway(rt: HostRuntime) -> Result<(), Fail> {
     Ok(())
 }
 
-/// A line of so many octets, a remark, behind the record of a call.
+/// A line of this length, a remark, behind the record of a call.
 fn with_remark(alloc: Global, octets: usize) -> Result<Vec<u8>, Fail> {
     let mut text = record(alloc)?;
     let length = text.len().saturating_add(octets);

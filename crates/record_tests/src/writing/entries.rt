@@ -18,7 +18,7 @@ fn empty_record(alloc: Global) -> Result<RecordWriter<Vec<u8>>, Fail> {
     Ok(RecordWriter::begin(alloc, Output::new(Vec::new(alloc)), &zone, u64::MAX)?)
 }
 
-/// The first entries of a call, so many, and the others.
+/// The entries of a call, parted at this count.
 fn parted(alloc: Global, at: usize) -> Result<(Vec<Entry>, Vec<Entry>), Fail> {
     let mut first = Vec::new(alloc);
     let mut rest = Vec::new(alloc);

@@ -13,7 +13,7 @@ use std::test::Fail;
 /// How many octets it is from one place at which a stream fails to the next.
 const STRIDE: usize = 83;
 
-/// Takes so many octets, and fails from there on.
+/// Takes octets up to this count, and fails from there on.
 #[derive(Drop)]
 pub struct Short {
     text: Vec<u8>,
@@ -62,8 +62,8 @@ fn of_front(front: &[u8]) -> Audited {
     }
 }
 
-/// Records a call on a stream that fails behind so many octets; what is there is the front of the
-/// whole record, and passes its audit.
+/// Records a call on a stream that fails behind this count of octets; what is there is the front of
+/// the whole record, and passes its audit.
 fn fails_behind(alloc: Global, whole: &[u8], most: usize) -> Result<(), Fail> {
     let zone = recorded_zone(alloc)?;
     let out = Short::new(alloc, most);

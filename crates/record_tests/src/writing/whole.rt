@@ -9,7 +9,7 @@ use script::Output;
 use std::alloc::Global;
 use std::test::Fail;
 
-/// What the audit of a record of so many steps comes to, behind which other lines stand.
+/// What the audit of a record of these steps comes to, behind which other lines stand.
 fn of_steps(steps: u64, others: u64) -> Audited {
     Audited {
         steps,

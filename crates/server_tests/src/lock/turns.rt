@@ -35,7 +35,7 @@ fn begin_call<D: Hall, T: Ledger, U: Ledger, V: Ledger>(
         .ok()
 }
 
-/// Makes turns, at most so many, and counts them. Why there were no more, and what they sent.
+/// Makes turns up to this count, and counts them. Why there were no more, and what they sent.
 fn turns<D: Hall, T: Ledger, U: Ledger, V: Ledger>(
     rt: &impl Wait,
     alloc: Global,

@@ -181,8 +181,8 @@ fn outputs<P: Pool>(report: &Report<P>) -> u64 {
         .count() as u64
 }
 
-/// Compares a report in which so many calls have failed: each output was sent, dropped or lost by a
-/// failed send, and the receipts pass their audit.
+/// Compares a report in which this count of calls has failed: each output was sent, dropped or lost
+/// by a failed send, and the receipts pass their audit.
 fn compare_failed<P: Pool>(report: &Report<P>, failed: u64) -> Looked {
     let tried = report.sent.saturating_add(report.send_faults);
     let became = tried.saturating_add(report.dropped);

@@ -141,7 +141,7 @@ fn answer_and_dropped_entry_and_output_follow_the_note(rt: HostRuntime) -> Resul
     Ok(())
 }
 
-/// The line of a call that was served, whose reply has so many octets, each 171.
+/// The line of a call that was served, whose reply has this count of octets, each 171.
 fn line_of_octets(alloc: Global, count: usize) -> Result<Vec<u8>, Fail> {
     let bytes = vec![in alloc; 0xABu8; count]?;
     line_of(

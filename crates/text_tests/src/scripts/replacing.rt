@@ -139,8 +139,8 @@ fn a_refused_replacement_leaves_the_clock(rt: HostRuntime) -> Result<(), Fail> {
     )
 }
 
-/// What a run that is to replace one pool returns with so many fresh pools, and how many octets it
-/// writes.
+/// What a run that is to replace one pool returns with this count of fresh pools, and how many
+/// octets it writes.
 fn answer_with(alloc: Global, count: usize) -> Result<(Result<(), RunFault>, usize), Fail> {
     let text: &[u8] = b"zone gk 10.0.0.1:1719\nturn 0\nreplace 0 0 fixed 1\n";
     let script = read_script(alloc, &mut Input::new(text))?;

@@ -215,9 +215,10 @@ fn fresh_pool_is_not_asked_if_nothing_is_lent(rt: HostRuntime) -> Result<(), Fai
     let replaced = replace_unasked(pools, fresh);
     let lends = seen.lends.load(Ordering::SeqCst);
     let take_backs = seen.take_backs.load(Ordering::SeqCst);
+    let turns = seen.turns.load(Ordering::SeqCst);
     drop(seen);
     assert!(rt; replaced == Some((0, (figures(100, 0, 0), None), (0, 0))));
-    assert!(rt; (lends, take_backs) == (0, 0));
+    assert!(rt; (lends, take_backs, turns) == (0, 0, 0));
     Ok(())
 }
 

@@ -8,8 +8,8 @@ use std::alloc::Global;
 use std::test::Fail;
 use vectors::requests::{ARQ, GRQ, RRQ_101, RRQ_102};
 
-/// A zone of so many units, of which a call may have 2,000, with this least grant, over a pool of
-/// 2,500.
+/// A zone with this limit, of which a call may have 2,000 units, with this least grant, over a pool
+/// of 2,500.
 pub fn zone_of(alloc: Global, limit: u64, least_grant: u64) -> Result<Zone<FixedPool>, Fail> {
     Ok(worked_zone::zone_of(alloc, limit, least_grant).ok_or("memory for a zone")?)
 }

@@ -10,8 +10,8 @@ use std::alloc::Global;
 use std::test::Fail;
 use step_check::{accepts, same};
 
-/// Offers each entry of the book of a call in its order, which is accepted, and one that comes again,
-/// which isn't. The snapshot is then the state of the zone.
+/// Offers each entry of the book of a call in its order, which is accepted, and one that comes
+/// again, which isn't. The snapshot is then the state of the zone.
 fn accept_each(
     alloc: Global,
     snapshot: &mut Snapshot,

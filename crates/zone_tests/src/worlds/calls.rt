@@ -39,7 +39,8 @@ fn answer_to(world: &mut World<FixedPool>, w: usize) -> Option<Lend> {
     }
 }
 
-/// Each of the two workers holds a call. This one is lent 1,280 units, and the other one is refused.
+/// Each of the two workers holds a call. This one is lent 1,280 units, and the other one is
+/// refused.
 fn decide(alloc: Global, world: &mut World<FixedPool>, first: usize) -> Looked {
     let second = if first == 0 { 1 } else { 0 };
     receive(world, 0, event(alloc, &ARQ, 1)?)?;

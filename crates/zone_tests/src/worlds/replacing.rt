@@ -66,8 +66,8 @@ fn find_replacement(world: &World<FixedPool>, seat: usize, call: usize) -> Looke
     expect(entry.outcome.output.is_none(), "nothing is sent")
 }
 
-/// The first pool is replaced by one of 2,000 units, and the old one, of this limit, comes back with
-/// nothing lent.
+/// The first pool is replaced by one of 2,000 units, and the old one, of this limit, comes back
+/// with nothing lent.
 fn exchange(world: &mut World<FixedPool>, limit: u64) -> Looked {
     let Ok(old) = replace(world, 0, 2_000) else {
         return Err("a pool that can carry the loans is taken");

@@ -142,7 +142,7 @@ fn make_steps<P: Pool>(alloc: Global, zone: &mut Zone<P>, lines: &[Line<'_>]) ->
     Ok(())
 }
 
-/// A zone with these settings and so many units over this pool.
+/// A zone with these settings and this limit over this pool.
 fn zone_of<P: Pool>(
     alloc: Global,
     mut parts: ConfigParts,

@@ -198,9 +198,9 @@ fn last_of<P: Pool>(pools: &[CountingPool<P>]) -> Option<(u64, Lend)> {
     }
 }
 
-/// A zone of so many units and with this least grant: a request for a second call behind the first
-/// one, or for more bandwidth for that. The units that the pool lends for it, and the units of the
-/// calls then.
+/// A zone with this limit and this least grant: a request for a second call behind the first one,
+/// or for more bandwidth for that. The units that the pool lends for it, and the units of the calls
+/// then.
 #[derive(Clone, Copy)]
 struct Case<'a> {
     limit: u64,

@@ -11,15 +11,7 @@ returns-in-Ok-written g c =
     let end = c.match-replace.out.contents in
     let line = upshot_line c.args.number in
     elim c.match-replace.branch [
-      | goal.in-Ok+in-Some-1 w ↦ (
-        Ok w.in-Ok.outcome,
-        (record { step = w.in-Ok.ensures.step; tallies = w.in-Ok.ensures.tallies }),
-        appends_at_ok c.match-replace.written w.write_outcome-written.result c.in-Ok-written.field-0
-            start w.write_outcome-written.new.out.contents end (line (Ok w.in-Ok.outcome))
-            c.in-Ok-written.is w.written-is (ap (λ (o : OutputState). o.contents) w.out-is)
-            w.write_outcome-written.ensures,
-      )
-      | goal.in-Ok+in-None-1 w ↦ (
+      | goal.in-Ok w ↦ (
         Ok w.in-Ok.outcome,
         (record { step = w.in-Ok.ensures.step; tallies = w.in-Ok.ensures.tallies }),
         appends_at_ok c.match-replace.written w.write_outcome-written.result c.in-Ok-written.field-0

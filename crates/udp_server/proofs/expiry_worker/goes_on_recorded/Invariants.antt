@@ -1,9 +1,11 @@
-use Rattle.std.proofs.Common.{◌<◌, true}
-use Rattle.udp_server.specs.Working.{IsLastTurn, standing}
+use Rattle.udp_server.specs.Ticks.{IsTurnOfRound, is_more_due_after}
+use Rattle.udp_server.specs.Working.{standing}
+use Rattle.udp_server.proofs.Ticks.{AreBusy}
 use Rattle.udp_server.proofs.expiry_worker.goes_on_recorded.Given as goal
 
--- it goes on after the turn that it made last, if it made one
+-- the turns so far, in each of which something was due
 abbrev pub invariant-loop : goal.invariant-loop
-invariant-loop g l = 0 < l.counter
-    → IsLastTurn g.D.Hall.opened g.C.Moments.tells true
+invariant-loop g l =
+    AreBusy (IsTurnOfRound g.D.Hall.opened g.C.Moments.tells) is_more_due_after l.counter
+    (standing l.fn.worker.seat l.fn.worker.outlet l.fn.worker.counts)
     (standing l.worker.seat l.worker.outlet l.worker.counts)

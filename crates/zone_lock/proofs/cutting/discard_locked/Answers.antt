@@ -21,16 +21,16 @@ invariant_of-locked g c =
     let cut = inside_cut g.D.Hall.opened h l.so_far carried l.opened_units _ _ _ _
     c.locked.invariant.0 refl refl refl
     (ap (λ (n : ℕ). l.opened_units + l.so_far.lent - n) c.in_use.ensures.sum) refl in
-    let base_is = c.replace-base.ensures.after in
-    let entries_are = ap (λ v. v.items) c.replace-entries.ensures.after ∙ c.requires in
+    let base_is = c.taken_out.ensures.base.1 in
+    let entries_are = ap (λ v. v.items) c.taken_out.ensures.entries.1 ∙ c.requires in
     let first_is = ap (λ (n : ℕ). l.first + n) (c.len.ensures ∙ l.entries.ok.0) in (
       subst (λ (n : ℕ). IsInside g.D.Hall.opened
-          (cut_so n carried c.replace-base.new.dest false c.replace-entries.new.dest.items l.zone) carried
+          (cut_so n carried c.taken_out.new.base false c.taken_out.new.entries.items l.zone) carried
           l.opened_units l.ledgers.datagrams.total l.ledgers.turns.total l.ledgers.lent.total
           l.ledgers.changes.total)
           (sym first_is)
           (subst (λ (s : Option State). IsInside g.D.Hall.opened
-          (cut_so (l.first + length l.entries.items) carried s false c.replace-entries.new.dest.items
+          (cut_so (l.first + length l.entries.items) carried s false c.taken_out.new.entries.items
           l.zone)
           carried l.opened_units l.ledgers.datagrams.total l.ledgers.turns.total
           l.ledgers.lent.total

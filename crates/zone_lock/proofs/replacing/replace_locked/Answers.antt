@@ -4,54 +4,44 @@ use Rattle.zone_events.specs.declared.change.Change.{Change}
 use Rattle.zone_events.specs.declared.change.Change.TheVariants as change
 use Rattle.ras_core.specs.Runs.{RunningChange, RunningReplacement}
 use Rattle.books.specs.declared.book.Entry.{Entry}
-use Rattle.zone_lock.specs.Seats.{Seated}
+use Rattle.zone_lock.specs.Held.{entry_by}
 use Rattle.zone_lock.proofs.Histories.{cut_so, inside_entered, room_for_more}
 use Rattle.zone_lock.proofs.replacing.replace_locked.Goals as goal
 
 pub with_step-locked-inside-requires-clause-steps :
     goal.with_step-locked-inside-requires-clause-steps
 with_step-locked-inside-requires-clause-steps g c =
-    (room_for_more _ _ _ _ _ _ _ _ 0 c.locked.invariant.0 (omega arith)).0
+    (room_for_more _ _ _ _ _ _ _ _ c.locked.invariant.0).0
 
 pub count-requires : goal.count-requires
-count-requires g c =
-    let room = room_for_more _ _ _ _ _ _ _ _ _ c.locked.invariant.0 c.audit.ensures.bound in
-    omega (arith, ap (λ (s : Seated). s.calls) c.audit.ensures.seat, room.1)
+count-requires g c = (room_for_more _ _ _ _ _ _ _ _ c.locked.invariant.0).1
 
 pub invariant_of-locked-2 : goal.invariant_of-locked-2
 invariant_of-locked-2 g c =
+    let l = c.locked.inside in
+    let made = c.replace_with_room in
     let what : Change = change.PoolChange (record {
       pool = c.args.pool;
       offered = c.figures_of.result;
       moment = c.args.moment;
     }) in
-    let entry : Entry = record {
-      seat = c.seat.inside.number;
-      call = c.seat.inside.calls;
-      event = what;
-      outcome = c.in_ok-outcome.outcome;
-    } in
-    let items = c.push_reserved.ensures.items
-    ∙ ap (λ (es : List Entry). es ++ entry ∷ []) c.reserve.ensures.items in
-    let step : RunningChange c.locked.inside.zone what c.in_ok-outcome.outcome c.replace.new.self =
-    subst (λ (f : Figures). RunningReplacement c.locked.inside.zone (record {
+    let outcome = c.in_ok-outcome.outcome in
+    let entry : Entry = entry_by c.args.seat.now.number c.args.seat.now.calls what outcome in
+    let items = c.enter_replacement-receipt.ensures.entry
+    ∙ ap (λ (es : List Entry). es ++ entry ∷ []) made.ensures.entries in
+    let step : RunningChange l.zone what outcome made.new.zone =
+    subst (λ (f : Figures). RunningReplacement l.zone (record {
       pool = c.args.pool;
       offered = f;
       moment = c.args.moment;
-    }) c.in_ok-outcome.outcome c.replace.new.self) (sym c.figures_of.ensures)
-    c.in_ok-outcome.ensures.step in
+    }) outcome made.new.zone) (sym c.figures_of.ensures) c.in_ok-outcome.ensures.step in
     let next = c.with_step-locked-inside.ensures in (
       inside_entered g.D.Hall.opened
-          (cut_so c.locked.inside.first c.locked.inside.carried c.locked.inside.base
-          c.locked.inside.is_recorded c.locked.inside.entries.items c.locked.inside.zone)
-          c.locked.inside.so_far
-          c.with_step-locked-inside.result c.locked.inside.opened_units _ _ _ _ _ _ _ _ entry
-          c.replace.new.self _ items c.locked.invariant.0 step next.few next.datagrams next.turns
-          next.lent next.returned next.changes
-          (omega (arith, c.count.ensures.datagrams, c.audit.ensures.datagrams))
-          (omega (arith, c.count.ensures.turns, c.audit.ensures.turns))
-          (omega (arith, c.count.ensures.lent, c.audit.ensures.lent))
-          (omega (arith, c.count.ensures.changes, c.audit.ensures.changes)),
+          (cut_so l.first l.carried l.base l.is_recorded l.entries.items l.zone) l.so_far
+          c.with_step-locked-inside.result l.opened_units _ _ _ _ _ _ _ _ entry made.new.zone _
+          items c.locked.invariant.0 step next.few next.datagrams next.turns next.lent
+          next.returned next.changes c.count.ensures.datagrams c.count.ensures.turns
+          c.count.ensures.lent c.count.ensures.changes,
       c.locked.invariant.1,
     )
 

@@ -12,7 +12,7 @@ use Rattle.zone_lock.proofs.stepping.step_locked.Goals as goal
 pub with_step-locked-inside-requires-clause-steps :
     goal.with_step-locked-inside-requires-clause-steps
 with_step-locked-inside-requires-clause-steps g c =
-    (room_for_more _ _ _ _ _ _ _ _ 0 c.locked.invariant.0 (omega arith)).0
+    (room_for_more _ _ _ _ _ _ _ _ c.locked.invariant.0).0
 
 pub overflow_sub-locked : goal.overflow_sub-locked
 overflow_sub-locked g c =
@@ -28,9 +28,7 @@ overflow_sub-locked g c =
     omega (arith, backed, c.in_use.ensures.sum)
 
 pub count-requires : goal.count-requires
-count-requires g c =
-    let room = room_for_more _ _ _ _ _ _ _ _ _ c.locked.invariant.0 c.audit.ensures.bound in
-    omega (arith, ap (λ (s : Seated). s.calls) c.audit.ensures.seat, room.1)
+count-requires g c = (room_for_more _ _ _ _ _ _ _ _ c.locked.invariant.0).1
 
 pub invariant_of-locked-2 : goal.invariant_of-locked-2
 invariant_of-locked-2 g c =
@@ -61,10 +59,10 @@ invariant_of-locked-2 g c =
           (omega (arith, next.ensures.turns, turns))
           next.ensures.lent next.ensures.returned
           (omega (arith, next.ensures.changes, changes))
-          (omega (arith, c.count.ensures.datagrams, c.audit.ensures.datagrams, datagrams))
-          (omega (arith, c.count.ensures.turns, c.audit.ensures.turns, turns))
-          (omega (arith, c.count.ensures.lent, c.audit.ensures.lent))
-          (omega (arith, c.count.ensures.changes, c.audit.ensures.changes, changes))
+          (omega (arith, c.count.ensures.datagrams, datagrams))
+          (omega (arith, c.count.ensures.turns, turns))
+          c.count.ensures.lent
+          (omega (arith, c.count.ensures.changes, changes))
           refl refl refl
           (ap (λ n. l.opened_units + next.result.lent - n) c.in_use.ensures.sum)
           refl _ l.base c.clear.new.self.items
@@ -109,10 +107,10 @@ returns-clause-entered g c =
     (omega (arith, next.ensures.turns, turns))
     next.ensures.lent next.ensures.returned
     (omega (arith, next.ensures.changes, changes))
-    (omega (arith, c.count.ensures.datagrams, c.audit.ensures.datagrams, datagrams))
-    (omega (arith, c.count.ensures.turns, c.audit.ensures.turns, turns))
-    (omega (arith, c.count.ensures.lent, c.audit.ensures.lent))
-    (omega (arith, c.count.ensures.changes, c.audit.ensures.changes, changes))
+    (omega (arith, c.count.ensures.datagrams, datagrams))
+    (omega (arith, c.count.ensures.turns, turns))
+    c.count.ensures.lent
+    (omega (arith, c.count.ensures.changes, changes))
     refl refl refl
     (ap (λ n. l.opened_units + next.result.lent - n) c.in_use.ensures.sum)
     refl (l.first + c.len.result + 1) l.base c.clear.new.self.items

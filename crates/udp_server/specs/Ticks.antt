@@ -1,0 +1,76 @@
+-- What the worker of the timers does at a tick: all of it, from how it stood before.
+use Rattle.std.specs.Prelude.{◌≡◌, ◌<◌, ◌+◌, ◌∷◌, ◌⊎◌, ℕ, List, [], Bool, false, length, not, true}
+use Rattle.std.specs.List.{AllPass}
+use Rattle.zone_events.specs.declared.event.Event.TheVariants as event
+use Rattle.ras_machine.specs.State.{State}
+use Rattle.ras_core.specs.declared.fault.StepFault.TheVariants as step_fault
+use Rattle.zone_lock.specs.declared.turns.TurnsEnd.{TurnsEnd}
+use Rattle.zone_lock.specs.declared.turns.TurnsEnd.TheVariants as turns_end
+use Rattle.udp_server.specs.declared.worker.StepResult.{StepResult}
+use Rattle.udp_server.specs.declared.worker.StepResult.TheVariants as result
+use Rattle.udp_server.specs.Working.{CameOf, CameOfTurns, IsRefusalCounted, IsTold, Standing}
+
+-- What a worker may do several times at one tick, a round: turns while it holds the lock, or one
+-- turn that is recorded. What came of it, and how the worker stood before and after.
+abbrev pub Round : Type 0 → Type 1
+Round Came = Came → Standing → Standing → Type 0
+
+-- rounds were made one after the other; what came of each, the last one first
+abbrev pub AreRounds : {Came : Type 0} → Round Came → List Came → Standing → Standing → Type 0
+AreRounds round [] old new = new ≡ old
+AreRounds round (came ∷ before) old new =
+    (mid : Standing) × AreRounds round before old mid × round came mid new
+
+-- All that a worker does at a tick, from how it stood before to how it stands then: rounds, at
+-- least one and at most `most`. After each but the last one more may have been due. After the last
+-- one more may be due only if `most` were made. The worker goes on or not by what came of the last.
+pub record IsTick {Came : Type 0} (round : Round Came) (most : ℕ)
+    (is_more goes_on_after : Came → Bool) (goes_on : Bool) (old new : Standing) : Type 0 where
+  pub last : Came
+  pub before : List Came
+  pub rounds : AreRounds round (last ∷ before) old new
+  pub busy : AllPass is_more before
+  pub few : length before < most
+  pub until : is_more last ≡ true → length before + 1 ≡ most
+  pub end : goes_on ≡ goes_on_after last
+
+-- a round of turns of which nothing is recorded, at most `most`, at a moment that a clock told
+abbrev pub AreTurnsOfRound : {C : Type 0} → State → (C → ℕ → C → Type 0) → ℕ → Round TurnsEnd
+AreTurnsOfRound {C} opened tells most why old new =
+    (clock : C) × CameOfTurns opened (IsTold tells clock) most why old new
+
+-- whether a worker goes on after turns that ended so: it ends only if no step is made any more
+abbrev pub goes_on_after_turns : TurnsEnd → Bool
+goes_on_after_turns turns_end.Idle = true
+goes_on_after_turns turns_end.More = true
+goes_on_after_turns (turns_end.Refused step_fault.Memory) = true
+goes_on_after_turns (turns_end.Refused step_fault.Closed) = false
+
+-- whether more turns may be due after some that ended so
+abbrev pub is_more_due : TurnsEnd → Bool
+is_more_due turns_end.Idle = false
+is_more_due turns_end.More = true
+is_more_due (turns_end.Refused why) = false
+
+-- What comes behind a turn: a chapter may be due if it was made. If there was no memory for that,
+-- that is counted.
+abbrev pub IsChapterTried : StepResult → Standing → Standing → Type 0
+IsChapterTried (result.Made place is_idle) old new = (new ≡ old) ⊎ IsRefusalCounted old new
+IsChapterTried result.Refused old new = new ≡ old
+IsChapterTried result.Closed old new = new ≡ old
+
+-- A round of one turn, at a moment that a clock told, and of the chapter that may be due behind it.
+pub record IsTurnOfRound {C : Type 0} (opened : State) (tells : C → ℕ → C → Type 0)
+    (came : StepResult) (old new : Standing) : Type 0 where
+  pub clock : C
+  pub moment : ℕ
+  pub then : Standing
+  pub told : IsTold tells clock moment
+  pub made : CameOf opened (event.Turn moment) came old then
+  pub chapter : IsChapterTried came then new
+
+-- whether more turns may be due after one of which this came
+abbrev pub is_more_due_after : StepResult → Bool
+is_more_due_after (result.Made place is_idle) = not is_idle
+is_more_due_after result.Refused = false
+is_more_due_after result.Closed = false
