@@ -36,10 +36,19 @@ pub enum Arrival {
 }
 
 /// An event whose datagram was read. Contracts see the event.
-#[derive(Drop)]
 pub struct Prepared {
     moment: Moment,
     arrival: Arrival,
+}
+
+// By hand, so that it is one call where one is dropped.
+impl Drop for Prepared {
+    fn drop(self) {
+        let Prepared {
+            moment: _,
+            arrival: _,
+        } = self;
+    }
 }
 
 impl Model for Prepared {

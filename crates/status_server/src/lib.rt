@@ -1,9 +1,9 @@
 //! A server of the status pages of a running zone over HTTP, for a thread of its own. It answers
 //! reads and nothing else.
 //!
-//! proved: that it is safe; what a connection sends is the answer to what its request asks for, of the
-//! zone that is shown and under its name, also if it is told again (`serve_one`, `response`); a page is
-//! sent with its status, header fields and body (`as_hyper`)
+//! proved: that it is safe; what a connection sends is the answer to what its request asks for, of
+//! the zone that is shown and under its name, also if it is told again (`serve_one`, `response`); a
+//! page is sent with its status, header fields and body (`as_hyper`)
 //! tested: the built program; how long a page is told again; when a zone has ended
 #![tactic(auto)]
 

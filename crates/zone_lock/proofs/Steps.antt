@@ -45,15 +45,6 @@ pub longer_by : (old new : Held) (entry : Entry) → new.first ≡ old.first
 longer_by old new entry first carried base recorded entries =
     λ i. cut_so (first i) (carried i) (base i) (recorded i) (entries i) new.zone
 
--- an entry that was put behind others, with its outcome and these as they are known elsewhere
-pub put_behind : (es before others : List Entry) (seat call : ℕ) (event : Change)
-    (copy outcome : Outcome) → es ≡ others ++ entry_by seat call event copy ∷ [] → copy ≡ outcome
-    → others ≡ before → es ≡ before ++ entry_by seat call event outcome ∷ []
-put_behind es before others seat call event copy outcome is same were =
-    is
-    ∙ ap (λ (o : Outcome). others ++ entry_by seat call event o ∷ []) same
-    ∙ ap (λ (xs : List Entry). xs ++ entry_by seat call event outcome ∷ []) were
-
 -- the entry stands behind the others, since steps are recorded
 pub entered_recorded : (opened : State) (old : Held) (entry : Entry) (after : Running) (new : Held)
     → IsKept opened old → RunningChange old.zone entry.event entry.outcome after
