@@ -12,6 +12,16 @@ pub fn ensure(holds: bool, fact: &str) -> Result<(), Fail> {
     }
 }
 
+/// Fails with the first of these facts that doesn't hold.
+///
+/// One call of it is cheaper to prove than a chain of `ensure`, each of which is an exit.
+pub fn all_hold(facts: &[(bool, &str)]) -> Result<(), Fail> {
+    for (holds, fact) in facts {
+        ensure(*holds, fact)?;
+    }
+    Ok(())
+}
+
 /// Fails with the name of a row of a table of cases and this fact of it, unless it holds.
 pub fn ensure_of(row: &str, holds: bool, fact: &str) -> Result<(), Fail> {
     if holds {

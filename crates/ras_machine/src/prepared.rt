@@ -146,6 +146,7 @@ impl Prepared {
         ensures event { event_at (moment_in self) result ≡ self }
         ensures read { IsRead result }
     {
-        self.arrival
+        let Prepared { moment: _, arrival } = self;
+        arrival
     }
 }
