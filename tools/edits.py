@@ -75,6 +75,10 @@ def around(folder, file, old):
         words = " ".join(head.split()).split(" for ")
         kind = words[-1].split()[0].split("::")[-1]
         trait = words[0].split("::")[-1] if len(words) > 1 else ""
+        # (another crate's type is named by all its words, as BoxDynPool of Box<dyn Pool>)
+        if home_of(kind, folder) is None:
+            whole = re.findall(r"\w+", last.split(" for ")[-1])
+            kind = "".join(it[0].upper() + it[1:] for it in whole)
     return module_of(file), kind, trait, name[-1]
 
 

@@ -108,13 +108,13 @@ def copy_sources(crate, folder):
             shutil.copytree(f"{crate.folder}/{part}", f"{folder}/{part}")
 
 
-def check(crate, folder, kept, only=()):
+def check(crate, folder, kept, only=(), flags=()):
     """Checks a copy of the crate in this folder: all of it, or these functions alone.
 
     `kept` is a folder that keeps what was proved from check to check. Returns the ended process.
     """
     tool = toolchain()
-    words = [tool.RATTLE, "check", *crate.words(["--jobs", "1"], keeps=False)]
+    words = [tool.RATTLE, "check", *crate.words(["--jobs", "1"], keeps=False), *flags]
     words += ["--incremental", kept]
     words += [word for name in only for word in ("--only", name)]
     how = {"stdin": subprocess.DEVNULL, "stdout": subprocess.PIPE, "stderr": subprocess.STDOUT}

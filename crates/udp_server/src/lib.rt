@@ -13,6 +13,7 @@ mod datagrams;
 mod expiry_worker;
 mod gate;
 mod history;
+mod joint;
 mod laws;
 mod moments;
 mod orders;

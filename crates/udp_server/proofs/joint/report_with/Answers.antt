@@ -1,4 +1,4 @@
-use Rattle.udp_server.proofs.server.report_with.Goals as goal
+use Rattle.udp_server.proofs.joint.report_with.Goals as goal
 
 pub returns-clause-served : goal.returns-clause-served
 returns-clause-served g c = record {

@@ -3,7 +3,7 @@ use Rattle.std.specs.Prelude.{flat_map, sum_by}
 use Rattle.std.specs.Vec.Iter.{into_iter_items}
 use Rattle.udp_server.specs.Ends.{most_count}
 use Rattle.udp_server.specs.Joint.{joint_count}
-use Rattle.udp_server.proofs.server.join_records.Given as goal
+use Rattle.udp_server.proofs.joint.join_records.Given as goal
 
 -- what was joined so far, with what the workers left that are still to come
 abbrev pub invariant-loop-worker : goal.invariant-loop-worker

@@ -2,7 +2,7 @@ use Rattle.std.proofs.Common.{◌≡◌, ℕ, IfOk, ap, subst}
 use Rattle.std.specs.Prelude.{Err, List, Ok, Result}
 use Rattle.books.specs.declared.book.Receipt.{Receipt}
 use Rattle.books.specs.declared.chapter.Chapter.{Chapter}
-use Rattle.udp_server.proofs.server.report_of.Goals as goal
+use Rattle.udp_server.proofs.joint.report_of.Goals as goal
 
 -- what follows from what holds of a value, if there is one, holds of it too
 of_each : {T E : Type 0} (result : Result T E) (P Q : T → Type 0) → ((t : T) → P t → Q t)

@@ -1,6 +1,6 @@
 use Rattle.std.proofs.Common.{arith}
 use Rattle.udp_server.proofs.Counts.{few_counted}
-use Rattle.udp_server.proofs.server.counted.Goals as goal
+use Rattle.udp_server.proofs.joint.counted.Goals as goal
 
 pub overflow_add-result : goal.overflow_add-result
 overflow_add-result g c =
