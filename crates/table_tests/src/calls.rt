@@ -2,7 +2,7 @@
 
 use crate::fixtures::{address, endpoint};
 use admission::{Call, CallFault, CallList, Calls, Left, Leg, Legs};
-use facts::ensure;
+use facts::{all_hold, ensure};
 use ras_module::CallKey;
 use std::alloc::AllocError;
 use std::test::Fail;
@@ -72,34 +72,39 @@ const fn key(octet: u8) -> CallKey {
 fn admit_two(calls: &mut Calls) -> Result<(), Fail> {
     calls.reserve(1)?;
     let is_open = open(calls, key(1), 2, UNITS, leg(FIRST)) == DONE;
-    ensure(is_open, "the call is opened")?;
-    ensure(
-        join(calls, key(1), leg(SECOND)) == DONE,
-        "the second endpoint joins it",
-    )?;
-    ensure(calls.len() == 1, "there is one call")?;
-    ensure(calls.total() == u64::from(UNITS), "its units are in use")
+    let has_joined = join(calls, key(1), leg(SECOND)) == DONE;
+    all_hold(&[
+        (is_open, "the call is opened"),
+        (has_joined, "the second endpoint joins it"),
+        (calls.len() == 1, "there is one call"),
+        (calls.total() == u64::from(UNITS), "its units are in use"),
+    ])
 }
 
 /// Gives the call half of its units.
 fn halve(calls: &mut Calls) -> Result<(), Fail> {
-    ensure(calls.set_units(&key(1), HALF).is_ok(), "the call is there")?;
-    ensure(
-        calls.total() == u64::from(HALF),
-        "half of its units are in use",
-    )
+    let is_there = calls.set_units(&key(1), HALF).is_ok();
+    all_hold(&[
+        (is_there, "the call is there"),
+        (
+            calls.total() == u64::from(HALF),
+            "half of its units are in use",
+        ),
+    ])
 }
 
 /// Lets the first endpoint leave the call, which goes on.
 fn leave_first(calls: &mut Calls) -> Result<(), Fail> {
     let left = calls.leave(&key(1), &endpoint(FIRST));
     let again = calls.leave(&key(1), &endpoint(FIRST));
-    ensure(
-        left == Ok(Left { ended: None }),
-        "the first endpoint leaves",
-    )?;
-    ensure(again == Err(CallFault::NoLeg), "it leaves once")?;
-    ensure(calls.total() == u64::from(HALF), "the call goes on")
+    all_hold(&[
+        (
+            left == Ok(Left { ended: None }),
+            "the first endpoint leaves",
+        ),
+        (again == Err(CallFault::NoLeg), "it leaves once"),
+        (calls.total() == u64::from(HALF), "the call goes on"),
+    ])
 }
 
 /// Lets the second endpoint leave the call, which ends with it.
@@ -107,11 +112,13 @@ fn leave_second(calls: &mut Calls) -> Result<(), Fail> {
     let ended = Some((2, HALF));
     let left = calls.leave(&key(1), &endpoint(SECOND));
     let again = calls.leave(&key(1), &endpoint(SECOND));
-    ensure(
-        left == Ok(Left { ended }),
-        "the call ends as the second endpoint leaves",
-    )?;
-    ensure(again == Err(CallFault::NoCall), "it ends once")
+    all_hold(&[
+        (
+            left == Ok(Left { ended }),
+            "the call ends as the second endpoint leaves",
+        ),
+        (again == Err(CallFault::NoCall), "it ends once"),
+    ])
 }
 
 /// Lets a call live: it is made, gets other units, and is left by one endpoint after the other.
@@ -120,8 +127,10 @@ fn live(calls: &mut Calls) -> Result<(), Fail> {
     halve(calls)?;
     leave_first(calls)?;
     leave_second(calls)?;
-    ensure(calls.total() == 0, "nothing is in use")?;
-    ensure(calls.len() == 0, "there is no call")
+    all_hold(&[
+        (calls.total() == 0, "nothing is in use"),
+        (calls.len() == 0, "there is no call"),
+    ])
 }
 
 #[test]
@@ -138,51 +147,59 @@ fn join_two(calls: &mut Calls) -> Result<(), Fail> {
     let nowhere = join(calls, key(2), leg(SECOND));
     let second = join(calls, key(1), leg(SECOND));
     let third = join(calls, key(1), leg(THIRD));
-    ensure(is_open, "the call is opened")?;
-    ensure(
-        nowhere == refused(CallFault::NoCall),
-        "no call is joined that isn't there",
-    )?;
-    ensure(second == DONE, "the second endpoint joins it")?;
-    ensure(
-        third == refused(CallFault::TwoLegs),
-        "no third endpoint joins it",
-    )
+    all_hold(&[
+        (is_open, "the call is opened"),
+        (
+            nowhere == refused(CallFault::NoCall),
+            "no call is joined that isn't there",
+        ),
+        (second == DONE, "the second endpoint joins it"),
+        (
+            third == refused(CallFault::TwoLegs),
+            "no third endpoint joins it",
+        ),
+    ])
 }
 
 /// Compares a call with that of the two endpoints.
 fn compare_call_of_two(call: &Call) -> Result<(), Fail> {
     let legs = call.copy().legs;
-    ensure(call.units == UNITS, "it has its units")?;
-    ensure(call.legs.are_two(), "it has two legs")?;
-    ensure(
-        call.legs.has_other(&endpoint(SECOND)),
-        "the second endpoint isn't alone",
-    )?;
     let both = [leg(FIRST), leg(SECOND)];
-    ensure(
-        legs.as_slice() == both.as_slice(),
-        "its copy has the legs of both",
-    )
+    all_hold(&[
+        (call.units == UNITS, "it has its units"),
+        (call.legs.are_two(), "it has two legs"),
+        (
+            call.legs.has_other(&endpoint(SECOND)),
+            "the second endpoint isn't alone",
+        ),
+        (
+            legs.as_slice() == both.as_slice(),
+            "its copy has the legs of both",
+        ),
+    ])
 }
 
 /// Finds the second endpoint's leg, and no leg of the third.
 fn find_legs(calls: &Calls) -> Result<(), Fail> {
-    match calls.leg(&key(1), &endpoint(SECOND)) {
-        Some(leg) => ensure(
-            leg.told.ip == [10, 0, 0, SECOND],
-            "the second one was told so",
-        )?,
-        None => return Err(Fail::from("the second endpoint has a leg")),
-    }
+    let told = match calls.leg(&key(1), &endpoint(SECOND)) {
+        Some(leg) => Some(leg.told.ip),
+        None => None,
+    };
     let third = calls.leg(&key(1), &endpoint(THIRD));
-    ensure(third.is_none(), "the third endpoint has no leg")?;
     let call = calls.call_of(&endpoint(SECOND));
-    ensure(call == Some(key(1)), "the second endpoint is in the call")?;
-    ensure(
-        calls.call_of(&endpoint(THIRD)).is_none(),
-        "the third endpoint is in no call",
-    )
+    all_hold(&[
+        (told.is_some(), "the second endpoint has a leg"),
+        (
+            told == Some([10, 0, 0, SECOND]),
+            "the second one was told so",
+        ),
+        (third.is_none(), "the third endpoint has no leg"),
+        (call == Some(key(1)), "the second endpoint is in the call"),
+        (
+            calls.call_of(&endpoint(THIRD)).is_none(),
+            "the third endpoint is in no call",
+        ),
+    ])
 }
 
 /// Lets two endpoints take part in a call, which is found with their legs.
@@ -209,43 +226,47 @@ fn fill(calls: &mut Calls) -> Result<(), Fail> {
     let second = open(calls, key(2), 1, REST, leg(FIRST));
     let third = open(calls, key(3), 1, 1, leg(FIRST));
     let units = calls.set_units(&key(3), 1);
-    ensure(first == DONE, "the first call is opened")?;
-    ensure(second == DONE, "the second call is opened")?;
-    ensure(
-        third == refused(CallFault::Full),
-        "there is no place for a third call",
-    )?;
-    ensure(
-        units == Err(CallFault::NoCall),
-        "what isn't there gets no units",
-    )
+    all_hold(&[
+        (first == DONE, "the first call is opened"),
+        (second == DONE, "the second call is opened"),
+        (
+            third == refused(CallFault::Full),
+            "there is no place for a third call",
+        ),
+        (
+            units == Err(CallFault::NoCall),
+            "what isn't there gets no units",
+        ),
+    ])
 }
 
 /// Fills the table, in which each pool has its part of the sum then, and the first endpoint all
 /// legs.
 fn fill_and_sum(calls: &mut Calls) -> Result<(), Fail> {
     fill(calls)?;
-    ensure(
-        calls.total() == u64::from(UNITS + REST),
-        "the units of both are in use",
-    )?;
-    ensure(
-        calls.total_of(0) == u64::from(UNITS),
-        "the first call's are of the first pool",
-    )?;
-    ensure(
-        calls.total_of(1) == u64::from(REST),
-        "the second call's are of the second pool",
-    )?;
-    ensure(calls.total_of(2) == 0, "none are of a third pool")?;
-    ensure(
-        calls.legs_of(&endpoint(FIRST)) == 2,
-        "the first endpoint has two legs",
-    )?;
-    ensure(
-        calls.legs_of(&endpoint(SECOND)) == 0,
-        "the second endpoint has none",
-    )
+    all_hold(&[
+        (
+            calls.total() == u64::from(UNITS + REST),
+            "the units of both are in use",
+        ),
+        (
+            calls.total_of(0) == u64::from(UNITS),
+            "the first call's are of the first pool",
+        ),
+        (
+            calls.total_of(1) == u64::from(REST),
+            "the second call's are of the second pool",
+        ),
+        (calls.total_of(2) == 0, "none are of a third pool"),
+        (
+            calls.legs_of(&endpoint(FIRST)) == 2,
+            "the first endpoint has two legs",
+        ),
+        (
+            calls.legs_of(&endpoint(SECOND)) == 0,
+            "the second endpoint has none",
+        ),
+    ])
 }
 
 #[test]
@@ -268,11 +289,13 @@ fn open_all(calls: &mut Calls, octets: &[u8]) -> Result<(), Fail> {
 /// Compares calls with those of these keys, each with as many units as its key's octets say.
 fn compare_calls(calls: &[(CallKey, Call)], octets: &[u8]) -> Result<(), Fail> {
     for (entry, octet) in calls.iter().zip(octets) {
-        ensure(entry.0 == key(*octet), "the keys rise")?;
-        ensure(
-            entry.1.units == u32::from(*octet),
-            "each call has its units",
-        )?;
+        all_hold(&[
+            (entry.0 == key(*octet), "the keys rise"),
+            (
+                entry.1.units == u32::from(*octet),
+                "each call has its units",
+            ),
+        ])?;
     }
     ensure(calls.len() == octets.len(), "each call comes once")
 }
@@ -336,8 +359,10 @@ fn compare_lists(calls: &mut Calls, none: &CallList) -> Result<(), Fail> {
     let is_other = one != *none;
     drop(again);
     drop(one);
-    ensure(is_same, "a list equals itself read again")?;
-    ensure(is_other, "it equals no list of no call")
+    all_hold(&[
+        (is_same, "a list equals itself read again"),
+        (is_other, "it equals no list of no call"),
+    ])
 }
 
 #[test]
@@ -358,11 +383,13 @@ fn open_at_last(calls: &mut Calls, key: CallKey) -> Result<(), Fail> {
     if answer == DONE {
         return Ok(());
     }
-    ensure(
-        answer == refused(CallFault::Memory),
-        "memory alone is wanting",
-    )?;
-    ensure(calls.len() == before, "a refused call changes nothing")?;
+    all_hold(&[
+        (
+            answer == refused(CallFault::Memory),
+            "memory alone is wanting",
+        ),
+        (calls.len() == before, "a refused call changes nothing"),
+    ])?;
     let again = open(calls, key, 0, FEW_UNITS, leg(FIRST));
     ensure(again == DONE, "the same call is opened with memory")
 }
@@ -394,12 +421,12 @@ fn fill_at_last(calls: &mut Calls) -> Result<(), Fail> {
         open_at_last(calls, key(octet))?;
     }
     reserve_at_last(calls)?;
-    ensure(
-        listed_at_last(calls)? == usize::from(MANY),
-        "each call is listed",
-    )?;
+    let listed = listed_at_last(calls)?;
     let units = u64::from(FEW_UNITS) * u64::from(MANY);
-    ensure(calls.total() == units, "the units of each call are in use")
+    all_hold(&[
+        (listed == usize::from(MANY), "each call is listed"),
+        (calls.total() == units, "the units of each call are in use"),
+    ])
 }
 
 #[test]

@@ -1,9 +1,11 @@
 //! Copies of the tables: equal to what was copied, and apart from it. A copy for which memory is
 //! refused leaves its table as it was, and is made with memory.
 
-use crate::fixtures::{address, endpoint, is_confirmed, kept_reply, no_alias, request_octets, seq};
+use crate::fixtures::{
+    address, endpoint, enter, is_confirmed, kept_reply, no_alias, request_octets, seq,
+};
 use admission::{Calls, Leg};
-use facts::ensure;
+use facts::all_hold;
 use kept_replies::{Kept, KeptKey};
 use ras_module::{Address, CallKey, Reply};
 use registrations::{Registration, Registrations};
@@ -32,10 +34,7 @@ fn register(table: &mut Registrations, alloc: Global) -> Result<(), Fail> {
     }
     for last in ENDPOINTS {
         let new = registration(alloc, last).ok_or("memory for a registration")?;
-        if table.get(&new.identifier).is_some() || table.by_address(new.call_signal).is_some() {
-            return Err(Fail::from("the endpoint is registered"));
-        }
-        table.insert(new)?;
+        enter(table, new)?;
     }
     Ok(())
 }
@@ -66,13 +65,15 @@ fn copy_registrations(table: &mut Registrations, alloc: Global) -> Result<(), Fa
     let is_removed = copy.remove(&endpoint(b'2')).is_some();
     let is_less = copy.len() == 2;
     drop(copy);
-    ensure(is_same, "the copy has the three endpoints")?;
-    ensure(is_removed, "an endpoint is removed from the copy")?;
-    ensure(is_less, "the copy has two endpoints then")?;
-    ensure(
-        are_registered(table),
-        "the table has the three endpoints still",
-    )
+    all_hold(&[
+        (is_same, "the copy has the three endpoints"),
+        (is_removed, "an endpoint is removed from the copy"),
+        (is_less, "the copy has two endpoints then"),
+        (
+            are_registered(table),
+            "the table has the three endpoints still",
+        ),
+    ])
 }
 
 #[test]
@@ -136,10 +137,12 @@ fn copy_calls(calls: &mut Calls) -> Result<(), Fail> {
     let has_left = copy.leave(&call_key(1), &endpoint(b'1')).is_ok();
     let is_less = copy.total() == u64::from(UNITS);
     drop(copy);
-    ensure(is_same, "the copy has the two calls")?;
-    ensure(has_left, "the endpoint leaves a call of the copy")?;
-    ensure(is_less, "the copy has the units of the other call then")?;
-    ensure(are_open(calls), "the table has the two calls still")
+    all_hold(&[
+        (is_same, "the copy has the two calls"),
+        (has_left, "the endpoint leaves a call of the copy"),
+        (is_less, "the copy has the units of the other call then"),
+        (are_open(calls), "the table has the two calls still"),
+    ])
 }
 
 #[test]
@@ -172,20 +175,19 @@ fn confirm(number: u8) -> Reply {
     }
 }
 
-/// Keeps replies 1 and 2, born in steps 1 and 2, with room that is made at last.
-fn keep(kept: &mut Kept, alloc: Global) -> Result<(), Fail> {
-    for number in [1u8, 2] {
-        let key = datagram(alloc, number)?;
-        let born = u64::from(number);
-        if kept.is_full() || !kept.is_free(&key, born) {
-            return Err(Fail::from("it can't be kept"));
-        }
-        if kept.reserve(0).is_err() {
-            kept.reserve(0)?;
-        }
-        let reply = kept_reply(alloc, &confirm(number))?;
-        kept.keep(key, born, reply, 1000);
+/// Keeps the reply with this number, born in the step of that number, with room that is made at
+/// last.
+fn keep(kept: &mut Kept, alloc: Global, number: u8) -> Result<(), Fail> {
+    if kept.reserve(0).is_err() {
+        kept.reserve(0)?;
     }
+    let reply = kept_reply(alloc, &confirm(number))?;
+    let key = datagram(alloc, number)?;
+    let born = u64::from(number);
+    if kept.is_full() || !kept.is_free(&key, born) {
+        return Err(Fail::from("it can't be kept"));
+    }
+    kept.keep(key, born, reply, 1000);
     Ok(())
 }
 
@@ -211,15 +213,18 @@ fn kept_at_last(kept: &Kept) -> Result<Kept, AllocError> {
 
 /// Keeps replies, and copies their table. A change of the copy leaves the table.
 fn copy_replies(kept: &mut Kept, alloc: Global) -> Result<(), Fail> {
-    keep(kept, alloc)?;
+    keep(kept, alloc, 1)?;
+    keep(kept, alloc, 2)?;
     let mut copy = kept_at_last(kept)?;
     let is_same = are_kept(&copy);
     copy.drop_born(1);
     let is_less = copy.len() == 1 && copy.by_born(1).is_none();
     drop(copy);
-    ensure(is_same, "the copy has the two replies")?;
-    ensure(is_less, "the copy has the second reply alone then")?;
-    ensure(are_kept(kept), "the table has the two replies still")
+    all_hold(&[
+        (is_same, "the copy has the two replies"),
+        (is_less, "the copy has the second reply alone then"),
+        (are_kept(kept), "the table has the two replies still"),
+    ])
 }
 
 #[test]

@@ -7,7 +7,7 @@ use facts::ensure_of;
 use kept_replies::{InProgress, Kept, KeptKey};
 use ras_module::{Boxed, CallKey, Delay, DisengageRequest, EndpointId, Reply, Request};
 use registrations::{Registration, Registrations};
-use std::alloc::Global;
+use std::alloc::{AllocError, Global};
 use std::test::Fail;
 
 const TIMES: Times = Times {
@@ -83,19 +83,23 @@ const TURN: u64 = 1_400;
 /// When a registration is over.
 const END: u64 = 60_000;
 
-/// Lets a request wait.
-fn pend(alloc: Global, kept: &mut Kept) -> Result<(), Fail> {
-    let key = datagram(alloc)?;
-    if kept.is_full() || !kept.is_free(&key, 3) {
-        return Err(Fail::from("there is no place"));
-    }
+fn request(alloc: Global) -> Result<Request, AllocError> {
     let request = DisengageRequest {
         seq: seq(7),
         endpoint: endpoint(FIRST),
         call: CALL,
     };
-    let request = Request::Drq(Boxed::new(alloc, request)?);
+    Ok(Request::Drq(Boxed::new(alloc, request)?))
+}
+
+/// Lets a request wait.
+fn pend(alloc: Global, kept: &mut Kept) -> Result<(), Fail> {
     kept.reserve(0)?;
+    let request = request(alloc)?;
+    let key = datagram(alloc)?;
+    if kept.is_full() || !kept.is_free(&key, 3) {
+        return Err(Fail::from("there is no place"));
+    }
     let reply = InProgress::new(seq(7), Delay::new(1500).unwrap());
     kept.pend(key, 3, request, reply, RETRY, 3);
     Ok(())
@@ -103,12 +107,12 @@ fn pend(alloc: Global, kept: &mut Kept) -> Result<(), Fail> {
 
 /// Keeps a reply until it is over.
 fn keep(alloc: Global, kept: &mut Kept) -> Result<(), Fail> {
+    kept.reserve(0)?;
+    let reply = kept_reply(alloc, &Reply::Dcf { seq: seq(7) })?;
     let key = datagram(alloc)?;
     if kept.is_full() || !kept.is_free(&key, 5) {
         return Err(Fail::from("there is no place"));
     }
-    kept.reserve(0)?;
-    let reply = kept_reply(alloc, &Reply::Dcf { seq: seq(7) })?;
     kept.keep(key, 5, reply, OVER);
     Ok(())
 }

@@ -1,6 +1,7 @@
 //! Moments by which things are due, against a plain list of them.
 
 use deadlines::Deadlines;
+use facts::{all_hold, ensure};
 use std::test::Fail;
 
 const PLACES: usize = 40;
@@ -81,37 +82,68 @@ fn change(deadlines: &mut Deadlines, plain: &mut [Option<u64>], seed: u64) {
     }
 }
 
-#[test]
-fn agrees_with_a_plain_list(rt: HostRuntime) -> Result<(), Fail> {
-    let mut deadlines = Deadlines::new(rt.alloc());
-    assert!(rt; deadlines.earliest().is_none());
-    deadlines.reserve(PLACES)?;
-    let mut plain = [None; PLACES];
-    let mut seed = 1;
-    let mut held = 0;
-    for _ in 0..4000 {
-        change(&mut deadlines, &mut plain, seed);
-        seed = next(seed);
-        assert!(rt; are_same(&deadlines, &plain), "after {seed}");
-        assert!(rt; is_first(&deadlines, &plain), "after {seed}");
-        held = deadlines.len().max(held);
+/// Compares both behind the change of this seed.
+fn compare(deadlines: &Deadlines, plain: &[Option<u64>], seed: u64) -> Result<(), Fail> {
+    if !are_same(deadlines, plain) {
+        return Err(Fail::new(format_args!("{seed}: each place has its moment")));
     }
-    assert!(rt; held > PLACES / 2, "{held}");
-    let copy = deadlines.copy()?;
-    assert!(rt; copy.room() == PLACES);
-    assert!(rt; are_same(&copy, &plain), "the copy has the same moments");
-    assert!(rt;
-        is_first(&copy, &plain),
-        "the copy has the same first moment"
-    );
+    if !is_first(deadlines, plain) {
+        return Err(Fail::new(format_args!("{seed}: the first is due first")));
+    }
     Ok(())
 }
 
+/// Changes both 4,000 times, and compares them each time. Returns how many moments there were at
+/// most.
+fn change_often(deadlines: &mut Deadlines, plain: &mut [Option<u64>]) -> Result<usize, Fail> {
+    let mut seed = 1;
+    let mut held = 0;
+    for _ in 0..4000 {
+        change(deadlines, plain, seed);
+        compare(deadlines, plain, seed)?;
+        seed = next(seed);
+        held = deadlines.len().max(held);
+    }
+    Ok(held)
+}
+
+/// Compares a copy with the plain list.
+fn compare_copy(deadlines: &Deadlines, plain: &[Option<u64>]) -> Result<(), Fail> {
+    let copy = deadlines.copy()?;
+    let has_room = copy.room() == PLACES;
+    let are_same = are_same(&copy, plain);
+    let is_first = is_first(&copy, plain);
+    drop(copy);
+    all_hold(&[
+        (has_room, "the copy has room for the same places"),
+        (are_same, "the copy has the same moments"),
+        (is_first, "the copy has the same first moment"),
+    ])
+}
+
+/// Changes moments as those of a plain list, until many places have one.
+fn agree(deadlines: &mut Deadlines) -> Result<(), Fail> {
+    let is_empty = deadlines.earliest().is_none();
+    deadlines.reserve(PLACES)?;
+    let mut plain = [None; PLACES];
+    let held = change_often(deadlines, &mut plain)?;
+    all_hold(&[
+        (is_empty, "nothing is due at first"),
+        (held > PLACES / 2, "many places have a moment"),
+    ])?;
+    compare_copy(deadlines, &plain)
+}
+
 #[test]
-fn takes_what_is_due_in_order(rt: HostRuntime) -> Result<(), Fail> {
+fn agrees_with_a_plain_list(rt: HostRuntime) -> Result<(), Fail> {
     let mut deadlines = Deadlines::new(rt.alloc());
-    deadlines.reserve(1000)?;
-    assert!(rt; deadlines.room() == 1000);
+    let ended = agree(&mut deadlines);
+    drop(deadlines);
+    ended
+}
+
+/// Gives each of 1,000 places a moment, if there is room for it.
+fn set_each(deadlines: &mut Deadlines) {
     let mut seed = 7;
     for place in 0..1000 {
         if place < deadlines.room() {
@@ -119,18 +151,39 @@ fn takes_what_is_due_in_order(rt: HostRuntime) -> Result<(), Fail> {
         }
         seed = next(seed);
     }
+}
+
+/// Clears 1,000 places, each when it is due first.
+fn clear_each(deadlines: &mut Deadlines) -> Result<(), Fail> {
     let mut last = 0;
     for _ in 0..1000 {
-        match deadlines.earliest() {
-            Some((moment, place)) => {
-                assert!(rt; last <= moment);
-                last = moment;
-                deadlines.clear(place);
-            }
-            None => assert!(rt; false),
-        }
+        let Some((moment, place)) = deadlines.earliest() else {
+            return Err(Fail::from("each place has a moment"));
+        };
+        ensure(last <= moment, "what is due first comes first")?;
+        last = moment;
+        deadlines.clear(place);
     }
-    assert!(rt; deadlines.len() == 0);
-    assert!(rt; deadlines.earliest().is_none());
     Ok(())
+}
+
+/// Sets and clears 1,000 places.
+fn set_and_clear(deadlines: &mut Deadlines) -> Result<(), Fail> {
+    deadlines.reserve(1000)?;
+    let has_room = deadlines.room() == 1000;
+    set_each(deadlines);
+    clear_each(deadlines)?;
+    all_hold(&[
+        (has_room, "there is room for the places"),
+        (deadlines.len() == 0, "no place has a moment"),
+        (deadlines.earliest().is_none(), "nothing is due"),
+    ])
+}
+
+#[test]
+fn takes_what_is_due_in_order(rt: HostRuntime) -> Result<(), Fail> {
+    let mut deadlines = Deadlines::new(rt.alloc());
+    let ended = set_and_clear(&mut deadlines);
+    drop(deadlines);
+    ended
 }

@@ -1,7 +1,7 @@
 //! The registrations of endpoints.
 
-use crate::fixtures::{address, digits, endpoint, no_alias};
-use facts::{ensure, ensure_of};
+use crate::fixtures::{address, digits, endpoint, enter, no_alias};
+use facts::{all_hold, ensure, ensure_of};
 use ras_module::{AliasList, BmpString, EndpointId, ReplyAliases};
 use registrations::{AddFault, Registration, RegistrationList, Registrations};
 use std::alloc::Global;
@@ -65,10 +65,12 @@ fn add_three(table: &mut Registrations, alloc: Global) -> Result<(), Fail> {
     add(table, alloc, "first endpoint", 1, &[], endpoint(b'1'))?;
     add(table, alloc, "second endpoint", 2, &[], endpoint(b'2'))?;
     add(table, alloc, "third endpoint", 3, &[], endpoint(b'3'))?;
-    ensure(table.len() == 3, "three endpoints are registered")?;
     let second = table.by_address(address(2));
     let is_found = matches!(second, Some(r) if r.identifier == endpoint(b'2'));
-    ensure(is_found, "the second one is found by its address")
+    all_hold(&[
+        (table.len() == 3, "three endpoints are registered"),
+        (is_found, "the second one is found by its address"),
+    ])
 }
 
 /// Removes the second endpoint, once.
@@ -78,25 +80,30 @@ fn remove_second(table: &mut Registrations) -> Result<(), Fail> {
         Some(gone) => gone.call_signal == address(2),
         None => false,
     };
-    ensure(is_gone, "the second endpoint goes")?;
-    ensure(table.remove(&second).is_none(), "it goes once")
+    let is_gone_once = table.remove(&second).is_none();
+    all_hold(&[
+        (is_gone, "the second endpoint goes"),
+        (is_gone_once, "it goes once"),
+    ])
 }
 
 /// Looks which identifiers are unused: the second one again, unless it is taken.
 fn look_for_unused(table: &Registrations) -> Result<(), Fail> {
     let (first, second) = (endpoint(b'1'), endpoint(b'2'));
     let (fourth, fifth) = (endpoint(b'4'), endpoint(b'5'));
-    ensure(table.unused(&[]) == fourth, "4 is the next identifier")?;
-    ensure(
-        table.unused(&[fourth, second]) == fifth,
-        "5 is, if 4 and 2 are taken",
-    )?;
-    ensure(!table.is_unused(&first, &[]), "1 is used")?;
-    ensure(table.is_unused(&second, &[]), "2 is unused again")?;
-    ensure(
-        !table.is_unused(&second, &[second]),
-        "2 isn't unused if it is taken",
-    )
+    all_hold(&[
+        (table.unused(&[]) == fourth, "4 is the next identifier"),
+        (
+            table.unused(&[fourth, second]) == fifth,
+            "5 is, if 4 and 2 are taken",
+        ),
+        (!table.is_unused(&first, &[]), "1 is used"),
+        (table.is_unused(&second, &[]), "2 is unused again"),
+        (
+            !table.is_unused(&second, &[second]),
+            "2 isn't unused if it is taken",
+        ),
+    ])
 }
 
 /// Fills the table of four. The identifier of the one that went isn't handed out.
@@ -133,11 +140,7 @@ fn identifiers_count_from_one(rt: HostRuntime) -> Result<(), Fail> {
 fn insert(table: &mut Registrations, alloc: Global, text: &[u16], last: u8) -> Result<(), Fail> {
     let characters = BmpString::new(text).ok_or("an identifier")?;
     let row = registration(alloc, EndpointId::new(characters), last, 10).ok_or("a registration")?;
-    if table.get(&row.identifier).is_some() || table.by_address(row.call_signal).is_some() {
-        return Err(Fail::from("the endpoint is registered"));
-    }
-    table.insert(row)?;
-    Ok(())
+    enter(table, row)
 }
 
 /// Enters registrations `0010`, `0002`, `00100` and `A`.
@@ -165,8 +168,10 @@ fn meet_each(table: &Registrations) -> Result<(), Fail> {
             None => return Err(Fail::from("each of four places has a registration")),
         }
     }
-    ensure(seen == 30, "each registration is met once")?;
-    ensure(table.nth(4).is_none(), "there is no fifth one")
+    all_hold(&[
+        (seen == 30, "each registration is met once"),
+        (table.nth(4).is_none(), "there is no fifth one"),
+    ])
 }
 
 /// Enters registrations, lists them, and meets each.
@@ -210,20 +215,33 @@ fn register_two(table: &mut Registrations, alloc: Global) -> Result<(), Fail> {
 
 /// Renews the one that is over first, after which the other one is.
 fn renew(table: &mut Registrations, one: &EndpointId, other: &EndpointId) -> Result<(), Fail> {
-    ensure(
-        table.over(FIRST_END - 1).is_none(),
-        "nobody is over a moment before",
-    )?;
+    let is_nobody = table.over(FIRST_END - 1).is_none();
     let is_over = matches!(table.over(FIRST_END), Some(r) if r.identifier == *one);
-    ensure(is_over, "the one with the earlier end is over first")?;
     if table.get(one).is_some() {
         table.renew(one, RENEWED_END);
     }
     let is_next = matches!(table.over(RENEWED_END - 1), Some(r) if r.identifier == *other);
-    ensure(is_next, "the other one is over once the first is renewed")
+    all_hold(&[
+        (is_nobody, "nobody is over a moment before"),
+        (is_over, "the one with the earlier end is over first"),
+        (is_next, "the other one is over once the first is renewed"),
+    ])
 }
 
-/// Hears and asks an endpoint, which is calm then.
+/// Compares an endpoint that was heard, and then asked once.
+fn compare_asked(table: &Registrations, one: &EndpointId) -> Result<(), Fail> {
+    match table.get(one) {
+        Some(r) => all_hold(&[
+            (r.deadline == RENEWED_END, "its time to live stays"),
+            (r.heard == HEARD, "it was heard"),
+            (r.tries == 1, "it was asked once"),
+            (r.asked == ASKED, "it was asked at its moment"),
+        ]),
+        None => Err(Fail::from("the endpoint is registered")),
+    }
+}
+
+/// Hears and asks an endpoint.
 fn hear_and_ask(table: &mut Registrations, one: &EndpointId) -> Result<(), Fail> {
     if table.get(one).is_some() {
         table.hear(one, HEARD);
@@ -232,24 +250,20 @@ fn hear_and_ask(table: &mut Registrations, one: &EndpointId) -> Result<(), Fail>
         Some(r) if r.tries < 16 => table.asked(one, ASKED),
         _ => return Err(Fail::from("the endpoint may be asked")),
     }
-    match table.get(one) {
-        Some(r) => {
-            ensure(r.deadline == RENEWED_END, "its time to live stays")?;
-            ensure(r.heard == HEARD, "it was heard")?;
-            ensure(r.tries == 1, "it was asked once")?;
-            ensure(r.asked == ASKED, "it was asked at its moment")?;
-        }
-        None => return Err(Fail::from("the endpoint is registered")),
-    }
+    compare_asked(table, one)
+}
+
+/// Calms an endpoint that was asked.
+fn calm(table: &mut Registrations, one: &EndpointId) -> Result<(), Fail> {
     if table.get(one).is_some() {
         table.calm(one);
     }
     match table.get(one) {
-        Some(r) => {
-            ensure(r.tries == 0, "it is calm")?;
-            ensure(r.heard == HEARD, "it was heard as before")?;
-            ensure(r.asked == ASKED, "it was asked as before")
-        }
+        Some(r) => all_hold(&[
+            (r.tries == 0, "it is calm"),
+            (r.heard == HEARD, "it was heard as before"),
+            (r.asked == ASKED, "it was asked as before"),
+        ]),
         None => Err(Fail::from("the endpoint is registered")),
     }
 }
@@ -275,21 +289,41 @@ fn one_alias(alloc: Global) -> Option<ReplyAliases> {
     ReplyAliases::new(list).ok()?
 }
 
+/// Compares an endpoint that was rewritten.
+fn compare_rewritten(table: &Registrations, one: &EndpointId) -> Result<(), Fail> {
+    match table.get(one) {
+        Some(r) => all_hold(&[
+            (r.call_signal == address(1), "its call signal address stays"),
+            (r.ras == address(9), "its RAS address is another"),
+            (r.deadline == 400, "its end is another"),
+            (r.aliases.as_slice().len() == 1, "it has an alias"),
+        ]),
+        None => Err(Fail::from("the endpoint is registered")),
+    }
+}
+
 /// Gives an endpoint another RAS address, an alias and another end, and no other address.
 fn rewrite(table: &mut Registrations, alloc: Global, one: &EndpointId) -> Result<(), Fail> {
-    let aliases = one_alias(alloc).ok_or("an alias")?;
     if table.get(one).is_none() {
         return Err(Fail::from("the endpoint is registered"));
     }
+    let aliases = one_alias(alloc).ok_or("an alias")?;
     table.rewrite(one, address(9), aliases, 400);
-    match table.get(one) {
-        Some(r) => {
-            ensure(r.call_signal == address(1), "its call signal address stays")?;
-            ensure(r.ras == address(9), "its RAS address is another")?;
-            ensure(r.deadline == 400, "its end is another")?;
-            ensure(r.aliases.as_slice().len() == 1, "it has an alias")
-        }
-        None => Err(Fail::from("the endpoint is registered")),
+    compare_rewritten(table, one)
+}
+
+/// Compares the other registration, and the next identifier.
+fn compare_other(table: &Registrations, other: &EndpointId) -> Result<(), Fail> {
+    match table.get(other) {
+        Some(r) => all_hold(&[
+            (r.ras == address(2), "the other one has its RAS address"),
+            (r.deadline == SECOND_END, "the other one has its end"),
+            (
+                table.unused(&[]) == endpoint(b'3'),
+                "3 is the next identifier",
+            ),
+        ]),
+        None => Err(Fail::from("the other one is registered")),
     }
 }
 
@@ -299,19 +333,10 @@ fn change_one(table: &mut Registrations, alloc: Global) -> Result<(), Fail> {
     register_two(table, alloc)?;
     renew(table, &one, &other)?;
     hear_and_ask(table, &one)?;
+    calm(table, &one)?;
     rewrite(table, alloc, &one)?;
     compare_copy(table, &one)?;
-    match table.get(&other) {
-        Some(r) => {
-            ensure(r.ras == address(2), "the other one has its RAS address")?;
-            ensure(r.deadline == SECOND_END, "the other one has its end")?;
-        }
-        None => return Err(Fail::from("the other one is registered")),
-    }
-    ensure(
-        table.unused(&[]) == endpoint(b'3'),
-        "3 is the next identifier",
-    )
+    compare_other(table, &other)
 }
 
 #[test]

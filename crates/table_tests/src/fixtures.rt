@@ -6,6 +6,7 @@ use ras_module::{
     RequestSeqNum,
 };
 use ras_writing::write_into;
+use registrations::{Registration, Registrations};
 use std::alloc::{AllocError, Global};
 use std::test::Fail;
 
@@ -32,6 +33,15 @@ pub fn no_alias(alloc: Global) -> Option<ReplyAliases> {
 
 pub fn seq(number: u16) -> RequestSeqNum {
     RequestSeqNum::new(number).unwrap_or(RequestSeqNum::new(1).unwrap())
+}
+
+/// Enters a registration, if neither it nor its address is registered.
+pub fn enter(table: &mut Registrations, new: Registration) -> Result<(), Fail> {
+    if table.get(&new.identifier).is_some() || table.by_address(new.call_signal).is_some() {
+        return Err(Fail::from("the endpoint is registered"));
+    }
+    table.insert(new)?;
+    Ok(())
 }
 
 /// These octets, as a key has them.

@@ -2,13 +2,22 @@
 
 use crate::fixtures::{address, digits, endpoint};
 use aliases::{AliasTable, SetFault};
-use facts::ensure;
+use facts::{all_hold, ensure};
 use ras_module::{Alias, BmpString};
 use std::alloc::{AllocError, Global};
 use std::test::Fail;
 
 fn named(text: &[u16]) -> Option<Alias> {
     Some(Alias::H323Id(BmpString::new(text)?))
+}
+
+/// The aliases `1`, `2`, `3` and `4`.
+fn four_digits() -> Result<[Alias; 4], Fail> {
+    let one = digits(&[49]).ok_or("digits")?;
+    let two = digits(&[50]).ok_or("digits")?;
+    let three = digits(&[51]).ok_or("digits")?;
+    let four = digits(&[52]).ok_or("digits")?;
+    Ok([one, two, three, four])
 }
 
 /// Enters an alias of this endpoint at this address.
@@ -22,8 +31,10 @@ fn set_in_vain(table: &mut AliasTable, alias: &Alias, holder: u8, last: u8) -> R
     match table.set(*alias, endpoint(holder), address(last)) {
         Ok(()) => Err(Fail::from("a duplicate is entered")),
         Err((back, fault)) => {
-            ensure(back == *alias, "the alias comes back")?;
-            ensure(fault == SetFault::Duplicate, "it is refused as a duplicate")
+            all_hold(&[
+                (back == *alias, "the alias comes back"),
+                (fault == SetFault::Duplicate, "it is refused as a duplicate"),
+            ])
         }
     }
 }
@@ -49,16 +60,21 @@ fn find_conflicts(
     ensure(are_found, "these aliases are in conflict, in this order")
 }
 
-/// Enters a number once, and again by its own holder from another address. The same characters as a
-/// name are another alias. The number is in conflict at another address than its holder's alone.
-fn hold_once(table: &mut AliasTable, number: &Alias, name: &Alias) -> Result<(), Fail> {
-    ensure(
-        table.holder(number).is_none(),
-        "nobody holds the number at first",
-    )?;
+/// Enters a number. The same characters as a name are another alias.
+fn enter(table: &mut AliasTable, number: &Alias, name: &Alias) -> Result<(), Fail> {
+    let is_free = table.holder(number).is_none();
     set(table, number, b'1', 5)?;
     find_holder(table, number, b'1')?;
-    ensure(table.holder(name).is_none(), "nobody holds the name")?;
+    all_hold(&[
+        (is_free, "nobody holds the number at first"),
+        (table.holder(name).is_none(), "nobody holds the name"),
+    ])
+}
+
+/// Enters a number once, and again by its own holder from another address. The number is in
+/// conflict at another address than its holder's alone.
+fn hold_once(table: &mut AliasTable, number: &Alias, name: &Alias) -> Result<(), Fail> {
+    enter(table, number, name)?;
     set_in_vain(table, number, b'2', 6)?;
     find_holder(table, number, b'1')?;
     set(table, number, b'1', 7)?;
@@ -95,9 +111,7 @@ fn conflict_in_order(
 
 #[test]
 fn conflicts_stand_as_in_the_list(rt: HostRuntime) -> Result<(), Fail> {
-    let one = digits(&[49]).ok_or("digits")?;
-    let two = digits(&[50]).ok_or("digits")?;
-    let three = digits(&[51]).ok_or("digits")?;
+    let [one, two, three, _four] = four_digits()?;
     let anna = named(&[97, 110, 110, 97]).ok_or("a name")?;
     let mut table = AliasTable::new(rt.alloc());
     let ended = conflict_in_order(&mut table, &one, &anna, &two, &three);
@@ -113,8 +127,9 @@ fn table_of_two(alloc: Global, one: &Alias, two: &Alias) -> Result<AliasTable, A
     Ok(table)
 }
 
-/// Drops a holder with its aliases, and with no other. They are free then.
-fn drop_with_its_aliases(
+/// Finds the holder of two aliases, and enters two more: one of another endpoint, and one of its
+/// own.
+fn enter_two_more(
     table: &mut AliasTable,
     own: &[Alias; 2],
     others: &[Alias; 2],
@@ -122,24 +137,32 @@ fn drop_with_its_aliases(
     find_holder(table, &own[0], b'1')?;
     find_holder(table, &own[1], b'1')?;
     set(table, &others[0], b'2', 2)?;
-    set(table, &others[1], b'1', 1)?;
+    set(table, &others[1], b'1', 1)
+}
+
+/// Drops a holder with its aliases, and with no other. They are free then.
+fn drop_with_its_aliases(
+    table: &mut AliasTable,
+    own: &[Alias; 2],
+    others: &[Alias; 2],
+) -> Result<(), Fail> {
+    enter_two_more(table, own, others)?;
     table.drop_holder(&endpoint(b'1'));
     find_holder(table, &others[0], b'2')?;
-    ensure(
-        table.holder(&others[1]).is_none(),
-        "its later alias is gone",
-    )?;
-    ensure(table.holder(&own[0]).is_none(), "its first alias is gone")?;
-    ensure(table.holder(&own[1]).is_none(), "its second alias is gone")?;
+    all_hold(&[
+        (
+            table.holder(&others[1]).is_none(),
+            "its later alias is gone",
+        ),
+        (table.holder(&own[0]).is_none(), "its first alias is gone"),
+        (table.holder(&own[1]).is_none(), "its second alias is gone"),
+    ])?;
     set(table, &own[0], b'3', 3)
 }
 
 #[test]
 fn a_holder_goes_with_all_its_aliases(rt: HostRuntime) -> Result<(), Fail> {
-    let one = digits(&[49]).ok_or("digits")?;
-    let two = digits(&[50]).ok_or("digits")?;
-    let three = digits(&[51]).ok_or("digits")?;
-    let four = digits(&[52]).ok_or("digits")?;
+    let [one, two, three, four] = four_digits()?;
     let mut table = table_of_two(rt.alloc(), &one, &two)?;
     let ended = drop_with_its_aliases(&mut table, &[one, two], &[three, four]);
     drop(table);
@@ -156,20 +179,15 @@ fn give_up_its_own(
 ) -> Result<(), Fail> {
     set(table, other, b'2', 2)?;
     table.drop_all(&[own[0], *other, *free], &endpoint(b'1'));
-    ensure(
-        table.holder(&own[0]).is_none(),
-        "its alias of the list is gone",
-    )?;
+    let is_gone = table.holder(&own[0]).is_none();
+    ensure(is_gone, "its alias of the list is gone")?;
     find_holder(table, &own[1], b'1')?;
     find_holder(table, other, b'2')
 }
 
 #[test]
 fn an_endpoint_gives_up_aliases_of_its_own(rt: HostRuntime) -> Result<(), Fail> {
-    let one = digits(&[49]).ok_or("digits")?;
-    let two = digits(&[50]).ok_or("digits")?;
-    let three = digits(&[51]).ok_or("digits")?;
-    let four = digits(&[52]).ok_or("digits")?;
+    let [one, two, three, four] = four_digits()?;
     let mut table = table_of_two(rt.alloc(), &one, &two)?;
     let ended = give_up_its_own(&mut table, &[one, two], &three, &four);
     drop(table);

@@ -1,7 +1,7 @@
 //! Replies that are kept, and requests that wait.
 
 use crate::fixtures::{endpoint, is_confirmed, kept_reply, no_alias, request_octets, seq};
-use facts::{ensure, ensure_of};
+use facts::{all_hold, ensure, ensure_of};
 use kept_replies::{
     InProgress, Kept, KeptEntry, KeptKey, KeptList, KeptReply, KeptState, ReserveFault,
 };
@@ -141,6 +141,12 @@ fn keep_confirm(
     keep(kept, datagram, born, reply, until)
 }
 
+/// The confirm of a registration, as it is kept.
+fn kept_registered(alloc: Global, last: u8) -> Result<KeptReply, Fail> {
+    let reply = registered(alloc, few(alloc)?, last)?;
+    Ok(kept_reply(alloc, &reply)?)
+}
+
 fn keep_registered(
     alloc: Global,
     kept: &mut Kept,
@@ -148,31 +154,22 @@ fn keep_registered(
     last: u8,
     until: u64,
 ) -> Result<(), Fail> {
+    let reply = kept_registered(alloc, last)?;
     let datagram = key(alloc, octet)?;
-    let reply = registered(alloc, few(alloc)?, last)?;
-    keep(
-        kept,
-        datagram,
-        u64::from(octet),
-        kept_reply(alloc, &reply)?,
-        until,
-    )
-}
-
-fn is_kept(alloc: Global, kept: &Kept, octet: u8) -> Result<bool, Fail> {
-    let datagram = key(alloc, octet)?;
-    Ok(kept.find(&datagram).is_some())
+    keep(kept, datagram, u64::from(octet), reply, until)
 }
 
 /// Finds this confirm as the reply that is kept, which equals its copy.
 fn find_confirm(kept: &Kept, born: u64, number: u16) -> Result<(), Fail> {
     let (_datagram, entry) = kept.by_born(born).ok_or("it is kept")?;
     let is_same = entry.copy()? == *entry;
-    ensure(
-        is_confirmed(entry, number),
-        "the confirm with this number is kept",
-    )?;
-    ensure(is_same, "it equals its copy")
+    all_hold(&[
+        (
+            is_confirmed(entry, number),
+            "the confirm with this number is kept",
+        ),
+        (is_same, "it equals its copy"),
+    ])
 }
 
 fn left_of(kept: &Kept, born: u64) -> u64 {
@@ -195,17 +192,19 @@ const OVER: u64 = 10_000;
 
 /// Finds the one place taken until that moment.
 fn find_place_taken(kept: &Kept) -> Result<(), Fail> {
-    ensure(kept.is_full(), "the one place is taken")?;
-    ensure(kept.is_busy(OVER - 1), "nothing is over a moment before")?;
-    ensure(!kept.is_busy(OVER), "the reply is over at its moment")?;
-    ensure(
-        kept.over(OVER - 1).is_none(),
-        "no entry is over a moment before",
-    )?;
-    ensure(
-        kept.over(OVER) == Some(0),
-        "the entry that is over is that of the reply",
-    )
+    all_hold(&[
+        (kept.is_full(), "the one place is taken"),
+        (kept.is_busy(OVER - 1), "nothing is over a moment before"),
+        (!kept.is_busy(OVER), "the reply is over at its moment"),
+        (
+            kept.over(OVER - 1).is_none(),
+            "no entry is over a moment before",
+        ),
+        (
+            kept.over(OVER) == Some(0),
+            "the entry that is over is that of the reply",
+        ),
+    ])
 }
 
 // One reply may be kept, for 10,000 milliseconds.
@@ -213,20 +212,16 @@ fn find_place_taken(kept: &Kept) -> Result<(), Fail> {
 fn offer_twice(alloc: Global, kept: &mut Kept) -> Result<(), Fail> {
     keep_confirm(alloc, kept, 1, 0, OVER)?;
     find_place_taken(kept)?;
-    ensure(
-        kept.reserve(1) == Err(ReserveFault::Busy),
-        "there is no room",
-    )?;
-    ensure(
-        kept.drop_one_expired(OVER - 1).is_none(),
-        "nothing is dropped a moment before",
-    )?;
+    let reserved = kept.reserve(1);
+    let early = kept.drop_one_expired(OVER - 1);
     kept.reserve(OVER)?;
-    ensure(
-        kept.drop_one_expired(OVER) == Some(0),
-        "the reply that is over is dropped",
-    )?;
-    ensure(kept.len() == 0, "nothing is kept")
+    let dropped = kept.drop_one_expired(OVER);
+    all_hold(&[
+        (reserved == Err(ReserveFault::Busy), "there is no room"),
+        (early.is_none(), "nothing is dropped a moment before"),
+        (dropped == Some(0), "the reply that is over is dropped"),
+        (kept.len() == 0, "nothing is kept"),
+    ])
 }
 
 #[test]
@@ -237,27 +232,34 @@ fn a_place_becomes_free_when_its_time_is_over(rt: HostRuntime) -> Result<(), Fai
     ended
 }
 
-/// Keeps a reply, which is found until it is dropped, and not if another is.
-fn find_until_dropped(alloc: Global, kept: &mut Kept) -> Result<(), Fail> {
-    keep_confirm(alloc, kept, 2, 3, 20_000)?;
-    ensure(
-        is_kept(alloc, kept, 2)?,
-        "the reply is found by its datagram",
-    )?;
+/// Finds the reply to this datagram until it is dropped, and not if another is.
+fn find_until_dropped(kept: &mut Kept, datagram: &KeptKey) -> Result<(), Fail> {
     find_confirm(kept, 3, 2)?;
+    let is_found = kept.find(datagram).is_some();
     kept.drop_born(4);
-    ensure(
-        is_kept(alloc, kept, 2)?,
-        "it stays if another birth is dropped",
-    )?;
+    let has_stayed = kept.find(datagram).is_some();
     kept.drop_born(3);
-    ensure(!is_kept(alloc, kept, 2)?, "it goes with its birth")
+    let is_gone = kept.find(datagram).is_none();
+    all_hold(&[
+        (is_found, "the reply is found by its datagram"),
+        (has_stayed, "it stays if another birth is dropped"),
+        (is_gone, "it goes with its birth"),
+    ])
+}
+
+/// Keeps a reply, which is found until it is dropped.
+fn keep_and_drop(alloc: Global, kept: &mut Kept) -> Result<(), Fail> {
+    keep_confirm(alloc, kept, 2, 3, 20_000)?;
+    let datagram = key(alloc, 2)?;
+    let ended = find_until_dropped(kept, &datagram);
+    drop(datagram);
+    ended
 }
 
 #[test]
 fn a_reply_is_found_until_it_is_dropped(rt: HostRuntime) -> Result<(), Fail> {
     let mut kept = Kept::new(rt.alloc(), 1);
-    let ended = find_until_dropped(rt.alloc(), &mut kept);
+    let ended = keep_and_drop(rt.alloc(), &mut kept);
     drop(kept);
     ended
 }
@@ -273,11 +275,13 @@ fn faults_have_their_numbers(rt: HostRuntime) {
 fn take_the_place(alloc: Global, kept: &mut Kept) -> Result<(), Fail> {
     keep_confirm(alloc, kept, 2, 3, 10)?;
     keep_confirm(alloc, kept, 2, 4, 20)?;
-    ensure(kept.len() == 1, "one reply is kept")?;
-    ensure(
-        kept.by_born(3).is_none(),
-        "the birth of the first one is free",
-    )?;
+    all_hold(&[
+        (kept.len() == 1, "one reply is kept"),
+        (
+            kept.by_born(3).is_none(),
+            "the birth of the first one is free",
+        ),
+    ])?;
     find_confirm(kept, 4, 2)
 }
 
@@ -321,8 +325,10 @@ fn wait_twice(alloc: Global, kept: &mut Kept, waiting: &KeptKey) -> Result<(), F
 /// Answers it then: its entry keeps its birth.
 fn answer_at_last(alloc: Global, kept: &mut Kept, waiting: &KeptKey) -> Result<(), Fail> {
     answer(alloc, kept, waiting, 13_000)?;
-    ensure(kept.retry(u64::MAX).is_none(), "it waits no more")?;
-    ensure(kept.over(13_000) == Some(3), "its entry keeps its birth")?;
+    all_hold(&[
+        (kept.retry(u64::MAX).is_none(), "it waits no more"),
+        (kept.over(13_000) == Some(3), "its entry keeps its birth"),
+    ])?;
     find_confirm(kept, 3, 7)
 }
 
@@ -348,8 +354,10 @@ fn keep_a_birth(alloc: Global, kept: &mut Kept) -> Result<(), Fail> {
     let is_own = !kept.is_free(&other, 3);
     let is_next_free = kept.is_free(&other, 4);
     drop(other);
-    ensure(is_own, "the birth isn't free for another datagram")?;
-    ensure(is_next_free, "the next birth is free for it")
+    all_hold(&[
+        (is_own, "the birth isn't free for another datagram"),
+        (is_next_free, "the next birth is free for it"),
+    ])
 }
 
 #[test]
@@ -365,16 +373,18 @@ fn tell_identifiers(alloc: Global, kept: &mut Kept) -> Result<(), Fail> {
     keep_registered(alloc, kept, 1, b'1', 0)?;
     keep_confirm(alloc, kept, 2, 2, 10_000)?;
     keep_registered(alloc, kept, 3, b'2', 10_000)?;
-    ensure(
-        kept.is_named(&endpoint(b'1')),
-        "0001 is told by a reply that is over",
-    )?;
-    ensure(kept.is_named(&endpoint(b'2')), "0002 is told")?;
-    ensure(!kept.is_named(&endpoint(b'3')), "0003 isn't told")?;
     let ids = kept.identifiers()?;
     let are_listed = ids.as_slice() == [endpoint(b'1'), endpoint(b'2')].as_slice();
     drop(ids);
-    ensure(are_listed, "0001 and 0002 are listed")
+    all_hold(&[
+        (
+            kept.is_named(&endpoint(b'1')),
+            "0001 is told by a reply that is over",
+        ),
+        (kept.is_named(&endpoint(b'2')), "0002 is told"),
+        (!kept.is_named(&endpoint(b'3')), "0003 isn't told"),
+        (are_listed, "0001 and 0002 are listed"),
+    ])
 }
 
 #[test]
@@ -388,11 +398,13 @@ fn identifiers_that_confirms_tell(rt: HostRuntime) -> Result<(), Fail> {
 /// Compares a list with the entries of these births, in this order, of which each is found.
 fn compare_births(kept: &Kept, rows: &[(KeptKey, KeptEntry)], births: &[u64]) -> Result<(), Fail> {
     for (row, born) in rows.iter().zip(births) {
-        ensure(row.1.born == *born, "the births rise")?;
-        ensure(
-            kept.find(&row.0).is_some(),
-            "each entry is found by its datagram",
-        )?;
+        all_hold(&[
+            (row.1.born == *born, "the births rise"),
+            (
+                kept.find(&row.0).is_some(),
+                "each entry is found by its datagram",
+            ),
+        ])?;
     }
     ensure(rows.len() == births.len(), "each entry comes once")
 }
@@ -423,11 +435,13 @@ const MANY: u8 = 12;
 /// call is done with memory.
 fn keep_at_last(alloc: Global, kept: &mut Kept, octet: u8) -> Result<(), Fail> {
     if let Err(fault) = kept.reserve(0) {
-        ensure(fault == ReserveFault::Memory, "memory alone is wanting")?;
-        ensure(
-            kept.len() == usize::from(octet),
-            "room that is refused changes nothing",
-        )?;
+        all_hold(&[
+            (fault == ReserveFault::Memory, "memory alone is wanting"),
+            (
+                kept.len() == usize::from(octet),
+                "room that is refused changes nothing",
+            ),
+        ])?;
         kept.reserve(0)?;
     }
     insist(alloc, kept, octet)
@@ -439,12 +453,13 @@ fn fill_at_last(alloc: Global, kept: &mut Kept) -> Result<(), Fail> {
         keep_at_last(alloc, kept, octet)?;
     }
     let many = usize::from(MANY);
-    ensure(kept.len() == many, "each reply is kept")?;
-    ensure(
-        count_of_identifiers(kept)? == many,
-        "each identifier is told",
-    )?;
-    ensure(count_of_list(kept)? == many, "each reply is listed")
+    let identifiers = count_of_identifiers(kept)?;
+    let listed = count_of_list(kept)?;
+    all_hold(&[
+        (kept.len() == many, "each reply is kept"),
+        (identifiers == many, "each identifier is told"),
+        (listed == many, "each reply is listed"),
+    ])
 }
 
 #[test]
@@ -455,23 +470,28 @@ fn a_refusal_of_memory_changes_nothing(rt: HostRuntime) -> Result<(), Fail> {
     ended
 }
 
-fn insist(alloc: Global, kept: &mut Kept, octet: u8) -> Result<(), Fail> {
+/// The datagram of one octet, made once more if memory for it was refused.
+fn key_at_last(alloc: Global, octet: u8) -> Result<KeptKey, Fail> {
     let octets = match single(alloc, octet) {
         Ok(octets) => octets,
         Err(_) => single(alloc, octet)?,
     };
-    let datagram = key_of(octets)?;
-    let reply = match registered(alloc, few(alloc)?, octet) {
+    key_of(octets)
+}
+
+/// The confirm of a registration, made once more if memory for it was refused.
+fn registered_at_last(alloc: Global, last: u8) -> Result<KeptReply, Fail> {
+    let reply = match registered(alloc, few(alloc)?, last) {
         Ok(reply) => reply,
-        Err(_) => registered(alloc, few(alloc)?, octet)?,
+        Err(_) => registered(alloc, few(alloc)?, last)?,
     };
-    keep(
-        kept,
-        datagram,
-        u64::from(octet),
-        kept_reply(alloc, &reply)?,
-        10,
-    )
+    Ok(kept_reply(alloc, &reply)?)
+}
+
+fn insist(alloc: Global, kept: &mut Kept, octet: u8) -> Result<(), Fail> {
+    let reply = registered_at_last(alloc, octet)?;
+    let datagram = key_at_last(alloc, octet)?;
+    keep(kept, datagram, u64::from(octet), reply, 10)
 }
 
 fn count_of_identifiers(kept: &Kept) -> Result<usize, Fail> {
@@ -490,19 +510,21 @@ fn count_of_list(kept: &Kept) -> Result<usize, Fail> {
     Ok(list.as_slice().len())
 }
 
-/// What a table hashes this datagram to.
-fn hash_of(key: &KeptKey) -> u64 {
-    BuildHasherDefault::<FoldHasher>::new().hash_one(key)
+/// What a table hashes the datagram of one octet to.
+fn hash_of(alloc: Global, octet: u8) -> Result<u64, Fail> {
+    let datagram = key(alloc, octet)?;
+    Ok(BuildHasherDefault::<FoldHasher>::new().hash_one(&datagram))
 }
 
 #[test]
 fn datagrams_of_one_source_are_hashed_apart(rt: HostRuntime) -> Result<(), Fail> {
-    let first = hash_of(&key(rt.alloc(), 1)?);
-    let second = hash_of(&key(rt.alloc(), 2)?);
-    let first_again = hash_of(&key(rt.alloc(), 1)?);
-    assert!(rt; first != second, "two datagrams are hashed apart");
-    assert!(rt; first == first_again, "one datagram is hashed alike");
-    Ok(())
+    let first = hash_of(rt.alloc(), 1)?;
+    let second = hash_of(rt.alloc(), 2)?;
+    let first_again = hash_of(rt.alloc(), 1)?;
+    all_hold(&[
+        (first != second, "two datagrams are hashed apart"),
+        (first == first_again, "one datagram is hashed alike"),
+    ])
 }
 
 /// Enters a reply to the datagram of one octet without a search, if nothing is kept for it.
@@ -523,14 +545,17 @@ fn add(alloc: Global, kept: &mut Kept, octet: u8, until: u64) -> Result<(), Fail
 fn add_two(alloc: Global, kept: &mut Kept) -> Result<(), Fail> {
     add(alloc, kept, 1, 10)?;
     add(alloc, kept, 2, 20)?;
-    ensure(kept.make_room() == Ok(()), "there is room for a third one")?;
+    let has_room = kept.make_room() == Ok(());
     find_confirm(kept, 1, 1)?;
     find_confirm(kept, 2, 2)?;
-    ensure(kept.is_busy(9), "no place is free before one is over")?;
-    ensure(
-        kept.over(10) == Some(1),
-        "the first one is over at its moment",
-    )
+    all_hold(&[
+        (has_room, "there is room for a third one"),
+        (kept.is_busy(9), "no place is free before one is over"),
+        (
+            kept.over(10) == Some(1),
+            "the first one is over at its moment",
+        ),
+    ])
 }
 
 #[test]

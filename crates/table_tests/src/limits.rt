@@ -2,7 +2,7 @@
 
 use crate::fixtures::{endpoint, kept_reply, no_alias, request_octets, seq};
 use admission::{CallFault, Calls, Leg};
-use facts::ensure;
+use facts::{all_hold, ensure};
 use kept_replies::{Kept, KeptKey, ReserveFault};
 use ras_module::{Address, CallKey, EndpointId, Reply};
 use registrations::{AddFault, Registration, Registrations};
@@ -60,14 +60,16 @@ fn register_all(table: &mut Registrations, alloc: Global) -> Result<(), Fail> {
         ensure(is_added, "each endpoint is registered")?;
     }
     let one_more = register(table, alloc, MOST);
-    ensure(
-        matches!(one_more, Some(Err(AddFault::Full))),
-        "there is no place for one more",
-    )?;
-    ensure(
-        table.len() == MOST as usize,
-        "as many endpoints are registered as there may be",
-    )
+    all_hold(&[
+        (
+            matches!(one_more, Some(Err(AddFault::Full))),
+            "there is no place for one more",
+        ),
+        (
+            table.len() == MOST as usize,
+            "as many endpoints are registered as there may be",
+        ),
+    ])
 }
 
 #[test]
@@ -102,16 +104,18 @@ fn open_all(calls: &mut Calls) -> Result<(), Fail> {
         ensure(open(calls, number) == Some(Ok(())), "each call is opened")?;
     }
     let one_more = open(calls, MOST);
-    ensure(
-        one_more == Some(Err(CallFault::Full)),
-        "there is no place for one more",
-    )?;
-    ensure(
-        calls.len() == MOST as usize,
-        "as many calls are open as there may be",
-    )?;
     let units = u64::from(MOST) * u64::from(UNITS);
-    ensure(calls.total() == units, "the units of each call are in use")
+    all_hold(&[
+        (
+            one_more == Some(Err(CallFault::Full)),
+            "there is no place for one more",
+        ),
+        (
+            calls.len() == MOST as usize,
+            "as many calls are open as there may be",
+        ),
+        (calls.total() == units, "the units of each call are in use"),
+    ])
 }
 
 #[test]
@@ -153,30 +157,35 @@ fn keep_all(alloc: Global, kept: &mut Kept, most: u32) -> Result<(), Fail> {
 
 /// Keeps one more reply once the first one is over, which is dropped for it.
 fn keep_one_more(alloc: Global, kept: &mut Kept) -> Result<(), Fail> {
-    ensure(kept.is_busy(OVER - 1), "nothing is over a moment before")?;
+    let is_busy = kept.is_busy(OVER - 1);
     let reserved = kept.reserve(OVER - 1);
-    ensure(
-        reserved == Err(ReserveFault::Busy),
-        "there is no room a moment before",
-    )?;
-    ensure(
-        kept.drop_one_expired(OVER) == Some(0),
-        "the first reply is dropped",
-    )?;
-    ensure(!kept.is_full(), "a place is free")?;
+    let dropped = kept.drop_one_expired(OVER);
+    all_hold(&[
+        (is_busy, "nothing is over a moment before"),
+        (
+            reserved == Err(ReserveFault::Busy),
+            "there is no room a moment before",
+        ),
+        (dropped == Some(0), "the first reply is dropped"),
+        (!kept.is_full(), "a place is free"),
+    ])?;
     keep(alloc, kept, MOST_KEPT, 2 * OVER)?;
-    ensure(kept.is_full(), "the place is taken")?;
-    ensure(kept.is_busy(OVER), "no other reply is over")
+    all_hold(&[
+        (kept.is_full(), "the place is taken"),
+        (kept.is_busy(OVER), "no other reply is over"),
+    ])
 }
 
 /// Fills the table, in which one reply takes the place of another then.
 fn fill(alloc: Global, kept: &mut Kept) -> Result<(), Fail> {
     keep_all(alloc, kept, MOST_KEPT)?;
-    ensure(kept.is_full(), "the table is full")?;
-    ensure(
-        kept.len() == MOST_KEPT as usize,
-        "as many replies are kept as there may be",
-    )?;
+    all_hold(&[
+        (kept.is_full(), "the table is full"),
+        (
+            kept.len() == MOST_KEPT as usize,
+            "as many replies are kept as there may be",
+        ),
+    ])?;
     keep_one_more(alloc, kept)
 }
 

@@ -19,8 +19,29 @@ fn mark(alloc: Global) -> Result<Vec<u8>, AllocError> {
     Vec::with_capacity(alloc, 77_777)
 }
 
+/// Lets go both marks, and returns what failed between them, if they were made.
+fn end(
+    first: Result<Vec<u8>, AllocError>,
+    second: Result<Vec<u8>, AllocError>,
+    ended: Result<(), Fail>,
+) -> Result<(), Fail> {
+    let are_alike = match (first, second) {
+        (Ok(first), Ok(second)) => first.capacity() == second.capacity(),
+        _ => false,
+    };
+    ended?;
+    ensure(are_alike, "there are two marks")
+}
+
 /// How many places have moments.
 const PLACES: u64 = 64;
+
+/// Moments with room for all places.
+fn moments(alloc: Global) -> Result<Deadlines, AllocError> {
+    let mut deadlines = Deadlines::new(alloc);
+    deadlines.reserve(PLACES as usize)?;
+    Ok(deadlines)
+}
 
 /// Changes, clears and moves the moments of all places.
 fn change_moments(deadlines: &mut Deadlines) -> Result<(), Fail> {
@@ -39,15 +60,12 @@ fn change_moments(deadlines: &mut Deadlines) -> Result<(), Fail> {
 
 #[test]
 fn changes_of_moments_ask_for_no_memory(rt: HostRuntime) -> Result<(), Fail> {
-    let mut deadlines = Deadlines::new(rt.alloc());
-    deadlines.reserve(PLACES as usize)?;
+    let mut deadlines = moments(rt.alloc())?;
     let first = mark(rt.alloc());
     let ended = change_moments(&mut deadlines);
     let second = mark(rt.alloc());
     drop(deadlines);
-    ended?;
-    assert!(rt; first?.capacity() == second?.capacity());
-    Ok(())
+    end(first, second, ended)
 }
 
 /// Registers the endpoint with this last digit; None if it can't be.
@@ -134,9 +152,7 @@ fn changes_of_an_endpoint_ask_for_no_memory(rt: HostRuntime) -> Result<(), Fail>
     let ended = change_two(&mut table, first_id, second_id);
     let second = mark(rt.alloc());
     drop(table);
-    ended?;
-    assert!(rt; first?.capacity() == second?.capacity());
-    Ok(())
+    end(first, second, ended)
 }
 
 /// Lets a second endpoint join a call, which gets other units, and leave it.
@@ -184,9 +200,7 @@ fn changes_of_a_call_ask_for_no_memory(rt: HostRuntime) -> Result<(), Fail> {
     };
     let second = mark(rt.alloc());
     drop(calls);
-    ended?;
-    assert!(rt; first?.capacity() == second?.capacity());
-    Ok(())
+    end(first, second, ended)
 }
 
 /// The datagram of one octet.
@@ -198,40 +212,46 @@ fn key(alloc: Global, octet: u8) -> Result<KeptKey, Fail> {
     })
 }
 
-/// Keeps this reply in an entry of its own, which goes again when it is over. Returns what failed.
-fn keep_and_drop(
-    kept: &mut Kept,
-    key: KeptKey,
-    reply: KeptReply,
-    until: u64,
-) -> Result<(), &'static str> {
+/// Keeps this reply in an entry of its own, which goes again when it is over.
+fn keep_and_drop(kept: &mut Kept, key: KeptKey, reply: KeptReply, until: u64) -> Result<(), Fail> {
     if kept.is_full() && kept.find(&key).is_none() {
-        return Err("there is no place");
+        return Err(Fail::from("there is no place"));
     }
     if !kept.is_free(&key, 1) || kept.reserve(0).is_err() {
-        return Err("it can't be kept");
+        return Err(Fail::from("it can't be kept"));
     }
     kept.keep(key, 1, reply, until);
-    match kept.drop_one_expired(until) {
-        Some(1) => Ok(()),
-        _ => Err("the reply doesn't go when it is over"),
-    }
+    let dropped = kept.drop_one_expired(until);
+    ensure(dropped == Some(1), "the reply goes when it is over")
+}
+
+/// Keeps a first reply, for which the table makes room.
+fn keep_first(alloc: Global, kept: &mut Kept) -> Result<(), Fail> {
+    let reply = kept_reply(alloc, &Reply::Dcf { seq: seq(1) })?;
+    let datagram = key(alloc, 1)?;
+    keep_and_drop(kept, datagram, reply, 10)
+}
+
+/// Keeps a second reply between two marks.
+fn keep_second(alloc: Global, kept: &mut Kept) -> Result<(), Fail> {
+    let reply = kept_reply(alloc, &Reply::Dcf { seq: seq(2) })?;
+    let datagram = key(alloc, 2)?;
+    let first = mark(alloc);
+    let ended = keep_and_drop(kept, datagram, reply, 20);
+    let second = mark(alloc);
+    end(first, second, ended)
+}
+
+/// Keeps one reply after the other.
+fn keep_both(alloc: Global, kept: &mut Kept) -> Result<(), Fail> {
+    keep_first(alloc, kept)?;
+    keep_second(alloc, kept)
 }
 
 #[test]
 fn a_reply_is_kept_and_goes_without_memory(rt: HostRuntime) -> Result<(), Fail> {
     let mut kept = Kept::new(rt.alloc(), 10);
-    let first_key = key(rt.alloc(), 1)?;
-    let first_reply = kept_reply(rt.alloc(), &Reply::Dcf { seq: seq(1) })?;
-    let second_key = key(rt.alloc(), 2)?;
-    let second_reply = kept_reply(rt.alloc(), &Reply::Dcf { seq: seq(2) })?;
-    let began = keep_and_drop(&mut kept, first_key, first_reply, 10);
-    let first = mark(rt.alloc());
-    let ended = keep_and_drop(&mut kept, second_key, second_reply, 20);
-    let second = mark(rt.alloc());
+    let ended = keep_both(rt.alloc(), &mut kept);
     drop(kept);
-    began?;
-    ended?;
-    assert!(rt; first?.capacity() == second?.capacity());
-    Ok(())
+    ended
 }

@@ -1,7 +1,7 @@
 //! The rows of some endpoints: the number of their legs, and when their silence ends.
 
-use crate::fixtures::{address, endpoint, no_alias};
-use facts::ensure;
+use crate::fixtures::{address, endpoint, enter, no_alias};
+use facts::all_hold;
 use registrations::{Registration, Registrations, Times};
 use std::alloc::Global;
 use std::test::Fail;
@@ -24,29 +24,29 @@ const SECOND_SILENT: u64 = 40;
 /// A moment behind all others.
 const LATE: u64 = 999;
 
+/// A registration that was heard at this moment.
+fn registration(alloc: Global, last: u8, heard: u64) -> Option<Registration> {
+    Some(Registration {
+        identifier: endpoint(last),
+        call_signal: address(last),
+        ras: address(last),
+        aliases: no_alias(alloc)?,
+        deadline: 1000,
+        heard,
+        tries: 0,
+        asked: 0,
+    })
+}
+
 /// Registers an endpoint that was heard at this moment; once more if memory for it was refused.
 fn register(table: &mut Registrations, alloc: Global, last: u8, heard: u64) -> Result<(), Fail> {
     if table.reserve(1).is_err() {
         table.reserve(1)?;
     }
-    let registration = Registration {
-        identifier: endpoint(last),
-        call_signal: address(last),
-        ras: address(last),
-        aliases: no_alias(alloc).ok_or("no alias is few")?,
-        deadline: 1000,
-        heard,
-        tries: 0,
-        asked: 0,
-    };
-    if table.get(&registration.identifier).is_some() {
-        return Err(Fail::from("the identifier is in use"));
-    }
-    if table.by_address(registration.call_signal).is_some() {
-        return Err(Fail::from("the address is in use"));
-    }
-    table.insert(registration)?;
-    Ok(())
+    enter(
+        table,
+        registration(alloc, last, heard).ok_or("no alias is few")?,
+    )
 }
 
 /// Counts one leg more of an endpoint.
@@ -76,36 +76,33 @@ fn is_silent_from(table: &Registrations, moment: u64, last: u8) -> bool {
 
 /// Counts legs of two endpoints, which are silent only while they have one.
 fn be_silent_in_calls(table: &mut Registrations) -> Result<(), Fail> {
-    ensure(table.silent(LATE).is_none(), "nobody in no call is silent")?;
+    let is_nobody = table.silent(LATE).is_none();
     comes(table, FIRST);
     comes(table, FIRST);
     goes(table, FIRST);
-    ensure(
-        table.legs(&endpoint(FIRST)) == Some(1),
-        "the first endpoint has one leg",
-    )?;
-    ensure(
-        is_silent_from(table, FIRST_SILENT, FIRST),
-        "its silence ends",
-    )?;
+    let has_leg = table.legs(&endpoint(FIRST)) == Some(1);
+    let is_silent = is_silent_from(table, FIRST_SILENT, FIRST);
     comes(table, SECOND);
-    ensure(
-        is_silent_from(table, SECOND_SILENT, SECOND),
-        "the second one's ends before it",
-    )
+    let is_second = is_silent_from(table, SECOND_SILENT, SECOND);
+    all_hold(&[
+        (is_nobody, "nobody in no call is silent"),
+        (has_leg, "the first endpoint has one leg"),
+        (is_silent, "its silence ends"),
+        (is_second, "the second one's ends before it"),
+    ])
 }
 
 /// Removes an endpoint, whose place the other one takes: its silence still ends.
 fn remove_first(table: &mut Registrations) -> Result<(), Fail> {
-    ensure(
-        table.remove(&endpoint(FIRST)).is_some(),
-        "the first endpoint goes",
-    )?;
-    ensure(table.legs(&endpoint(FIRST)).is_none(), "it has no legs")?;
-    ensure(
-        is_silent_from(table, SECOND_SILENT, SECOND),
-        "the second one's silence ends",
-    )
+    let is_gone = table.remove(&endpoint(FIRST)).is_some();
+    all_hold(&[
+        (is_gone, "the first endpoint goes"),
+        (table.legs(&endpoint(FIRST)).is_none(), "it has no legs"),
+        (
+            is_silent_from(table, SECOND_SILENT, SECOND),
+            "the second one's silence ends",
+        ),
+    ])
 }
 
 /// Takes the last legs, after which nobody is silent.
@@ -114,8 +111,10 @@ fn take_legs(table: &mut Registrations) -> Result<(), Fail> {
     if table.get(&id).is_some() {
         table.no_legs(&id);
     }
-    ensure(table.legs(&id) == Some(0), "the second endpoint has no leg")?;
-    ensure(table.silent(LATE).is_none(), "nobody is silent")
+    all_hold(&[
+        (table.legs(&id) == Some(0), "the second endpoint has no leg"),
+        (table.silent(LATE).is_none(), "nobody is silent"),
+    ])
 }
 
 /// Removes an endpoint from a table, whose copy keeps both with their legs and their silences.
@@ -126,8 +125,10 @@ fn remove_beside_a_copy(table: &mut Registrations) -> Result<(), Fail> {
     let has_silence = is_silent_from(&copy, SECOND_SILENT, SECOND);
     drop(copy);
     removed?;
-    ensure(has_leg, "the first endpoint has its leg in the copy")?;
-    ensure(has_silence, "the second one's silence ends in the copy")
+    all_hold(&[
+        (has_leg, "the first endpoint has its leg in the copy"),
+        (has_silence, "the second one's silence ends in the copy"),
+    ])
 }
 
 /// Registers two endpoints, and changes their legs and their silences.
