@@ -1,4 +1,4 @@
-"""Leaves the bodies out of the functions of a copy of a crate, all but some.
+"""Leaves the bodies of functions out of a copy of a crate, all but some.
 
 What calls such a function still has its contract: its proof is a hole, which `rattle check
 --allow-holes` takes for what its statement says. So a check of some functions needs no proof of
@@ -14,53 +14,45 @@ from edits import home_of, module_of
 
 # A function at the margin, or in an impl at the margin, that isn't computed by the compiler.
 HEAD = re.compile(r"(?P<indent>(?:    )?)(?:pub(?:\([a-z ]+\))? )?(?:unsafe )?fn (?P<name>\w+)\b")
-IMPL = re.compile(r"impl\b(?P<rest>.*)")
 # Words that antt reserves.
 RESERVED = {"abbrev", "as", "data", "do", "in", "let", "mod", "open", "pub", "record", "unfold", "use", "where"}
 # What stands for a body: it returns a value of any type.
 BODY = "loop {}"
 
 
-def kind_of(rest):
-    """Returns the type that an impl is of, by what stands behind the word; None for one of a trait."""
+def kind_of(line):
+    """Returns the type that an impl is of; None for an impl of a trait, and for any other line."""
+    rest = line.removeprefix("impl")
     while rest != (shorter := re.sub(r"<[^<>]*>", "", rest)):
         rest = shorter
     words = rest.replace("{", " ").split()
-    return words[0].split("::")[-1] if len(words) == 1 else None
+    return words[0].split("::")[-1] if line.startswith("impl") and len(words) == 1 else None
 
 
 def body_of(lines, first, indent):
-    """Returns the first and the last line within the body of a function, or None if it has no lines of its own."""
-    end = f"{indent}}}"
+    """Returns where the lines of a function's body begin and end, or None if it has none of its own."""
     for i in range(first, len(lines)):
         line = lines[i]
-        is_signature = i == first or re.match(rf"{indent}\)", line)
-        if line == f"{indent}{{" or is_signature and line.endswith(" {"):
-            last = next((j for j in range(i + 1, len(lines)) if lines[j] == end), None)
-            return None if last is None else (i + 1, last)
-        if i > first and line.startswith(indent) and not line[len(indent) :].startswith((" ", ")", ">")):
-            return None
+        rest = line.removeprefix(indent)
+        is_signature = i == first or rest.startswith(")")
+        if rest == "{" or is_signature and line.endswith(" {"):
+            return i + 1, lines.index(f"{indent}}}", i)
         if is_signature and line.endswith((";", "}")):
+            return None
+        # (clauses, parameters and bounds stand further in)
+        if i > first and line.startswith(indent) and not rest.startswith((" ", ")", ">")):
             return None
     return None
 
 
 def functions_in(lines):
-    """Returns of each function of a source its type (or None), its name, and where its body begins and ends."""
-    found, kind, is_own = [], None, True
+    """Returns of each function its type, or None, its name, and where its body begins and ends."""
+    found, kind = [], None
     for i, line in enumerate(lines):
-        block = IMPL.match(line)
-        if block:
-            kind, is_own = kind_of(block["rest"]), True
-            is_own = kind is not None
-        elif re.match(r"\S", line) and line != "}" and not line.startswith("//"):
-            kind, is_own = None, not re.match(r"(?:pub(?:\([a-z ]+\))? )?(?:unsafe )?(?:trait|mod|macro_rules)", line)
+        if re.match(r"[a-z>]", line):
+            kind = kind_of(line)
         head = HEAD.match(line)
-        if not head:
-            continue
-        if head["indent"] and not (is_own and kind):
-            continue
-        if i and "cycle(" in lines[i - 1]:
+        if not head or head["indent"] and not kind or "cycle(" in lines[i - 1]:
             continue
         body = body_of(lines, i, head["indent"])
         if body:
@@ -69,7 +61,7 @@ def functions_in(lines):
 
 
 def leave_out(crate, folder, changed):
-    """Leaves out the bodies in the copy of a crate in this folder, but those of the functions `changed`.
+    """Leaves the bodies out of the copy of a crate in this folder, but those of the functions `changed`.
 
     `changed` has them by the prover's names.
     """
@@ -83,11 +75,9 @@ def leave_out(crate, folder, changed):
             if home is None:
                 continue
             parts = [it for it in (*home.split("::"), kind, name) if it]
-            if "::".join([crate.name, *parts]) in changed:
-                continue
-            indent = re.match(r" *", lines[end])[0]
-            lines[begin:end] = [f"{indent}    {BODY}"]
-            make_hole(crate.name, folder, parts)
+            if "::".join([crate.name, *parts]) not in changed:
+                lines[begin:end] = [f"    {BODY}"]
+                make_hole(crate.name, folder, parts)
         with open(path, "w", encoding="utf-8") as file:
             file.write("\n".join(lines))
 
