@@ -126,7 +126,9 @@ pub fn serve_watched<
     let Ok((crew, inlets)) = gather(alloc, seats, receivers, clocks, orders, plan) else {
         return Err(ServeFault::Memory);
     };
-    serve_by(rt, alloc, lock, crew, inlets, sender, gate, watchers, count, plan)
+    serve_by(
+        rt, alloc, lock, crew, inlets, sender, gate, watchers, count, plan,
+    )
 }
 
 /// Serves the zone of a lock by those who make its steps, as many as `workers` says, until each

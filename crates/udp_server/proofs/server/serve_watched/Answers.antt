@@ -32,4 +32,3 @@ returns-then-len-count-clause-wrong_counts g c = (
   ],
   λ is_wrong. refl,
 )
-
