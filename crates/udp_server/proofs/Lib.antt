@@ -1,4 +1,6 @@
 pub mod Carrying
 pub mod Counts
+pub mod Each
+pub mod Sends
 pub mod Steps
 pub mod Ticks

@@ -2,6 +2,7 @@ pub mod Ends
 pub mod Faults
 pub mod Headline
 pub mod Joint
+pub mod OrderCounts
 pub mod Orders
 pub mod Plans
 pub mod Rooms

@@ -1,5 +1,5 @@
 -- What the sender does with a reply that it takes out of a ring.
-use Rattle.std.specs.Prelude.{◌≡◌, ◌++◌, ◌∷◌, ◌⊎◌, ℕ, List, [], Ok, Err}
+use Rattle.std.specs.Prelude.{◌≡◌, ◌+◌, ◌++◌, ◌∷◌, ◌⊎◌, ℕ, List, [], Ok, Err}
 use Rattle.zone_events.specs.declared.outcome.Datagram.{Datagram}
 use Rattle.udp_server.specs.declared.datagrams.DeviceFault.{DeviceFault}
 use Rattle.udp_server.specs.declared.sender.SendCounts.{SendCounts}
@@ -12,6 +12,10 @@ sent_once_more counts = record counts { replies = fault_count counts.replies }
 -- a send failed, and is counted
 abbrev pub failed_once_more : SendCounts → SendCounts
 failed_once_more counts = record counts { faults = fault_count counts.faults }
+
+-- how many sends are counted, of replies that were sent and of failed ones
+abbrev pub all_counted : SendCounts → ℕ
+all_counted counts = counts.replies + counts.faults
 
 -- what a send of a reply gave
 abbrev pub Sends : Type 1

@@ -1,7 +1,8 @@
 //! The worker that makes the turns of the timers.
 
-ghost use Rattle.std.specs.Prelude.{◌≡◌, IsFalse};
+ghost use Rattle.std.specs.Prelude.{◌≡◌, IsFalse, vec_len};
 ghost use Rattle.zone_lock.specs.Held.{IsClosed};
+ghost use Rattle.udp_server.specs.OrderCounts.{order_count};
 ghost use Rattle.udp_server.specs.Ticks.{AreTurnsOfRound, IsTick, IsTurnOfRound};
 ghost use Rattle.udp_server.specs.Ticks.{goes_on_after_turns, is_more_due, is_more_due_after};
 ghost use Rattle.udp_server.specs.Working.{goes_on_after, standing};
@@ -50,7 +51,9 @@ pub(crate) fn expire<
     others: usize,
     worker: Worker<D, T, U, V, C>,
     orders: Orders<P>,
-) -> ExpiryRecord<P, D, T, U, V> {
+) -> ExpiryRecord<P, D, T, U, V>
+    ensures { vec_len result.boxes ≡ order_count orders }
+{
     let (mut worker, mut orders) = (worker, orders);
     let mut chapters = Chapters::new(shared.alloc);
     let mut replies = Vec::new(shared.alloc);
@@ -177,9 +180,8 @@ fn make_turn<P: Pool, D: Hall, T: Ledger, U: Ledger, V: Ledger, R: Wait, G: Gate
         is_idle: _,
     } = came
     {
-        if chapters.end_if_due(shared, place).is_err() {
-            worker.counts.refuse();
-        }
+        let ended = chapters.end_if_due(shared, place);
+        worker.counts.count_chapter(ended);
     }
     came
 }

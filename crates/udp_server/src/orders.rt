@@ -1,7 +1,7 @@
 //! Pools that are to be replaced while a server runs.
 
-ghost use Rattle.std.specs.Prelude.{◌≡◌, ◌≤◌, ◌<◌, ◌+◌, IsFalse, IsTrue, OnSome, vec_capacity};
-ghost use Rattle.std.specs.Prelude.{vec_len};
+ghost use Rattle.std.specs.Prelude.{◌≡◌, ◌≤◌, ◌<◌, ◌+◌, ◌-◌, IfOk, IsFalse, IsTrue, OnSome};
+ghost use Rattle.std.specs.Prelude.{vec_capacity, vec_len};
 ghost use Rattle.udp_server.specs.Orders.{AreCarriedOut, IsNextAt, IsNextTried, IsNoneDue};
 ghost use Rattle.udp_server.specs.Orders.{ordering};
 ghost use Rattle.udp_server.specs.Working.{IsTold, standing};
@@ -45,11 +45,21 @@ impl<P: Pool> Drop for Orders<P> {
 
 impl<P: Pool> Orders<P> {
     /// None of these orders was tried.
-    pub(crate) fn new(alloc: Global, orders: Vec<PoolOrder<P>>) -> Result<Self, AllocError> {
+    pub(crate) fn new(alloc: Global, orders: Vec<PoolOrder<P>>) -> Result<Self, AllocError>
+        ensures { IfOk result (λ made. vec_len made.waiting + vec_len made.boxes
+            ≡ vec_len orders) }
+    {
         let boxes = Vec::with_capacity(alloc, orders.len())?;
         let mut waiting = orders;
         waiting.reverse();
         Ok(Orders { waiting, boxes })
+    }
+
+    /// How many orders there are, those that were tried among them.
+    pub(crate) fn len(&self) -> usize
+        ensures { result ≡ vec_len self.now.waiting + vec_len self.now.boxes }
+    {
+        self.waiting.len() + self.boxes.len()
     }
 
     /// Tries each order, in the list's order, whose moment the worker's clock has reached. An order
@@ -63,11 +73,13 @@ impl<P: Pool> Orders<P> {
         shared: &Shared<'_, P, D, T, U, V, R, G>,
         worker: &mut Worker<D, T, U, V, C>,
     )
-        ensures { AreCarriedOut D.opened P.account C.tells
+        ensures tried { AreCarriedOut D.opened P.account C.tells
             (ordering self.old.waiting.items self.old.boxes.items
             (standing worker.old.seat worker.old.outlet worker.old.counts))
             (ordering self.new.waiting.items self.new.boxes.items
             (standing worker.new.seat worker.new.outlet worker.new.counts)) }
+        ensures all { vec_len self.new.waiting + vec_len self.new.boxes
+            ≡ vec_len self.old.waiting + vec_len self.old.boxes }
     {
         for _ in 0..self.waiting.len() {
             if !self.has_tried_next(shared, worker) {
@@ -89,6 +101,8 @@ impl<P: Pool> Orders<P> {
             (standing worker.old.seat worker.old.outlet worker.old.counts))
             (ordering self.new.waiting.items self.new.boxes.items
             (standing worker.new.seat worker.new.outlet worker.new.counts)) }
+        ensures all { vec_len self.new.waiting + vec_len self.new.boxes
+            ≡ vec_len self.old.waiting + vec_len self.old.boxes }
         ensures none { IsFalse result
             → IsNoneDue (IsTold C.tells worker.old.clock) self.new.waiting.items }
         ensures same { IsFalse result
@@ -113,6 +127,7 @@ impl<P: Pool> Orders<P> {
     fn next_at(&mut self, now: Moment) -> Option<PoolOrder<P>>
         ensures next { IsNextAt now self.old.waiting.items result self.new.waiting.items }
         ensures boxes { self.new.boxes ≡ self.old.boxes }
+        ensures fewer { OnSome result (vec_len self.new.waiting + 1 ≡ vec_len self.old.waiting) }
         ensures room { OnSome result (vec_len self.new.boxes + vec_len self.new.waiting
             < vec_capacity self.new.boxes) }
     {
@@ -124,7 +139,9 @@ impl<P: Pool> Orders<P> {
     }
 
     /// What came back of each order. The fresh pools of those that were not tried come back, too.
-    pub(crate) fn into_boxes(mut self) -> Vec<(usize, P, bool)> {
+    pub(crate) fn into_boxes(mut self) -> Vec<(usize, P, bool)>
+        ensures { vec_len result ≡ vec_len self.waiting + vec_len self.boxes }
+    {
         for _ in 0..self.waiting.len() {
             self.hand_back();
         }
@@ -133,7 +150,11 @@ impl<P: Pool> Orders<P> {
     }
 
     /// The next order isn't tried any more: its fresh pool comes back.
-    fn hand_back(&mut self) {
+    fn hand_back(&mut self)
+        ensures all { vec_len self.new.waiting + vec_len self.new.boxes
+            ≡ vec_len self.old.waiting + vec_len self.old.boxes }
+        ensures fewer { vec_len self.new.waiting ≡ vec_len self.old.waiting - 1 }
+    {
         if let Some(order) = self.waiting.pop() {
             let PoolOrder { at: _, pool, fresh } = order;
             self.boxes.push_reserved((pool, fresh, false));

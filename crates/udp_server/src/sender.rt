@@ -1,8 +1,8 @@
 //! The sender.
 
-ghost use Rattle.std.specs.Prelude.{◌≡◌, [], All, IsFalse, IsTrue};
+ghost use Rattle.std.specs.Prelude.{◌≡◌, ◌≤◌, ◌+◌, [], All, IsFalse, IsTrue, length};
 ghost use Rattle.reply_queues.specs.Rings.{datagrams_seen, datagrams_taken};
-ghost use Rattle.udp_server.specs.Sending.{IsNextSent, IsSendCounted};
+ghost use Rattle.udp_server.specs.Sending.{IsNextSent, IsSendCounted, all_counted};
 
 use crate::board::Board;
 use crate::datagrams::{Datagrams, DeviceFault};
@@ -65,9 +65,12 @@ pub(crate) fn send_all<R: Wait, N: Datagrams>(
 
 impl<N: Datagrams> Sender<N> {
     /// Sends the next reply of each ring. Whether there was any.
+    #[tactic(auto, using(crate::proofs::Sends::one_more_at_most))]
     fn has_sent(&mut self, inlets: &mut [Inlet]) -> bool
         ensures looked { IsFalse result → All (λ inlet. datagrams_seen inlet ≡ []) inlets.new }
         ensures same { IsFalse result → self.new.sent ≡ self.old.sent }
+        ensures once { all_counted self.new.sent
+            ≤ all_counted self.old.sent + length inlets.old }
     {
         let mut is_any = false;
         for inlet in inlets.iter_mut() {

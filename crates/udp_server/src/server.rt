@@ -2,6 +2,7 @@
 
 ghost use Rattle.std.specs.Prelude.{◌≡◌, ◌≢◌, ◌≤◌, ◌↔◌, Err, IfOk, vec_len};
 ghost use Rattle.udp_server.specs.Faults.{AreCounts, AreCountsOfEnds};
+ghost use Rattle.udp_server.specs.OrderCounts.{order_count};
 ghost use Rattle.udp_server.specs.Plans.{IsPlan, beginning_of};
 ghost use Rattle.udp_server.specs.Served.{IsServed};
 
@@ -36,6 +37,7 @@ use zone_lock::{Blanks, Hall, OpenFault, Seat, ZoneLock};
 ///
 /// promise server-leaves-a-run: All steps are a run from the locked state to the zone that is left,
 /// and the report has its datagrams, turns and changes (`IsServed`).
+/// promise server-gives-back-each-order: Of each order a pool comes back, the old one or the fresh one.
 /// promise server-counts-its-ends: It is refused as WrongCounts if and only if seats, ends and
 /// clocks don't fit; likewise `serve_zone` (`AreCounts`, `AreCountsOfEnds`).
 pub fn serve<
@@ -64,6 +66,7 @@ pub fn serve<
     requires plan { IsPlan plan }
     ensures served { IfOk result (λ r. IsServed D.opened r.finished r.datagrams r.turns
         r.changes) }
+    ensures back { IfOk result (λ r. vec_len r.boxes ≡ vec_len orders) }
     ensures wrong_counts { (result ≡ Err ServeFault.WrongCounts)
         ↔ ¬ AreCounts (vec_len seats) (vec_len receivers) (vec_len clocks) }
 {
@@ -116,6 +119,7 @@ pub fn serve_watched<
     requires plan { IsPlan plan }
     ensures served { IfOk result (λ r. IsServed D.opened r.finished r.datagrams r.turns
         r.changes) }
+    ensures back { IfOk result (λ r. vec_len r.boxes ≡ vec_len orders) }
     ensures wrong_counts { (result ≡ Err ServeFault.WrongCounts)
         ↔ ¬ AreCounts (vec_len seats) (vec_len receivers) (vec_len clocks) }
 {
@@ -159,6 +163,7 @@ fn serve_by<
     requires plan { IsPlan plan }
     ensures served { IfOk result (λ r. IsServed D.opened r.finished r.datagrams r.turns
         r.changes) }
+    ensures back { IfOk result (λ r. vec_len r.boxes ≡ order_count crew.orders) }
     ensures counts { result ≢ Err ServeFault.WrongCounts }
 {
     let Ok(tallies) = Tallies::new(alloc, workers) else {
@@ -231,6 +236,7 @@ fn gather<P: Pool, D: Hall, T: Ledger, U: Ledger, V: Ledger, N: Datagrams, C: Mo
 ) -> Result<(Crew<P, D, T, U, V, N, C>, Vec<Inlet>), AllocError>
     requires seats { vec_len seats ≤ 16 }
     requires plan { IsPlan plan }
+    ensures { IfOk result (λ made. order_count made.0.orders ≡ vec_len orders) }
 {
     let (outlets, inlets) = rings(alloc, seats.len(), plan.ring)?;
     let mut workers = workers_of(alloc, seats, clocks, outlets)?;
@@ -291,6 +297,7 @@ pub fn serve_zone<
     requires plan { IsPlan plan }
     ensures served { IfOk result (λ r. IsServed zone.state r.finished r.datagrams r.turns
         r.changes) }
+    ensures back { IfOk result (λ r. vec_len r.boxes ≡ vec_len orders) }
     ensures wrong_counts { (result ≡ Err ServeFault.WrongCounts)
         ↔ ¬ AreCountsOfEnds (vec_len receivers) (vec_len clocks) }
 {
@@ -333,6 +340,7 @@ pub fn serve_zone_watched<
     requires plan { IsPlan plan }
     ensures served { IfOk result (λ r. IsServed zone.state r.finished r.datagrams r.turns
         r.changes) }
+    ensures back { IfOk result (λ r. vec_len r.boxes ≡ vec_len orders) }
     ensures wrong_counts { (result ≡ Err ServeFault.WrongCounts)
         ↔ ¬ AreCountsOfEnds (vec_len receivers) (vec_len clocks) }
 {
@@ -386,6 +394,7 @@ fn open_and_serve<
     requires plan { IsPlan plan }
     ensures served { IfOk result (λ r. IsServed zone.state r.finished r.datagrams r.turns
         r.changes) }
+    ensures back { IfOk result (λ r. vec_len r.boxes ≡ vec_len orders) }
     ensures counts { result ≢ Err ServeFault.WrongCounts }
 {
     match ZoneLock::<P, D, T, U, V>::open(alloc, zone, seats, blanks) {

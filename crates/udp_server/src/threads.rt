@@ -1,7 +1,9 @@
 //! The threads of a server: they begin together, and are joined.
 
 ghost use Rattle.std.specs.Prelude.{◌≡◌, ◌≤◌, ◌<◌, ◌+◌, IfSome, vec_capacity, vec_len};
+ghost use Rattle.std.specs.Prelude.{IfOk};
 ghost use Rattle.std.specs.Thread.{IsSend};
+ghost use Rattle.udp_server.specs.OrderCounts.{order_count};
 
 use crate::datagrams::Datagrams;
 use crate::expiry_worker::{ExpiryRecord, expire};
@@ -20,7 +22,7 @@ use std::rt::Clock;
 use std::sync::Wait;
 use std::sync::ledger::Ledger;
 use std::thread;
-use std::thread::{JoinHandle, Scope, Threads};
+use std::thread::{JoinHandle, Promise, PromisedHandle, Scope, Threads};
 use zone_lock::Hall;
 
 /// Who makes steps: a worker for each receiving end, in order, and the expiry worker, with its
@@ -68,13 +70,16 @@ pub(crate) fn run<
     inlets: Vec<Inlet>,
     sender: N,
     watchers: Vec<W>,
-) -> Result<CrewRecord<P, D, T, U, V>, AllocError> {
+) -> Result<CrewRecord<P, D, T, U, V>, AllocError>
+    ensures { IfOk result (λ left. vec_len left.boxes ≡ order_count crew.orders) }
+{
     let record = thread::scope(
         thread::scope_env(),
         shared.rt,
         |scope| -> Option<CrewRecord<P, D, T, U, V>>
             requires { IsSend P.row × IsSend D.row × IsSend T.row × IsSend U.row × IsSend N.row
                 × IsSend C.row × IsSend W.row }
+            ensures { IfSome result (λ left. vec_len left.boxes ≡ order_count crew.orders) }
         { run_in(scope, shared, crew, inlets, sender, watchers) },
     );
     record.ok_or(AllocError)
@@ -102,7 +107,9 @@ fn run_in<
     inlets: Vec<Inlet>,
     sender: N,
     watchers: Vec<W>,
-) -> Option<CrewRecord<P, D, T, U, V>> {
+) -> Option<CrewRecord<P, D, T, U, V>>
+    ensures { IfSome result (λ left. vec_len left.boxes ≡ order_count crew.orders) }
+{
     let Crew {
         receivers,
         workers,
@@ -222,6 +229,17 @@ fn start_worker<
     scope.spawn(move || work(shared, end, worker)).ok()
 }
 
+/// Of each of a number of orders a pool comes back.
+#[derive(Clone, Copy)]
+struct EachComesBack {
+    orders: usize,
+}
+
+impl<P: Pool, D: Hall, T: Ledger, U: Ledger, V: Ledger> Promise<ExpiryRecord<P, D, T, U, V>>
+    for EachComesBack {
+    ghost kept_by = { λ promise left. vec_len left.boxes ≡ promise.orders };
+}
+
 /// Starts the thread of the expiry worker. None if no thread can be made.
 fn start_expiry<
     's,
@@ -240,10 +258,16 @@ fn start_expiry<
     others: usize,
     worker: Worker<D, T, U, V, C>,
     orders: Orders<P>,
-) -> Option<JoinHandle<ExpiryRecord<P, D, T, U, V>>> {
-    scope
-        .spawn(move || expire(shared, others, worker, orders))
-        .ok()
+) -> Option<PromisedHandle<ExpiryRecord<P, D, T, U, V>, EachComesBack>>
+    ensures { IfSome result (λ handle. handle.promise.orders ≡ order_count orders) }
+{
+    let promise = EachComesBack {
+        orders: orders.len(),
+    };
+    let work = move || -> ExpiryRecord<P, D, T, U, V>
+        ensures { vec_len result.boxes ≡ order_count orders }
+    { expire(shared, others, worker, orders) };
+    scope.spawn_with(promise, work).ok()
 }
 
 /// Starts a thread for each of those who look at the server until this many workers have ended.

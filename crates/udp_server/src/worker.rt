@@ -1,7 +1,7 @@
 //! One who makes steps of the zone, and hands the replies to the sender.
 
-ghost use Rattle.std.specs.Prelude.{◌≡◌, ◌<◌, ◌+◌, ◌↔◌, min, IfErr, IfOk, IsTrue, OnOk};
-ghost use Rattle.std.specs.Prelude.{Some, vec_capacity, vec_len};
+ghost use Rattle.std.specs.Prelude.{◌≡◌, ◌<◌, ◌+◌, ◌↔◌, min, IfErr, IfOk, IsTrue, OnErr, OnOk};
+ghost use Rattle.std.specs.Prelude.{Some, is_some, vec_capacity, vec_len};
 ghost use Rattle.std.specs.Option.{ForSome};
 ghost use Rattle.ras_machine.specs.Steps.{HasFewOctets};
 ghost use Rattle.udp_server.specs.Ends.{fault_count, most_count};
@@ -112,6 +112,18 @@ impl Counts {
         }
     }
 
+    /// Counts a chapter that was due as refused, if it could not end.
+    pub(crate) fn count_chapter(&mut self, ended: Result<(), AllocError>)
+        ensures ended { OnOk ended (self.new ≡ self.old) }
+        ensures refused { OnErr ended (self.new.refused ≡ fault_count self.old.refused) }
+        ensures dropped { self.new.dropped ≡ self.old.dropped }
+        ensures faults { self.new.faults ≡ self.old.faults }
+    {
+        if ended.is_err() {
+            self.refuse();
+        }
+    }
+
     /// What both count together.
     pub(crate) fn and(self, more: Counts) -> Counts
         ensures dropped { result.dropped ≡ min (self.dropped + more.dropped) most_count }
@@ -204,6 +216,7 @@ impl<D: Hall, T: Ledger, U: Ledger, V: Ledger, C: Moments> Worker<D, T, U, V, C>
         ensures event { IfOk result (λ ready. ready.0 ≡ event) }
         ensures room { IfOk result (λ ready. ForSome ready.1 (λ buffer.
             IsRoom buffer self.new.receipts)) }
+        ensures wanted { IfOk result (λ ready. is_some ready.1 ≡ shared.now.plan.receipts) }
         ensures same { standing self.new.seat self.new.outlet self.new.counts
             ≡ standing self.old.seat self.old.outlet self.old.counts }
     {
@@ -218,6 +231,7 @@ impl<D: Hall, T: Ledger, U: Ledger, V: Ledger, C: Moments> Worker<D, T, U, V, C>
             IsRoom buffer self.new.receipts)) }
         ensures same { standing self.new.seat self.new.outlet self.new.counts
             ≡ standing self.old.seat self.old.outlet self.old.counts }
+        ensures wanted { IfOk result (λ buffer. is_some buffer ≡ plan.receipts) }
     {
         if !plan.receipts {
             return Ok(None);

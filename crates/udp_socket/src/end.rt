@@ -1,7 +1,7 @@
 //! Ends of a socket.
 
 ghost use Rattle.std.specs.Prelude.{◌≡◌, ◌≤◌, ◌↔◌, if◌then◌else◌, IfOk, IsFalse, IsOk, IsOkAnd};
-ghost use Rattle.std.specs.Prelude.{IsTrue, None, OnErr, OnOk, Some};
+ghost use Rattle.std.specs.Prelude.{IsTrue, None, OnErr, OnOk, Some, false};
 ghost use Rattle.udp_server.specs.Ends.{IsWithin, fault_count};
 ghost use Rattle.udp_socket.specs.Ends.{IsReceiveCounted, is_quiet, is_stopped, one_fewer};
 ghost use Rattle.udp_socket.specs.Ends.{received_by};
@@ -44,6 +44,8 @@ impl<'a, S: Stop> SocketEnd<'a, S> {
         ensures left { self.new.receives
             ≡ (if result then self.old.receives else one_fewer self.old.receives) }
         ensures none_left { self.old.receives ≡ Some 0 → IsTrue result }
+        ensures heeds { IsFalse result → S.told self.old.stop.now false }
+        ensures same { self.new.stop.now ≡ self.old.stop.now }
     {
         if self.stop.is_over() {
             return true;
@@ -119,7 +121,8 @@ impl<S: Stop> Datagrams for SocketEnd<'_, S> {
     ghost faults = { λ end. end.faults };
 
     ghost receives = { λ old given octets new.
-        IsReceiveCounted given old.receives new.receives };
+        IsReceiveCounted given old.receives new.receives
+        × (IsFalse (is_stopped given) → S.told old.stop.now false) };
 
     ghost sends = { λ old datagram given new. new.receives ≡ old.receives };
 

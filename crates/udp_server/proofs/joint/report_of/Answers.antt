@@ -2,13 +2,8 @@ use Rattle.std.proofs.Common.{◌≡◌, ℕ, IfOk, ap, subst}
 use Rattle.std.specs.Prelude.{Err, List, Ok, Result}
 use Rattle.books.specs.declared.book.Receipt.{Receipt}
 use Rattle.books.specs.declared.chapter.Chapter.{Chapter}
+use Rattle.udp_server.proofs.Each.{of_each}
 use Rattle.udp_server.proofs.joint.report_of.Goals as goal
-
--- what follows from what holds of a value, if there is one, holds of it too
-of_each : {T E : Type 0} (result : Result T E) (P Q : T → Type 0) → ((t : T) → P t → Q t)
-    → IfOk result P → IfOk result Q
-of_each (Ok t) P Q all is = all t is
-of_each (Err e) P Q all is = is
 
 pub returns-in-Ok-clause-dropped : goal.returns-in-Ok-clause-dropped
 returns-in-Ok-clause-dropped g c =

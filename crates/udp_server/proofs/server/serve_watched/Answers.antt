@@ -1,4 +1,6 @@
-use Rattle.std.proofs.Common.{arith, refl, vec_len}
+use Rattle.std.proofs.Common.{◌≡◌, ◌∙◌, arith, refl, vec_len}
+use Rattle.udp_server.specs.OrderCounts.{order_count}
+use Rattle.udp_server.proofs.Each.{of_each}
 use Rattle.udp_server.specs.Faults.{AreCounts}
 use Rattle.udp_server.proofs.server.serve_watched.Goals as goal
 use Rattle.udp_server.proofs.server.serve_watched.Goals.{then-len-count-via-then-len-count}
@@ -32,3 +34,30 @@ returns-then-len-count-clause-wrong_counts g c = (
   ],
   λ is_wrong. refl,
 )
+
+pub returns-clause-back : goal.returns-clause-back
+returns-clause-back g c =
+    of_each c.serve_by.result (λ r. vec_len r.boxes ≡ order_count c.in-Ok.crew.orders)
+    (λ r. vec_len r.boxes ≡ vec_len c.args.orders) (λ r all. all ∙ c.in-Ok.ensures)
+    c.serve_by.ensures.back
+
+pub returns-clause-wrong_counts : goal.returns-clause-wrong_counts
+returns-clause-wrong_counts g c =
+    let counts : AreCounts (vec_len c.args.seats) (vec_len c.args.receivers)
+    (vec_len c.args.clocks) = record {
+      one_more = omega (
+        arith,
+        c.len-count.ensures,
+        c.len.ensures,
+        c.len-else-len-count.ensures,
+        c.if-len-count.false,
+        c.if-len-count-2.false,
+      );
+      clock_each = omega (
+        arith,
+        c.len-count.ensures,
+        c.len-else-len-count-2.ensures,
+        c.if-len-count-3.false,
+      );
+    } in
+    (λ is is_right. c.serve_by.ensures.counts is, λ is_wrong. absurd (is_wrong counts))

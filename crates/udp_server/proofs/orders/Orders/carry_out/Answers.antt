@@ -1,3 +1,4 @@
+use Rattle.std.proofs.Common.{◌∙◌}
 use Rattle.udp_server.specs.Orders.{ordering}
 use Rattle.udp_server.specs.Working.{standing}
 use Rattle.udp_server.proofs.Carrying.{one_tried, until_none_due}
@@ -9,17 +10,20 @@ loop-preserved g c =
     let worker = c.args.worker.now in
     let at = c.loop in
     let then = c.has_tried_next.new in
-    one_tried g.D.Hall.opened g.P.Pool.account g.C.Moments.tells c.loop.counter
-    (ordering start.waiting.items start.boxes.items
-    (standing worker.seat worker.outlet worker.counts))
-    (ordering at.self.waiting.items at.self.boxes.items
-    (standing at.worker.seat at.worker.outlet at.worker.counts))
-    (ordering then.self.waiting.items then.self.boxes.items
-    (standing then.worker.seat then.worker.outlet then.worker.counts)) at.worker.clock
-    at.invariant (c.has_tried_next.ensures.tried c.if-not-has_tried_next.false)
+    record {
+      tried = one_tried g.D.Hall.opened g.P.Pool.account g.C.Moments.tells c.loop.counter
+          (ordering start.waiting.items start.boxes.items
+          (standing worker.seat worker.outlet worker.counts))
+          (ordering at.self.waiting.items at.self.boxes.items
+          (standing at.worker.seat at.worker.outlet at.worker.counts))
+          (ordering then.self.waiting.items then.self.boxes.items
+          (standing then.worker.seat then.worker.outlet then.worker.counts)) at.worker.clock
+          at.invariant.tried (c.has_tried_next.ensures.tried c.if-not-has_tried_next.false);
+      all = c.has_tried_next.ensures.all ∙ c.loop.invariant.all;
+    }
 
-pub returns-then-not-has_tried_next : goal.returns-then-not-has_tried_next
-returns-then-not-has_tried_next g c =
+pub returns-then-not-has_tried_next-clause-tried : goal.returns-then-not-has_tried_next-clause-tried
+returns-then-not-has_tried_next-clause-tried g c =
     let start = c.args.self.now in
     let worker = c.args.worker.now in
     let at = c.loop in
@@ -31,5 +35,5 @@ returns-then-not-has_tried_next g c =
     (standing at.worker.seat at.worker.outlet at.worker.counts))
     (ordering then.self.waiting.items then.self.boxes.items
     (standing then.worker.seat then.worker.outlet then.worker.counts)) at.worker.clock
-    at.invariant (c.has_tried_next.ensures.same c.if-not-has_tried_next.true)
+    at.invariant.tried (c.has_tried_next.ensures.same c.if-not-has_tried_next.true)
     (c.has_tried_next.ensures.none c.if-not-has_tried_next.true)
