@@ -35,7 +35,8 @@ IsAnswerOf-copy tells zone about asked.Metrics copy response is (overview, told,
 IsAnswerOf-copy tells zone about asked.Zone copy response is (overview, told, page) =
     (overview, told, IsText-copy copy response is _ _ _ page)
 IsAnswerOf-copy tells zone about asked.Health copy response is of =
-    ⊎_elim (λ line. inl (IsText-copy copy response is _ _ _ line)) (λ line. inr (IsText-copy copy response is _ _ _ line)) of
+    ⊎_elim (λ of. inl (of.0, IsText-copy copy response is _ _ _ of.1))
+    (λ of. inr (of.0, IsText-copy copy response is _ _ _ of.1)) of
 IsAnswerOf-copy tells zone about asked.WrongQuery copy response is of = IsText-copy copy response is _ _ _ of
 IsAnswerOf-copy tells zone about asked.NoPage copy response is of = IsText-copy copy response is _ _ _ of
 IsAnswerOf-copy tells zone about asked.NotAllowed copy response is of = IsText-copy copy response is _ _ _ of

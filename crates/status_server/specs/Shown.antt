@@ -101,6 +101,12 @@ module _ {Z : Type 0} (tells : RunningZone.Ghosts Z) (zone : Z) where
   IsZonePageOf about response = (overview : Overview) × ∥ IsOverviewOf overview ∥₁
       × IsPage content.Json (zone_text about overview) response
 
+  -- whether the zone is served: it told so at some moment
+  abbrev pub IsHealthOf : Response → Type 0
+  IsHealthOf response =
+      tells.is_ended zone false × IsLine status.Found (codes "ok") response
+      ⊎ tells.is_ended zone true × IsLine status.Unavailable (codes "ended") response
+
   -- the answer to what is asked for, of the zone that is called so
   abbrev pub IsAnswerOf : About → Asked → Response → Type 0
   IsAnswerOf about (asked.Home query) response = IsHomeOf about query response
@@ -108,9 +114,7 @@ module _ {Z : Type 0} (tells : RunningZone.Ghosts Z) (zone : Z) where
   IsAnswerOf about (asked.Calls query) response = IsCallPageOf query response
   IsAnswerOf about asked.Metrics response = IsMetricsOf about response
   IsAnswerOf about asked.Zone response = IsZonePageOf about response
-  IsAnswerOf about asked.Health response =
-      IsLine status.Found (codes "ok") response
-      ⊎ IsLine status.Unavailable (codes "ended") response
+  IsAnswerOf about asked.Health response = IsHealthOf response
   IsAnswerOf about asked.WrongQuery response =
       IsLine status.BadRequest (codes "no such query") response
   IsAnswerOf about asked.NoPage response = IsLine status.NotFound (codes "no such page") response

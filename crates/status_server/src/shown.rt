@@ -266,6 +266,9 @@ impl<R: Clock, Z: RunningZone, S: Site<Z>> View for Shown<'_, R, Z, S> {
     /// What has no rows needn't wait.
     ghost turns = { λ _ asked turn. IsSome turn → IsTrue (has_rows asked) };
 
+    /// The zone is no longer served, or it still is.
+    ghost is_ended = { λ view. Z.RunningZone.is_ended view.zone.now };
+
     /// Other rows than the last ones wait until those are old enough.
     fn turn(&self, asked: &Asked) -> Option<Instant> {
         if !has_rows(asked) {

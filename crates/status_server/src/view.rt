@@ -9,7 +9,7 @@ use std::time::Instant;
 /// Who answers requests, until there is nothing more to be shown. Each call is to be short, since
 /// others wait for it.
 pub(crate) trait View: Drop {
-    ghost use Rattle.std.specs.Prelude.{Option};
+    ghost use Rattle.std.specs.Prelude.{Bool, Option};
     ghost use Rattle.std.specs.declared.time.Instant.{Instant};
     ghost use Rattle.status_page.specs.declared.asked.Asked.{Asked};
     ghost use Rattle.status_page.specs.declared.response.Response.{Response};
@@ -20,6 +20,9 @@ pub(crate) trait View: Drop {
     /// What is asked for may be answered from this moment on, or now if there is none.
     ghost turns: { Self → Asked → Option Instant → Type 0 };
 
+    /// At some moment there is nothing more to be shown, or there still is.
+    ghost is_ended: { Self → Bool → Type 0 };
+
     /// The moment from which on what is asked for may be answered; None if it may be now.
     fn turn(&self, asked: &Asked) -> Option<Instant>
         ensures turn { turns self.now asked.now result };
@@ -29,5 +32,6 @@ pub(crate) trait View: Drop {
         ensures answered { IfOk result (answers self.now asked) };
 
     /// Whether nothing more is to be shown.
-    fn has_ended(&self) -> bool;
+    fn has_ended(&self) -> bool
+        ensures told { is_ended self.now result };
 }

@@ -13,7 +13,7 @@ use pools::Figures;
 /// Rows are told by falling places, some of them at a time. An endpoint or a call that stays while
 /// all places are told is told; one that comes or goes meanwhile may be missing, or be told twice.
 pub trait RunningZone: Drop {
-    ghost use Rattle.std.specs.Prelude.{ℕ, List};
+    ghost use Rattle.std.specs.Prelude.{Bool, ℕ, List};
     ghost use Rattle.pools.specs.declared.interface.Figures.{Figures};
     ghost use Rattle.zone_view.specs.declared.figures.ZoneFigures.{ZoneFigures};
     ghost use Rattle.zone_view.specs.declared.figures.ServerFigures.{ServerFigures};
@@ -43,6 +43,9 @@ pub trait RunningZone: Drop {
     /// At some moment these are rows of its calls below the first place, and the next ones stand
     /// below the second one.
     ghost has_calls_below: { Self → ℕ → List CallRow → ℕ → Type 0 } = { λ _ _ _ _. Unit {0} };
+
+    /// At some moment it is no longer served, or it still is.
+    ghost is_ended: { Self → Bool → Type 0 } = { λ _ _. Unit {0} };
 
     /// Its figures now, and those of its pools, in order, at the same moment: they are put into
     /// `pools`, which has none yet, and room for 16, of which a zone has no more.
@@ -84,5 +87,6 @@ pub trait RunningZone: Drop {
         ensures room { vec_capacity rows.new ≡ vec_capacity rows.old };
 
     /// Whether it is no longer served: nothing more happens in it.
-    fn has_ended(&self) -> bool;
+    fn has_ended(&self) -> bool
+        ensures told { is_ended self.now result };
 }
