@@ -75,6 +75,15 @@ pub fn sent(alloc: Global, bytes: &[u8]) -> Result<Outcome, Fail> {
     })
 }
 
+/// Fails with the name of a row of a table of cases and the first of these facts of it that doesn't
+/// hold.
+pub fn all_hold_of(row: &str, facts: &[(bool, &str)]) -> Result<(), Fail> {
+    for (holds, fact) in facts {
+        ensure_of(row, *holds, fact)?;
+    }
+    Ok(())
+}
+
 // A zone that is dropped at each of many exits makes a test costly to prove, so what is asked of a
 // zone stands in functions that borrow it.
 

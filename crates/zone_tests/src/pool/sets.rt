@@ -1,6 +1,7 @@
 //! Sets of pools, of one kind and behind boxes.
 
 use crate::pool::marked::{MarkedPool, Seen};
+use facts::all_hold;
 use pools::{Figures, FixedPool, Lend, PacedPool, Pool, PoolFault, PoolSet};
 use std::alloc::Global;
 use std::sync::Arc;
@@ -160,22 +161,36 @@ pub fn marked(alloc: Global, seen: &Arc<Seen>, count: u64) -> Result<Vec<Boxed>,
     Ok(pools)
 }
 
+/// Lends from a set of two pools, which is dropped.
+fn lend_marked(alloc: Global, seen: &Arc<Seen>) -> Result<(), Fail> {
+    let lent = lend_and_drop(marked(alloc, seen, 2)?);
+    all_hold(&[
+        (
+            lent == Some((70, 30)),
+            "both pools lent, and one got units back",
+        ),
+        (
+            seen.lends.load(Ordering::SeqCst) == 2,
+            "each was asked once",
+        ),
+        (
+            seen.turns.load(Ordering::SeqCst) == 2,
+            "each had its turn once",
+        ),
+        (seen.drops.load(Ordering::SeqCst) == 2, "both are dropped"),
+        (
+            seen.lent_at_drop.load(Ordering::SeqCst) == 0,
+            "they have nothing lent then",
+        ),
+    ])
+}
+
 #[test]
 fn dropped_set_asks_once_and_drops_pools_with_nothing_lent(rt: HostRuntime) -> Result<(), Fail> {
     let seen = Arc::new(rt.alloc(), Seen::new())?;
-    let pools = marked(rt.alloc(), &seen, 2)?;
-    let lent = lend_and_drop(pools);
-    let lends = seen.lends.load(Ordering::SeqCst);
-    let turns = seen.turns.load(Ordering::SeqCst);
-    let drops = seen.drops.load(Ordering::SeqCst);
-    let lent_at_drop = seen.lent_at_drop.load(Ordering::SeqCst);
+    let ended = lend_marked(rt.alloc(), &seen);
     drop(seen);
-    assert!(rt; lent == Some((70, 30)));
-    assert!(rt; lends == 2);
-    assert!(rt; turns == 2);
-    assert!(rt; drops == 2);
-    assert!(rt; lent_at_drop == 0);
-    Ok(())
+    ended
 }
 
 /// How often a set says that it asked a pool, and how often it told it that time went on.
@@ -219,20 +234,33 @@ fn met(seen: &Seen) -> (u64, u64) {
     )
 }
 
+/// Asks two pools of a set, which counts as they count themselves.
+fn count_marked(alloc: Global, first: &Arc<Seen>, second: &Arc<Seen>) -> Result<(), Fail> {
+    let counts = ask_and_turn(marked_apart(alloc, first, second)?);
+    all_hold(&[
+        (
+            counts == Some(((3, 2), (1, 2))),
+            "the set counts what it calls",
+        ),
+        (met(first) == (3, 2), "the first pool was called as often"),
+        (met(second) == (1, 2), "the second pool was called as often"),
+    ])
+}
+
+/// Does so with a second pool that tells of itself.
+fn count_both(alloc: Global, first: &Arc<Seen>) -> Result<(), Fail> {
+    let second = Arc::new(alloc, Seen::new())?;
+    let ended = count_marked(alloc, first, &second);
+    drop(second);
+    ended
+}
+
 #[test]
 fn set_counts_what_it_calls_of_each_pool(rt: HostRuntime) -> Result<(), Fail> {
     let first = Arc::new(rt.alloc(), Seen::new())?;
-    let second = Arc::new(rt.alloc(), Seen::new())?;
-    let pools = marked_apart(rt.alloc(), &first, &second)?;
-    let counts = ask_and_turn(pools);
-    let first_met = met(&first);
-    let second_met = met(&second);
+    let ended = count_both(rt.alloc(), &first);
     drop(first);
-    drop(second);
-    assert!(rt; counts == Some(((3, 2), (1, 2))));
-    assert!(rt; first_met == (3, 2));
-    assert!(rt; second_met == (1, 2));
-    Ok(())
+    ended
 }
 
 /// Whether these are three pools, the first with 100 units, nothing lent and one refusal.
@@ -254,34 +282,54 @@ fn turn_each(pools: &mut [Boxed], seen: &Seen) -> Option<u64> {
     None
 }
 
-#[test]
-fn closed_set_hands_back_the_same_boxes_with_nothing_lent(rt: HostRuntime) -> Result<(), Fail> {
-    let seen = Arc::new(rt.alloc(), Seen::new())?;
-    let pools = marked(rt.alloc(), &seen, 3)?;
-    let Some((figures, last, mut back)) = lend_and_close(pools) else {
-        panic!(rt; "refused");
-    };
-    let early_drops = seen.drops.load(Ordering::SeqCst);
-    let are_three = are_three(&back);
-    let out_of_order = turn_each(&mut back, &seen);
-    drop(back);
-    let drops = seen.drops.load(Ordering::SeqCst);
-    let lent_at_drop = seen.lent_at_drop.load(Ordering::SeqCst);
-    drop(seen);
+/// What the first of three pools showed last, before their set was closed.
+fn was_lent(figures: Figures, last: Option<(u64, Lend)>) -> bool {
     let lent = Figures {
         limit: 100,
         lent: 70,
         refusals: 1,
         waits: 0,
     };
-    assert!(rt; figures == lent);
-    assert!(rt; last == Some((70, Lend::Refused)));
-    assert!(rt; early_drops == 0);
-    assert!(rt; are_three);
-    assert!(rt; out_of_order == None);
-    assert!(rt; drops == 3);
-    assert!(rt; lent_at_drop == 0);
-    Ok(())
+    figures == lent && last == Some((70, Lend::Refused))
+}
+
+/// Lends from a set of three pools, and closes it.
+fn close_marked(alloc: Global, seen: &Arc<Seen>) -> Result<(), Fail> {
+    let Some((figures, last, mut back)) = lend_and_close(marked(alloc, seen, 3)?) else {
+        return Err(Fail::from("the pools lend"));
+    };
+    let early_drops = seen.drops.load(Ordering::SeqCst);
+    let are_three = are_three(&back);
+    let out_of_order = turn_each(&mut back, seen);
+    drop(back);
+    all_hold(&[
+        (
+            was_lent(figures, last),
+            "the first pool lent, and refused at last",
+        ),
+        (early_drops == 0, "no pool is dropped by the set"),
+        (
+            are_three,
+            "three pools come back, the first with nothing lent",
+        ),
+        (out_of_order == None, "each comes back in its place"),
+        (
+            seen.drops.load(Ordering::SeqCst) == 3,
+            "they are dropped then",
+        ),
+        (
+            seen.lent_at_drop.load(Ordering::SeqCst) == 0,
+            "they have nothing lent then",
+        ),
+    ])
+}
+
+#[test]
+fn closed_set_hands_back_the_same_boxes_with_nothing_lent(rt: HostRuntime) -> Result<(), Fail> {
+    let seen = Arc::new(rt.alloc(), Seen::new())?;
+    let ended = close_marked(rt.alloc(), &seen);
+    drop(seen);
+    ended
 }
 
 /// Lends from the first and the third of three pools, and closes the set or drops it.
@@ -297,18 +345,37 @@ fn lend_twice_and_end<P: Pool>(pools: Vec<P>, is_closed: bool) -> Option<(Lend, 
     Some((first, third))
 }
 
+/// Lends from two of three pools, and closes their set or drops it.
+fn end_loans(alloc: Global, seen: &Arc<Seen>, is_closed: bool) -> Result<(), Fail> {
+    let lent = lend_twice_and_end(marked(alloc, seen, 3)?, is_closed);
+    let both = Some((Lend::Lent(70), Lend::Lent(50)));
+    all_hold(&[
+        (lent == both, "both pools lent"),
+        (
+            seen.take_backs.load(Ordering::SeqCst) == 2,
+            "each got its units back in one call",
+        ),
+        (
+            seen.drops.load(Ordering::SeqCst) == 3,
+            "all pools are dropped",
+        ),
+        (
+            seen.lent_at_drop.load(Ordering::SeqCst) == 0,
+            "they have nothing lent then",
+        ),
+    ])
+}
+
+/// Does so with pools that tell of themselves.
+fn end_marked(alloc: Global, is_closed: bool) -> Result<(), Fail> {
+    let seen = Arc::new(alloc, Seen::new())?;
+    let ended = end_loans(alloc, &seen, is_closed);
+    drop(seen);
+    ended
+}
+
 #[test]
 fn loans_go_back_by_one_call_of_each_pool_that_has_some(rt: HostRuntime) -> Result<(), Fail> {
-    for is_closed in [true, false] {
-        let seen = Arc::new(rt.alloc(), Seen::new())?;
-        let pools = marked(rt.alloc(), &seen, 3)?;
-        let lent = lend_twice_and_end(pools, is_closed);
-        let take_backs = seen.take_backs.load(Ordering::SeqCst);
-        let drops = seen.drops.load(Ordering::SeqCst);
-        let lent_at_drop = seen.lent_at_drop.load(Ordering::SeqCst);
-        drop(seen);
-        assert!(rt; lent == Some((Lend::Lent(70), Lend::Lent(50))));
-        assert!(rt; (take_backs, drops, lent_at_drop) == (2, 3, 0));
-    }
-    Ok(())
+    end_marked(rt.alloc(), true)?;
+    end_marked(rt.alloc(), false)
 }

@@ -3,7 +3,7 @@
 use crate::fixtures::{ENDPOINT, event};
 use crate::messages::ACF_720;
 use crate::replays::fixtures::zone_of;
-use facts::ensure;
+use facts::all_hold;
 use pools::{FixedPool, Lend};
 use ras_core::{Change, Datagram, Outcome, Snapshot, Zone};
 use ras_module::Octets;
@@ -26,6 +26,14 @@ fn reply_of(alloc: Global, bytes: &[u8]) -> Result<Option<Datagram>, Fail> {
     }))
 }
 
+/// Whether these octets are sent to the endpoint.
+fn is_sent(outcome: &Outcome, bytes: &[u8]) -> bool {
+    match &outcome.output {
+        Some(sent) => sent.to == ENDPOINT && sent.bytes.as_slice() == bytes,
+        None => false,
+    }
+}
+
 /// Offers the step with the reply that was recorded, which is accepted, and otherwise in vain: with
 /// the other one, and as if no pool was asked. The snapshot is then the state of the zone.
 fn accept_as_recorded(
@@ -38,31 +46,26 @@ fn accept_as_recorded(
     other: &[u8],
 ) -> Result<(), Fail> {
     let lent = Some(Lend::Lent(LEFT));
-    ensure(outcome.answer == lent, "the pool lent what is left")?;
-    ensure(
-        outcome.output == reply_of(alloc, recorded)?,
-        "the reply is the one recorded",
-    )?;
+    let is_lent = outcome.answer == lent;
+    let is_recorded = is_sent(outcome, recorded);
     outcome.output = reply_of(alloc, other)?;
-    ensure(
-        !accepts(snapshot, event, outcome)?,
-        "the other reply isn't accepted",
-    )?;
+    let takes_other = accepts(snapshot, event, outcome)?;
     outcome.output = reply_of(alloc, recorded)?;
     outcome.answer = None;
-    ensure(
-        !accepts(snapshot, event, outcome)?,
-        "a step that asks no pool isn't accepted",
-    )?;
+    let takes_unasked = accepts(snapshot, event, outcome)?;
     outcome.answer = lent;
-    ensure(
-        accepts(snapshot, event, outcome)?,
-        "the step is accepted as it was recorded",
-    )?;
-    ensure(
-        same(snapshot, zone),
-        "the snapshot is the state of the zone",
-    )
+    let is_accepted = accepts(snapshot, event, outcome)?;
+    all_hold(&[
+        (is_lent, "the pool lent what is left"),
+        (is_recorded, "the reply is the one recorded"),
+        (!takes_other, "the other reply isn't accepted"),
+        (!takes_unasked, "a step that asks no pool isn't accepted"),
+        (is_accepted, "the step is accepted as it was recorded"),
+        (
+            same(snapshot, zone),
+            "the snapshot is the state of the zone",
+        ),
+    ])
 }
 
 /// Does so with the step in which a second call is lent what is left, behind a call of 1,280 units.

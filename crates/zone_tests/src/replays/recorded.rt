@@ -3,7 +3,7 @@
 use crate::fixtures::zone;
 use crate::replays::fixtures::call;
 use books::Book;
-use facts::ensure;
+use facts::{all_hold, ensure};
 use pools::FixedPool;
 use ras_core::{Snapshot, Zone};
 use std::alloc::Global;
@@ -25,11 +25,13 @@ fn accept_each(
     }
     let first = book.entries.first().ok_or("an entry")?;
     let again = accepts(snapshot, &first.event, &first.outcome)?;
-    ensure(!again, "an entry that comes twice isn't accepted")?;
-    ensure(
-        same(snapshot, zone),
-        "the snapshot is the state of the zone",
-    )
+    all_hold(&[
+        (!again, "an entry that comes twice isn't accepted"),
+        (
+            same(snapshot, zone),
+            "the snapshot is the state of the zone",
+        ),
+    ])
 }
 
 /// Does so with a call that begins at this zone.

@@ -3,7 +3,8 @@
 
 use crate::messages::SECOND_ACF_1280;
 use crate::worlds::fixtures::{
-    Looked, apply, event, event_from, find_run, post, receive, serve, take, take_to, world,
+    Looked, apply, event, event_from, expect_all, find_run, post, receive, serve, take, take_to,
+    world,
 };
 use facts::expect;
 use history::{Acted, World};
@@ -45,15 +46,14 @@ fn decide(alloc: Global, world: &mut World<FixedPool>, first: usize) -> Looked {
     let second = if first == 0 { 1 } else { 0 };
     receive(world, 0, event(alloc, &ARQ, 1)?)?;
     receive(world, 1, event(alloc, &ARQ_OF_A_SECOND_CALL, 1)?)?;
-    expect(
-        answer_to(world, first) == Some(Lend::Lent(1_280)),
-        "the first call is lent what it asks for",
-    )?;
-    expect(
-        answer_to(world, second) == Some(Lend::Refused),
-        "the second call is refused",
-    )?;
-    expect(world.zone().in_use() == 1_280, "1,280 units are in use")
+    let is_lent = answer_to(world, first) == Some(Lend::Lent(1_280));
+    let is_refused = answer_to(world, second) == Some(Lend::Refused);
+    let is_in_use = world.zone().in_use() == 1_280;
+    expect_all(&[
+        (is_lent, "the first call is lent what it asks for"),
+        (is_refused, "the second call is refused"),
+        (is_in_use, "1,280 units are in use"),
+    ])
 }
 
 /// The worker posts its reply, and it has these octets.

@@ -14,6 +14,14 @@ use zone_events::{Datagram, Event};
 /// The fact that doesn't hold, if there is one.
 pub type Looked = Result<(), &'static str>;
 
+/// The first of these facts that doesn't hold, if there is one.
+pub fn expect_all(facts: &[(bool, &'static str)]) -> Looked {
+    for (holds, fact) in facts {
+        expect(*holds, fact)?;
+    }
+    Ok(())
+}
+
 /// The fact without which nothing is tried.
 pub const MEMORY: &str = "there is memory";
 

@@ -1,7 +1,7 @@
 //! What comes of orders in which workers act.
 
 use crate::worlds::fixtures::{
-    Looked, apply, event, find_run, make_step, post, receive, serve, take, turn, world,
+    Looked, apply, event, expect_all, find_run, make_step, post, receive, serve, take, turn, world,
 };
 use books::Entry;
 use facts::expect;
@@ -132,6 +132,8 @@ fn a_ring_of_one_drops_the_second_reply(rt: HostRuntime) -> Looked {
     drop(zone);
     drop(book);
     gone?;
-    expect(steps == 4, "a closed world leaves its zone, of four steps")?;
-    expect(is_counted, "it leaves a book of the four steps of one seat")
+    expect_all(&[
+        (steps == 4, "a closed world leaves its zone, of four steps"),
+        (is_counted, "it leaves a book of the four steps of one seat"),
+    ])
 }

@@ -1,6 +1,8 @@
 //! What a world refuses, and that it stays as it was.
 
-use crate::worlds::fixtures::{Looked, MEMORY, event, receive, serve, turn, world, zone};
+use crate::worlds::fixtures::{
+    Looked, MEMORY, event, expect_all, receive, serve, turn, world, zone,
+};
 use facts::expect;
 use history::{World, WorldFault, WorldStep};
 use pools::FixedPool;
@@ -67,8 +69,10 @@ fn refuse_steps(alloc: Global, world: &mut World<FixedPool>) -> Looked {
     refuse_nobody(world)?;
     refuse_idle(world)?;
     refuse_busy(alloc, world)?;
-    expect(world.zone().steps() == 1, "the zone made one step")?;
-    expect(world.book().entries.len() == 1, "the book has one entry")
+    expect_all(&[
+        (world.zone().steps() == 1, "the zone made one step"),
+        (world.book().entries.len() == 1, "the book has one entry"),
+    ])
 }
 
 #[test]

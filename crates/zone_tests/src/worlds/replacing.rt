@@ -1,6 +1,8 @@
 //! A pool that is replaced in a world.
 
-use crate::worlds::fixtures::{Looked, MEMORY, event, event_from, find_run, serve, zone};
+use crate::worlds::fixtures::{
+    Looked, MEMORY, event, event_from, expect_all, find_run, serve, zone,
+};
 use facts::expect;
 use history::World;
 use pools::{FixedPool, Pool, ReplaceFault};
@@ -56,14 +58,14 @@ fn find_replacement(world: &World<FixedPool>, seat: usize, call: usize) -> Looke
         }
         Change::Event(_) => false,
     };
-    expect(is_change, "the entry tells which pool was offered")?;
-    expect(entry.seat == seat, "it is of the seat behind the workers'")?;
-    expect(entry.call == call, "the seat's steps are counted")?;
-    expect(
-        entry.outcome.note == Note::Replaced(0),
-        "the pool was replaced",
-    )?;
-    expect(entry.outcome.output.is_none(), "nothing is sent")
+    let is_noted = entry.outcome.note == Note::Replaced(0);
+    expect_all(&[
+        (is_change, "the entry tells which pool was offered"),
+        (entry.seat == seat, "it is of the seat behind the workers'"),
+        (entry.call == call, "the seat's steps are counted"),
+        (is_noted, "the pool was replaced"),
+        (entry.outcome.output.is_none(), "nothing is sent"),
+    ])
 }
 
 /// The first pool is replaced by one of 2,000 units, and the old one, of this limit, comes back
@@ -72,16 +74,23 @@ fn exchange(world: &mut World<FixedPool>, limit: u64) -> Looked {
     let Ok(old) = replace(world, 0, 2_000) else {
         return Err("a pool that can carry the loans is taken");
     };
-    expect(old.limit() == limit, "the old pool comes back")?;
-    expect(old.lent() == 0, "it has nothing lent")
+    let is_back = old.limit() == limit;
+    let is_idle = old.lent() == 0;
+    drop(old);
+    expect_all(&[
+        (is_back, "the old pool comes back"),
+        (is_idle, "it has nothing lent"),
+    ])
 }
 
 /// The pool is replaced over the call; then a worker goes on, and it is replaced once more.
 fn replace_twice(alloc: Global, world: &mut World<FixedPool>) -> Looked {
     exchange(world, 2_500)?;
-    expect(world.book().entries.len() == 1, "the book has one entry")?;
+    expect_all(&[
+        (world.book().entries.len() == 1, "the book has one entry"),
+        (world.zone().in_use() == 1_280, "the call goes on"),
+    ])?;
     find_replacement(world, 1, 0)?;
-    expect(world.zone().in_use() == 1_280, "the call goes on")?;
     find_run(world)?;
     serve(world, 0, event(alloc, &GRQ, 1)?)?;
     exchange(world, 2_000)?;
@@ -120,8 +129,10 @@ fn refuse_pools(world: &mut World<FixedPool>) -> Looked {
     be_refused(world, 0, 1_279, ReplaceFault::NotLent, small)?;
     let nowhere = "one for a pool that isn't there is refused, and comes back";
     be_refused(world, 1, 2_000, ReplaceFault::NoPool, nowhere)?;
-    expect(world.book().entries.is_empty(), "the book stays empty")?;
-    expect(world.zone().in_use() == 1_280, "the call goes on")
+    expect_all(&[
+        (world.book().entries.is_empty(), "the book stays empty"),
+        (world.zone().in_use() == 1_280, "the call goes on"),
+    ])
 }
 
 #[test]

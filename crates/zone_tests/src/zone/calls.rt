@@ -1,8 +1,8 @@
 //! Calls of a zone, from admission to disengaging.
 
-use crate::fixtures::{CALL, CALL_LIMIT, POOL, REST, event_from, source, zone};
+use crate::fixtures::{CALL, CALL_LIMIT, POOL, REST, all_hold_of, event_from, source, zone};
 use admission::Call;
-use facts::{ensure, ensure_of};
+use facts::{all_hold, ensure};
 use pools::{FixedPool, Lend, Pool};
 use ras_core::Zone;
 use ras_module::CallKey;
@@ -26,12 +26,16 @@ fn send_all(alloc: Global, zone: &mut Zone<FixedPool>, rows: &[Row<'_>]) -> Resu
         };
         let is_answered = outcome.answer == *answer;
         drop(outcome);
-        ensure_of(name, is_sent, "its reply is sent to it")?;
-        ensure_of(name, is_answered, "the pool answers so, if it is asked")?;
-        ensure_of(
+        all_hold_of(
             name,
-            zone.in_use() == *in_use,
-            "as many units are in use as it says",
+            &[
+                (is_sent, "its reply is sent to it"),
+                (is_answered, "the pool answers so, if it is asked"),
+                (
+                    zone.in_use() == *in_use,
+                    "as many units are in use as it says",
+                ),
+            ],
         )?;
     }
     Ok(())
@@ -76,20 +80,22 @@ fn compare_one_left(calls: &[(CallKey, Call)]) -> Result<(), Fail> {
         return Err(Fail::from("the call has one leg"));
     };
     let digits = [48, 48, 48, 50];
-    ensure(key.octets == [0x11; 16], "it is the first call")?;
-    ensure(call.pool == 0, "it has its units of the first pool")?;
-    ensure(
-        u64::from(call.units) == CALL_LIMIT,
-        "it has the most units that a call may have",
-    )?;
-    ensure(
-        leg.endpoint.as_slice() == digits.as_slice(),
-        "the leg is that of 0002",
-    )?;
-    ensure(
-        leg.told.ip == [10, 0, 0, 6],
-        "0002 was told its own address",
-    )
+    all_hold(&[
+        (key.octets == [0x11; 16], "it is the first call"),
+        (call.pool == 0, "it has its units of the first pool"),
+        (
+            u64::from(call.units) == CALL_LIMIT,
+            "it has the most units that a call may have",
+        ),
+        (
+            leg.endpoint.as_slice() == digits.as_slice(),
+            "the leg is that of 0002",
+        ),
+        (
+            leg.told.ip == [10, 0, 0, 6],
+            "0002 was told its own address",
+        ),
+    ])
 }
 
 #[test]
@@ -119,14 +125,16 @@ fn compare_refusing_pool(pools: &[FixedPool]) -> Result<(), Fail> {
     let [pool] = pools else {
         return Err(Fail::from("one pool comes back"));
     };
-    ensure(pool.limit() == POOL, "the pool has its units")?;
-    ensure(pool.lent() == 0, "nothing is lent")?;
-    ensure(pool.refusals() == 1, "it refused once")?;
-    ensure(pool.waits() == 0, "nobody had to wait")?;
-    ensure(
-        pool.last() == Some((CALL, Lend::Refused)),
-        "it refused the second call at last",
-    )
+    all_hold(&[
+        (pool.limit() == POOL, "the pool has its units"),
+        (pool.lent() == 0, "nothing is lent"),
+        (pool.refusals() == 1, "it refused once"),
+        (pool.waits() == 0, "nobody had to wait"),
+        (
+            pool.last() == Some((CALL, Lend::Refused)),
+            "it refused the second call at last",
+        ),
+    ])
 }
 
 #[test]

@@ -2,8 +2,7 @@
 //! contracts say it of what the set of pools counts: how often a zone asks its pools, and how often
 //! they have their turn.
 
-use crate::fixtures::{CALL, POOL, event_from, source, zone_over};
-use facts::ensure_of;
+use crate::fixtures::{CALL, POOL, all_hold_of, event_from, source, zone_over};
 use pools::{FixedPool, Lend, PacedPool, Pool};
 use ras_core::{ConfigParts, DueItem, Event, Moment, Network, Networks, Note, Zone};
 use std::alloc::Global;
@@ -106,7 +105,7 @@ impl<P: Pool> Pool for CountingPool<P> {
 
 /// A zone over these two pools, of which the first serves 10.1.0.0/16, and the second all other
 /// addresses.
-fn counted_zone<P: Pool>(
+fn zone_over_two<P: Pool>(
     alloc: Global,
     mut parts: ConfigParts,
     first: CountingPool<P>,
@@ -123,51 +122,80 @@ fn counted_zone<P: Pool>(
     zone_over(alloc, parts, pools)
 }
 
+/// Such a zone, with what its pools have met.
+#[derive(Drop)]
+pub struct CountedZone<P: Pool> {
+    pub zone: Zone<CountingPool<P>>,
+    pub first: Arc<Met>,
+    pub second: Arc<Met>,
+}
+
+/// A pool that counts, and what it has met.
+fn counting<P: Pool>(alloc: Global, pool: P) -> Result<(CountingPool<P>, Arc<Met>), Fail> {
+    let met = Arc::new(alloc, Met::new())?;
+    let pool = CountingPool::new(pool, &met)?;
+    Ok((pool, met))
+}
+
+/// Such a zone over these two pools.
+fn counted<P: Pool>(
+    alloc: Global,
+    parts: ConfigParts,
+    first: P,
+    second: P,
+) -> Result<CountedZone<P>, Fail> {
+    let (first_pool, first) = counting(alloc, first)?;
+    let (second_pool, second) = counting(alloc, second)?;
+    let zone = zone_over_two(alloc, parts, first_pool, second_pool)?;
+    Ok(CountedZone {
+        zone,
+        first,
+        second,
+    })
+}
+
 /// Such a zone over pools of `limit` units.
-pub fn fixed_zone(
+pub fn fixed(
     alloc: Global,
     parts: ConfigParts,
     limit: u64,
-    first: &Arc<Met>,
-    second: &Arc<Met>,
-) -> Result<Zone<CountingPool<FixedPool>>, Fail> {
-    let first = CountingPool::new(FixedPool::new(limit), first)?;
-    let second = CountingPool::new(FixedPool::new(limit), second)?;
-    counted_zone(alloc, parts, first, second)
+) -> Result<CountedZone<FixedPool>, Fail> {
+    counted(alloc, parts, FixedPool::new(limit), FixedPool::new(limit))
 }
 
 /// Such a zone over pools that lend what the worked call uses between two turns.
-pub fn paced_zone(
-    alloc: Global,
-    parts: ConfigParts,
-    first: &Arc<Met>,
-    second: &Arc<Met>,
-) -> Result<Zone<CountingPool<PacedPool>>, Fail> {
-    let first = CountingPool::new(PacedPool::new(POOL, CALL), first)?;
-    let second = CountingPool::new(PacedPool::new(POOL, CALL), second)?;
-    counted_zone(alloc, parts, first, second)
+pub fn paced(alloc: Global, parts: ConfigParts) -> Result<CountedZone<PacedPool>, Fail> {
+    let first = PacedPool::new(POOL, CALL);
+    counted(alloc, parts, first, PacedPool::new(POOL, CALL))
 }
 
 /// Sends the datagram of 10.0.0.LAST, which has to get this reply, or none if it is empty, and to
 /// be noted so.
 pub fn send<P: Pool>(
     alloc: Global,
-    zone: &mut Zone<CountingPool<P>>,
+    counted: &mut CountedZone<P>,
     row: &str,
     last: u8,
     datagram: &[u8],
     reply: &[u8],
     note: Note,
 ) -> Result<(), Fail> {
-    let outcome = zone.step(event_from(alloc, source(last), datagram, 0)?)?;
+    let outcome = counted
+        .zone
+        .step(event_from(alloc, source(last), datagram, 0)?)?;
     let is_sent = match &outcome.output {
         Some(sent) => sent.bytes.as_slice() == reply,
         None => reply.is_empty(),
     };
     let is_noted = outcome.note == note;
     drop(outcome);
-    ensure_of(row, is_sent, "it gets its reply")?;
-    ensure_of(row, is_noted, "it is noted as it should be")
+    all_hold_of(
+        row,
+        &[
+            (is_sent, "it gets its reply"),
+            (is_noted, "it is noted as it should be"),
+        ],
+    )
 }
 
 /// What is noted of a turn.
@@ -202,27 +230,26 @@ pub type TurnRow<'a> = (&'a str, u64, Kind, u64, u64);
 
 /// Makes these turns, of which each is noted as its row says, with pools that met what it says. The
 /// first pool is never asked.
-pub fn make_turns<P: Pool>(
-    zone: &mut Zone<CountingPool<P>>,
-    first: &Met,
-    second: &Met,
-    rows: &[TurnRow<'_>],
-) -> Result<(), Fail> {
+pub fn make_turns<P: Pool>(counted: &mut CountedZone<P>, rows: &[TurnRow<'_>]) -> Result<(), Fail> {
     for (name, milliseconds, kind, lends, turns) in rows {
         let turn = Event::Turn(Moment::new(*milliseconds).ok_or("a moment")?);
-        let note = zone.step(turn)?.note;
-        let is_noted = kind_of(note) == Some(*kind);
-        ensure_of(name, is_noted, "the turn is noted as its row says")?;
-        ensure_of(
+        let note = counted.zone.step(turn)?.note;
+        all_hold_of(
             name,
-            first.is(0, *turns),
-            "the first pool has had its turns alone",
-        )?;
-        let has_met = second.is(*lends, *turns);
-        ensure_of(
-            name,
-            has_met,
-            "the second pool was asked and had its turns as the row says",
+            &[
+                (
+                    kind_of(note) == Some(*kind),
+                    "the turn is noted as its row says",
+                ),
+                (
+                    counted.first.is(0, *turns),
+                    "the first pool has had its turns alone",
+                ),
+                (
+                    counted.second.is(*lends, *turns),
+                    "the second pool was asked and had its turns as the row says",
+                ),
+            ],
         )?;
     }
     Ok(())

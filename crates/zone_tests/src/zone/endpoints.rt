@@ -1,8 +1,8 @@
 //! Endpoints that come, stay and go.
 
-use crate::fixtures::{event_from, source, zone};
+use crate::fixtures::{all_hold_of, event_from, source, zone};
 use crate::messages::{RCF_ANEW, UCF};
-use facts::{ensure, ensure_of};
+use facts::all_hold;
 use pools::FixedPool;
 use ras_core::Zone;
 use registrations::Registration;
@@ -30,16 +30,19 @@ fn send(alloc: Global, zone: &mut Zone<FixedPool>, row: &Row<'_>) -> Result<(), 
     let is_given = outcome.given.is_some();
     drop(outcome);
     let count = zone.endpoints()?.as_slice().len();
-    ensure_of(name, is_sent, "its reply is sent to it")?;
-    ensure_of(
+    all_hold_of(
         name,
-        is_given == is_new,
-        "an identifier is given to who is new alone",
-    )?;
-    ensure_of(
-        name,
-        count == endpoints,
-        "as many endpoints are registered as it says",
+        &[
+            (is_sent, "its reply is sent to it"),
+            (
+                is_given == is_new,
+                "an identifier is given to who is new alone",
+            ),
+            (
+                count == endpoints,
+                "as many endpoints are registered as it says",
+            ),
+        ],
     )
 }
 
@@ -75,10 +78,12 @@ fn compare_those_left(endpoints: &[Registration]) -> Result<(), Fail> {
     };
     let is_first = first.identifier.as_slice() == [48, 48, 48, 50].as_slice();
     let is_second = second.identifier.as_slice() == [48, 48, 48, 51].as_slice();
-    ensure(is_first, "the first one is 0002")?;
-    ensure(is_second, "the second one is 0003")?;
-    ensure(second.deadline == NOW + 60_000, "it was granted 60 seconds")?;
-    ensure(second.heard == NOW, "it was heard as it came")
+    all_hold(&[
+        (is_first, "the first one is 0002"),
+        (is_second, "the second one is 0003"),
+        (second.deadline == NOW + 60_000, "it was granted 60 seconds"),
+        (second.heard == NOW, "it was heard as it came"),
+    ])
 }
 
 #[test]

@@ -1,16 +1,17 @@
 //! The bandwidth in use behind each step of worked runs, and what stands in the zone at their end.
 
 use crate::fixtures::{
-    CALL, CALL_LIMIT, DAY, ENDPOINT, LIMIT, POOL, REST, event_from, parts, source, zone_over,
+    CALL, CALL_LIMIT, DAY, ENDPOINT, LIMIT, POOL, REST, all_hold_of, event_from, parts, source,
+    zone_over,
 };
 use crate::messages::{
     ACF_720, DRQ_AGAIN, DRQ_OF_0002, IRQ_2, IRQ_3, RCF_0001_FOR_AN_HOUR, RCF_0002_FOR_AN_HOUR,
 };
 use admission::Call;
-use facts::{ensure, ensure_of};
+use facts::{all_hold, ensure};
 use pools::{FixedPool, Lend, PacedPool, Pool};
 use ras_core::{ConfigParts, Datagram, DueItem, Event, Moment, Note, Zone};
-use ras_module::{Address, Alias, BmpString, CallKey, DialledDigits, EndpointId, Octets};
+use ras_module::{Address, Alias, BmpString, CallKey, DialledDigits, EndpointId};
 use registrations::Registration;
 use std::alloc::Global;
 use std::test::Fail;
@@ -96,41 +97,46 @@ fn turn<'a>(
     }
 }
 
-/// Makes this step. What a turn sends goes to 10.0.0.5.
+/// The event of this step.
+fn event_of(alloc: Global, line: &Line<'_>) -> Result<Event, Fail> {
+    match line.comes {
+        Some((last, bytes)) => event_from(alloc, source(last), bytes, line.at),
+        None => Ok(Event::Turn(Moment::new(line.at).ok_or("a moment")?)),
+    }
+}
+
+/// Whether the datagram of this step is sent, if it has one. What a turn sends goes to 10.0.0.5.
+fn is_sent(line: &Line<'_>, output: &Option<Datagram>) -> bool {
+    let to = match line.comes {
+        Some((last, _)) => source(last),
+        None => ENDPOINT,
+    };
+    match output {
+        Some(sent) => {
+            !line.sent.is_empty() && sent.to == to && sent.bytes.as_slice() == line.sent
+        }
+        None => line.sent.is_empty(),
+    }
+}
+
+/// Makes this step.
 fn make_step<P: Pool>(alloc: Global, zone: &mut Zone<P>, line: &Line<'_>) -> Result<(), Fail> {
-    let (event, to) = match line.comes {
-        Some((last, bytes)) => (
-            event_from(alloc, source(last), bytes, line.at)?,
-            source(last),
-        ),
-        None => (
-            Event::Turn(Moment::new(line.at).ok_or("a moment")?),
-            ENDPOINT,
-        ),
-    };
-    let outcome = zone.step(event)?;
-    let sent = if line.sent.is_empty() {
-        None
-    } else {
-        let bytes = Octets::from_vec(line.sent.to_vec(alloc)?);
-        Some(Datagram { to, bytes })
-    };
+    let outcome = zone.step(event_of(alloc, line)?)?;
     let is_noted = outcome.note == line.note;
-    let is_sent = outcome.output == sent;
+    let is_sent = is_sent(line, &outcome.output);
     let is_answered = outcome.answer == line.answer;
-    drop(sent);
     drop(outcome);
-    ensure_of(line.name, is_noted, "it is noted as it should be")?;
-    ensure_of(line.name, is_sent, "its datagram is sent, if it has one")?;
-    ensure_of(
+    all_hold_of(
         line.name,
-        is_answered,
-        "the pool answers so, if it is asked",
-    )?;
-    ensure_of(
-        line.name,
-        zone.in_use() == line.in_use,
-        "as many units are in use as it says",
+        &[
+            (is_noted, "it is noted as it should be"),
+            (is_sent, "its datagram is sent, if it has one"),
+            (is_answered, "the pool answers so, if it is asked"),
+            (
+                zone.in_use() == line.in_use,
+                "as many units are in use as it says",
+            ),
+        ],
     )
 }
 
@@ -189,16 +195,18 @@ fn compare_endpoint(
     last: u8,
     aliases: &[Alias],
 ) -> Result<(), Fail> {
-    ensure(
-        found.identifier == *identifier,
-        "the endpoint has its identifier",
-    )?;
-    ensure(
-        found.call_signal == call_signal(last),
-        "it has its call signal address",
-    )?;
-    ensure(found.ras == source(last), "it has its RAS address")?;
-    ensure(found.aliases.as_slice() == aliases, "it has its aliases")
+    all_hold(&[
+        (
+            found.identifier == *identifier,
+            "the endpoint has its identifier",
+        ),
+        (
+            found.call_signal == call_signal(last),
+            "it has its call signal address",
+        ),
+        (found.ras == source(last), "it has its RAS address"),
+        (found.aliases.as_slice() == aliases, "it has its aliases"),
+    ])
 }
 
 /// Compares endpoints with those that have these identifiers, each at 10.0.0.LAST with its aliases.
@@ -245,17 +253,19 @@ fn compare_first_call(calls: &[(CallKey, Call)]) -> Result<(), Fail> {
     let [leg] = call.legs.as_slice() else {
         return Err(Fail::from("the call has one leg"));
     };
-    ensure(key.octets == [0x11; 16], "it is the first call")?;
-    ensure(call.pool == 0, "it has its units of the first pool")?;
-    ensure(
-        u64::from(call.units) == CALL,
-        "it has the units that it wants",
-    )?;
-    ensure(
-        leg.endpoint == identifier(FIRST)?,
-        "the leg is that of 0001",
-    )?;
-    ensure(leg.told == call_signal(6), "0001 was told to call 10.0.0.6")
+    all_hold(&[
+        (key.octets == [0x11; 16], "it is the first call"),
+        (call.pool == 0, "it has its units of the first pool"),
+        (
+            u64::from(call.units) == CALL,
+            "it has the units that it wants",
+        ),
+        (
+            leg.endpoint.as_slice() == FIRST.as_slice(),
+            "the leg is that of 0001",
+        ),
+        (leg.told == call_signal(6), "0001 was told to call 10.0.0.6"),
+    ])
 }
 
 /// Finds the first call open and no other.

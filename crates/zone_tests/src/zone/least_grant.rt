@@ -1,7 +1,9 @@
 //! The least grant: a loan that leaves a call with less than that, and with less than it wants,
 //! goes back in the step that took it, and the request is rejected.
 
-use crate::fixtures::{CALL, LIMIT, POOL, event, event_from, parts, sent, source, zone_over};
+use crate::fixtures::{
+    CALL, LIMIT, POOL, all_hold_of, event, event_from, parts, sent, source, zone_over,
+};
 use crate::messages::{ACF_720, ACF_OF_900, ARQ_OF_100, ARQ_OF_900, BCF_1900, RIP_OF_100};
 use crate::zone::counting::{CountingPool, Met};
 use facts::{ensure, ensure_of};
@@ -80,30 +82,27 @@ fn look<P: Pool>(
     if pools.len() != 1 {
         return Err(Fail::from("there is one pool"));
     }
-    ensure_of(
+    all_hold_of(
         row,
-        pools.get(0) == figures,
-        "the zone shows the figures of the pool",
-    )?;
-    ensure_of(
-        row,
-        met.is(seen.lends, 0),
-        "the pool was asked as often as it says",
-    )?;
-    ensure_of(
-        row,
-        met.got_back(seen.returns),
-        "units came back as often as it says",
-    )?;
-    ensure_of(
-        row,
-        met.has_lent(seen.lent),
-        "the pool has lent what it says",
-    )?;
-    ensure_of(
-        row,
-        zone.in_use() == seen.lent,
-        "what the pool has lent is in use",
+        &[
+            (
+                pools.get(0) == figures,
+                "the zone shows the figures of the pool",
+            ),
+            (
+                met.is(seen.lends, 0),
+                "the pool was asked as often as it says",
+            ),
+            (
+                met.got_back(seen.returns),
+                "units came back as often as it says",
+            ),
+            (met.has_lent(seen.lent), "the pool has lent what it says"),
+            (
+                zone.in_use() == seen.lent,
+                "what the pool has lent is in use",
+            ),
+        ],
     )
 }
 
@@ -210,15 +209,20 @@ struct Case<'a> {
     units: (u64, Option<u64>),
 }
 
-/// Makes the case's zone over a pool that counts, and asks it so. The pool's last request was for
-/// what it lent.
+/// Makes the case's zone over a pool that counts, and asks it so.
 fn try_case(alloc: Global, case: &Case<'_>) -> Result<(), Fail> {
     let met = Arc::new(alloc, Met::new())?;
-    let pool = CountingPool::new(FixedPool::new(POOL), &met)?;
-    let mut zone = zone_of(alloc, case.limit, case.least_grant, pool)?;
-    let ended = ask_behind_a_call(alloc, &mut zone, &met, &case.asked, case.units);
-    let last = last_of(&zone.close());
+    let ended = try_over(alloc, case, &met);
     drop(met);
+    ended
+}
+
+/// Does so over a pool that counts there. The pool's last request was for what it lent.
+fn try_over(alloc: Global, case: &Case<'_>, met: &Arc<Met>) -> Result<(), Fail> {
+    let pool = CountingPool::new(FixedPool::new(POOL), met)?;
+    let mut zone = zone_of(alloc, case.limit, case.least_grant, pool)?;
+    let ended = ask_behind_a_call(alloc, &mut zone, met, &case.asked, case.units);
+    let last = last_of(&zone.close());
     ended?;
     let asked = Some((case.lent, Lend::Lent(case.lent)));
     ensure(last == asked, "the pool was asked for what it lent at last")
@@ -389,17 +393,23 @@ fn use_up_the_burst(
     Ok(())
 }
 
-#[test]
-fn a_loan_that_went_back_counts_against_the_burst(rt: HostRuntime) -> Result<(), Fail> {
-    let met = Arc::new(rt.alloc(), Met::new())?;
-    let pool = CountingPool::new(PacedPool::new(POOL, SMALL + BURST_LEFT), &met)?;
-    let mut zone = zone_of(rt.alloc(), LIMIT, 1_000, pool)?;
-    let ended = use_up_the_burst(rt.alloc(), &mut zone, &met);
+/// Does so over a pool that counts there, which was asked for the third call at last.
+fn use_up_and_close(alloc: Global, met: &Arc<Met>) -> Result<(), Fail> {
+    let pool = CountingPool::new(PacedPool::new(POOL, SMALL + BURST_LEFT), met)?;
+    let mut zone = zone_of(alloc, LIMIT, 1_000, pool)?;
+    let ended = use_up_the_burst(alloc, &mut zone, met);
     let last = last_of(&zone.close());
-    drop(met);
     ended?;
     ensure(
         last == Some((THIRD, Lend::Wait)),
         "the pool was asked for the third call at last",
     )
+}
+
+#[test]
+fn a_loan_that_went_back_counts_against_the_burst(rt: HostRuntime) -> Result<(), Fail> {
+    let met = Arc::new(rt.alloc(), Met::new())?;
+    let ended = use_up_and_close(rt.alloc(), &met);
+    drop(met);
+    ended
 }

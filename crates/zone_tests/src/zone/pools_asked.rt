@@ -1,13 +1,12 @@
 //! How often a zone asks its pools, by pools that count for themselves.
 
-use crate::fixtures::{POOL, parts};
+use crate::fixtures::{POOL, all_hold_of, parts};
 use crate::messages::{KEEP_ALIVE_0001, LESS_BCF, LESS_BRQ, SAME_CALL_ACF, SAME_CALL_ARQ, UCF};
-use crate::zone::counting::{CountingPool, Kind, Met, fixed_zone, make_turns, paced_zone, send};
-use facts::{ensure, ensure_of};
+use crate::zone::counting::{CountedZone, Kind, fixed, make_turns, paced, send};
+use facts::all_hold;
 use pools::{FixedPool, PacedPool};
-use ras_core::{IgnoredCause, Note, Zone};
+use ras_core::{IgnoredCause, Note};
 use std::alloc::Global;
-use std::sync::Arc;
 use std::test::Fail;
 use vectors::replies::{ACF_900, ACF_1280, ARJ, BCF, DCF, GCF, RCF_0001, RCF_0002, RIP};
 use vectors::requests::{
@@ -18,12 +17,7 @@ use vectors::requests::{
 const SERVED: Note = Note::Served;
 
 /// Sends datagrams that aren't served, none of which asks a pool or gives one a turn.
-fn send_what_is_ignored(
-    alloc: Global,
-    zone: &mut Zone<CountingPool<FixedPool>>,
-    first: &Met,
-    second: &Met,
-) -> Result<(), Fail> {
+fn send_what_is_ignored(alloc: Global, counted: &mut CountedZone<FixedPool>) -> Result<(), Fail> {
     let rows: [(&str, &[u8], IgnoredCause); 4] = [
         ("too long", &[0; 4_097], IgnoredCause::TooLong),
         ("unreadable", &GRQ[..19], IgnoredCause::Unreadable),
@@ -35,59 +29,53 @@ fn send_what_is_ignored(
         ),
     ];
     for (name, datagram, cause) in rows {
-        send(alloc, zone, name, 5, datagram, &[], Note::Ignored(cause))?;
-        ensure_of(name, first.is(0, 0), "the first pool met nothing")?;
-        ensure_of(name, second.is(0, 0), "the second pool met nothing")?;
+        send(alloc, counted, name, 5, datagram, &[], Note::Ignored(cause))?;
+        all_hold_of(
+            name,
+            &[
+                (counted.first.is(0, 0), "the first pool met nothing"),
+                (counted.second.is(0, 0), "the second pool met nothing"),
+            ],
+        )?;
     }
     Ok(())
 }
 
 #[test]
 fn an_ignored_datagram_asks_no_pool(rt: HostRuntime) -> Result<(), Fail> {
-    let first = Arc::new(rt.alloc(), Met::new())?;
-    let second = Arc::new(rt.alloc(), Met::new())?;
-    let mut zone = fixed_zone(rt.alloc(), parts(rt.alloc())?, POOL, &first, &second)?;
-    let ended = send_what_is_ignored(rt.alloc(), &mut zone, &first, &second);
-    drop(zone);
-    drop(first);
-    drop(second);
+    let mut counted = fixed(rt.alloc(), parts(rt.alloc())?, POOL)?;
+    let ended = send_what_is_ignored(rt.alloc(), &mut counted);
+    drop(counted);
     ended
 }
 
 /// Fills a zone that keeps one reply with that of an endpoint. A request of another one for
 /// bandwidth then asks no pool.
-fn ask_while_busy(
-    alloc: Global,
-    zone: &mut Zone<CountingPool<FixedPool>>,
-    first: &Met,
-    second: &Met,
-) -> Result<(), Fail> {
+fn ask_while_busy(alloc: Global, counted: &mut CountedZone<FixedPool>) -> Result<(), Fail> {
     let busy = Note::Ignored(IgnoredCause::Busy);
     send(
         alloc,
-        zone,
+        counted,
         "registration",
         5,
         &RRQ_101,
         &RCF_0001,
         Note::Served,
     )?;
-    send(alloc, zone, "admission", 5, &ARQ, &[], busy)?;
-    ensure(first.is(0, 0), "the first pool met nothing")?;
-    ensure(second.is(0, 0), "the second pool met nothing")
+    send(alloc, counted, "admission", 5, &ARQ, &[], busy)?;
+    all_hold(&[
+        (counted.first.is(0, 0), "the first pool met nothing"),
+        (counted.second.is(0, 0), "the second pool met nothing"),
+    ])
 }
 
 #[test]
 fn a_busy_zone_asks_no_pool(rt: HostRuntime) -> Result<(), Fail> {
     let mut parts = parts(rt.alloc())?;
     parts.kept = 1;
-    let first = Arc::new(rt.alloc(), Met::new())?;
-    let second = Arc::new(rt.alloc(), Met::new())?;
-    let mut zone = fixed_zone(rt.alloc(), parts, POOL, &first, &second)?;
-    let ended = ask_while_busy(rt.alloc(), &mut zone, &first, &second);
-    drop(zone);
-    drop(first);
-    drop(second);
+    let mut counted = fixed(rt.alloc(), parts, POOL)?;
+    let ended = ask_while_busy(rt.alloc(), &mut counted);
+    drop(counted);
     ended
 }
 
@@ -97,12 +85,7 @@ fn a_busy_zone_asks_no_pool(rt: HostRuntime) -> Result<(), Fail> {
 /// registration, a sign of life and a repeat, nor for a leg in an open call, less bandwidth and an
 /// end. Units come back to it as often as the row says: for less bandwidth alone, since the call
 /// has a leg left. Meanwhile it has no turn, and the first pool meets nothing.
-fn send_each_request(
-    alloc: Global,
-    zone: &mut Zone<CountingPool<FixedPool>>,
-    first: &Met,
-    second: &Met,
-) -> Result<(), Fail> {
+fn send_each_request(alloc: Global, counted: &mut CountedZone<FixedPool>) -> Result<(), Fail> {
     let rows: [(&str, u8, &[u8], &[u8], Note, u64, u64); 14] = [
         ("discovery", 5, &GRQ, &GCF, SERVED, 0, 0),
         ("first one", 5, &RRQ_101, &RCF_0001, SERVED, 0, 0),
@@ -120,32 +103,31 @@ fn send_each_request(
         ("end of all", 5, &URQ, &UCF, SERVED, 3, 1),
     ];
     for (name, last, request, reply, note, lends, returns) in rows {
-        send(alloc, zone, name, last, request, reply, note)?;
-        ensure_of(
+        send(alloc, counted, name, last, request, reply, note)?;
+        let is_untouched = counted.first.is(0, 0) && counted.first.got_back(0);
+        all_hold_of(
             name,
-            second.is(lends, 0),
-            "the second pool was asked as often as it says",
+            &[
+                (
+                    counted.second.is(lends, 0),
+                    "the second pool was asked as often as it says",
+                ),
+                (
+                    counted.second.got_back(returns),
+                    "units came back as often as it says",
+                ),
+                (is_untouched, "the first pool met nothing"),
+            ],
         )?;
-        ensure_of(
-            name,
-            second.got_back(returns),
-            "units came back as often as it says",
-        )?;
-        let is_untouched = first.is(0, 0) && first.got_back(0);
-        ensure_of(name, is_untouched, "the first pool met nothing")?;
     }
     Ok(())
 }
 
 #[test]
 fn a_request_for_bandwidth_asks_its_pool_once(rt: HostRuntime) -> Result<(), Fail> {
-    let first = Arc::new(rt.alloc(), Met::new())?;
-    let second = Arc::new(rt.alloc(), Met::new())?;
-    let mut zone = fixed_zone(rt.alloc(), parts(rt.alloc())?, POOL, &first, &second)?;
-    let ended = send_each_request(rt.alloc(), &mut zone, &first, &second);
-    drop(zone);
-    drop(first);
-    drop(second);
+    let mut counted = fixed(rt.alloc(), parts(rt.alloc())?, POOL)?;
+    let ended = send_each_request(rt.alloc(), &mut counted);
+    drop(counted);
     ended
 }
 
@@ -153,12 +135,7 @@ fn a_request_for_bandwidth_asks_its_pool_once(rt: HostRuntime) -> Result<(), Fai
 // each 500 milliseconds; its turn is due at 1,200.
 /// Lets a request wait, which asks its pool once each time that it is served again, until it is
 /// lent units.
-fn wait_until_lent(
-    alloc: Global,
-    zone: &mut Zone<CountingPool<PacedPool>>,
-    first: &Met,
-    second: &Met,
-) -> Result<(), Fail> {
+fn wait_until_lent(alloc: Global, counted: &mut CountedZone<PacedPool>) -> Result<(), Fail> {
     let requests: [(&str, u8, &[u8], &[u8]); 4] = [
         ("first registration", 5, &RRQ_101, &RCF_0001),
         ("second registration", 6, &RRQ_102, &RCF_0002),
@@ -166,7 +143,7 @@ fn wait_until_lent(
         ("second call", 5, &ARQ_OF_A_SECOND_CALL, &RIP),
     ];
     for (name, last, request, reply) in requests {
-        send(alloc, zone, name, last, request, reply, Note::Served)?;
+        send(alloc, counted, name, last, request, reply, Note::Served)?;
     }
     let turns = [
         ("before the first retry", 499, Kind::Idle, 2, 0),
@@ -178,19 +155,15 @@ fn wait_until_lent(
         ("third retry", 1_500, Kind::Retry, 5, 1),
         ("behind the third retry", 2_000, Kind::Idle, 5, 1),
     ];
-    make_turns(zone, first, second, &turns)
+    make_turns(counted, &turns)
 }
 
 #[test]
 fn a_request_that_waits_asks_its_pool_once_each_time(rt: HostRuntime) -> Result<(), Fail> {
     let mut parts = parts(rt.alloc())?;
     parts.pool_turn = 1_200;
-    let first = Arc::new(rt.alloc(), Met::new())?;
-    let second = Arc::new(rt.alloc(), Met::new())?;
-    let mut zone = paced_zone(rt.alloc(), parts, &first, &second)?;
-    let ended = wait_until_lent(rt.alloc(), &mut zone, &first, &second);
-    drop(zone);
-    drop(first);
-    drop(second);
+    let mut counted = paced(rt.alloc(), parts)?;
+    let ended = wait_until_lent(rt.alloc(), &mut counted);
+    drop(counted);
     ended
 }

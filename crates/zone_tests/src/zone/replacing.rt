@@ -1,7 +1,7 @@
 //! A pool of a zone is replaced while a call lives.
 
-use crate::fixtures::{CALL, CALL_LIMIT, POOL, REST, event, event_from, source, zone};
-use facts::{ensure, ensure_of};
+use crate::fixtures::{CALL, CALL_LIMIT, POOL, REST, all_hold_of, event, event_from, source, zone};
+use facts::{all_hold, ensure};
 use pools::{FixedPool, Lend, Pool, ReplaceFault};
 use ras_core::{Moment, Note, Outcome, Zone};
 use std::alloc::Global;
@@ -36,20 +36,27 @@ fn ask(
     };
     let is_answered = outcome.answer == Some(answer);
     drop(outcome);
-    ensure_of(row, is_sent, "it gets its reply")?;
-    ensure_of(row, is_answered, "the pool answers so")
+    all_hold_of(
+        row,
+        &[
+            (is_sent, "it gets its reply"),
+            (is_answered, "the pool answers so"),
+        ],
+    )
 }
 
 /// Compares an outcome with that of a replacement of the first pool, which tells nothing else.
 fn compare_replacement(outcome: &Outcome) -> Result<(), Fail> {
-    ensure(
-        outcome.note == Note::Replaced(0),
-        "the replacement is noted",
-    )?;
-    ensure(outcome.answer.is_none(), "no pool is asked in it")?;
-    ensure(outcome.output.is_none(), "nothing is sent for it")?;
-    ensure(outcome.dropped.is_none(), "nothing is dropped for it")?;
-    ensure(outcome.given.is_none(), "no identifier is given in it")
+    all_hold(&[
+        (
+            outcome.note == Note::Replaced(0),
+            "the replacement is noted",
+        ),
+        (outcome.answer.is_none(), "no pool is asked in it"),
+        (outcome.output.is_none(), "nothing is sent for it"),
+        (outcome.dropped.is_none(), "nothing is dropped for it"),
+        (outcome.given.is_none(), "no identifier is given in it"),
+    ])
 }
 
 /// Puts a fresh pool in the place of the zone's, which comes back with nothing lent. The outcome
@@ -69,8 +76,10 @@ fn replace(zone: &mut Zone<FixedPool>) -> Result<(), Fail> {
 fn go_on_over_a_fresh_pool(alloc: Global, zone: &mut Zone<FixedPool>) -> Result<(), Fail> {
     open_call(alloc, zone)?;
     replace(zone)?;
-    ensure(zone.in_use() == CALL, "the call keeps its units")?;
-    ensure(zone.steps() == 4, "the replacement was a step")?;
+    all_hold(&[
+        (zone.in_use() == CALL, "the call keeps its units"),
+        (zone.steps() == 4, "the replacement was a step"),
+    ])?;
     let second = &ARQ_OF_A_SECOND_CALL;
     ask(alloc, zone, "more bandwidth", &BRQ, Lend::Lent(REST), &BCF)?;
     ask(alloc, zone, "second call", second, Lend::Refused, &ARJ)
@@ -99,9 +108,14 @@ fn offer_in_vain(
     };
     let is_back = fresh.limit() == limit && fresh.lent() == 0;
     drop(fresh);
-    ensure_of(row, found == fault, "it is refused for this reason")?;
-    ensure_of(row, found.number() == number, "the reason has its number")?;
-    ensure_of(row, is_back, "it comes back with nothing lent")
+    all_hold_of(
+        row,
+        &[
+            (found == fault, "it is refused for this reason"),
+            (found.number() == number, "the reason has its number"),
+            (is_back, "it comes back with nothing lent"),
+        ],
+    )
 }
 
 /// Offers a pool of a unit less than is lent, and one for a pool that isn't there. The call then
@@ -117,8 +131,10 @@ fn stay_over_the_pool(alloc: Global, zone: &mut Zone<FixedPool>) -> Result<(), F
         4,
     )?;
     offer_in_vain(zone, "no such pool", 1, FRESH, ReplaceFault::NoPool, 2)?;
-    ensure(zone.in_use() == CALL, "the call keeps its units")?;
-    ensure(zone.steps() == 3, "what is refused is no step")?;
+    all_hold(&[
+        (zone.in_use() == CALL, "the call keeps its units"),
+        (zone.steps() == 3, "what is refused is no step"),
+    ])?;
     ask(alloc, zone, "more bandwidth", &BRQ, Lend::Lent(REST), &BCF)
 }
 
@@ -142,13 +158,15 @@ fn offer_with_a_loan(zone: &mut Zone<FixedPool>) -> Result<(), Fail> {
     };
     let has_its_loan = back.lent() == 1 && back.last() == Some((1, one));
     drop(back);
-    ensure(
-        told == Some(ReplaceFault::NotIdle),
-        "its fault is told beforehand",
-    )?;
-    ensure(fault == ReplaceFault::NotIdle, "it is refused for its loan")?;
-    ensure(fault.number() == 3, "the reason has its number")?;
-    ensure(has_its_loan, "it comes back with its loan")
+    all_hold(&[
+        (
+            told == Some(ReplaceFault::NotIdle),
+            "its fault is told beforehand",
+        ),
+        (fault == ReplaceFault::NotIdle, "it is refused for its loan"),
+        (fault.number() == 3, "the reason has its number"),
+        (has_its_loan, "it comes back with its loan"),
+    ])
 }
 
 #[test]

@@ -1,7 +1,7 @@
 //! The settings of a zone, and its pools' networks.
 
 use crate::fixtures::{DAY, POOL, parts};
-use facts::ensure;
+use facts::{all_hold, ensure};
 use pools::{FixedPool, PoolSet};
 use ras_core::{Config, ConfigFault, ConfigParts, Moment, Network, Networks, NewFault, Zone};
 use std::alloc::Global;
@@ -77,15 +77,17 @@ fn make(alloc: Global, networks: &[Option<Network>]) -> Result<(), Fail> {
         Err((set, fault)) => {
             let is_back = set.len() == 1 && set.figures(0).limit == POOL;
             drop(set);
-            ensure(is_back, "the pool comes back")?;
-            ensure(
-                fault == NewFault::WrongPools,
-                "the pools are named as the fault",
-            )?;
-            ensure(
-                networks.len() != 1,
-                "a zone with one network is made over one pool",
-            )
+            all_hold(&[
+                (is_back, "the pool comes back"),
+                (
+                    fault == NewFault::WrongPools,
+                    "the pools are named as the fault",
+                ),
+                (
+                    networks.len() != 1,
+                    "a zone with one network is made over one pool",
+                ),
+            ])
         }
     }
 }

@@ -1,7 +1,7 @@
 //! Steps and runs: discovery, repeats, turns.
 
-use crate::fixtures::{ENDPOINT, ask, event, sent, zone};
-use facts::{ensure, ensure_of};
+use crate::fixtures::{ENDPOINT, all_hold_of, ask, event, sent, zone};
+use facts::{all_hold, ensure};
 use pools::FixedPool;
 use ras_core::{
     DueItem, Event, IgnoredCause, Moment, NewFault, Note, Outcome, StepFault, Zone, prepare,
@@ -39,8 +39,13 @@ fn ask_thrice(alloc: Global, zone: &mut Zone<FixedPool>) -> Result<(), Fail> {
         let is_sent = is_sent(&outcome, &GCF);
         let is_noted = outcome.note == note;
         drop(outcome);
-        ensure_of(name, is_sent, "the gatekeeper is told")?;
-        ensure_of(name, is_noted, "it is noted as its row says")?;
+        all_hold_of(
+            name,
+            &[
+                (is_sent, "the gatekeeper is told"),
+                (is_noted, "it is noted as its row says"),
+            ],
+        )?;
     }
     ensure(zone.steps() == 3, "each request was a step")
 }
@@ -78,8 +83,13 @@ fn make_turns(zone: &mut Zone<FixedPool>) -> Result<(), Fail> {
         let is_silent = outcome.output.is_none();
         let is_noted = outcome.note == note;
         drop(outcome);
-        ensure_of(name, is_silent, "nothing is sent")?;
-        ensure_of(name, is_noted, "it is noted as its row says")?;
+        all_hold_of(
+            name,
+            &[
+                (is_silent, "nothing is sent"),
+                (is_noted, "it is noted as its row says"),
+            ],
+        )?;
     }
     Ok(())
 }
@@ -113,22 +123,24 @@ fn compare_four(alloc: Global, outcomes: &[Outcome]) -> Result<(), Fail> {
     let [first, cut, other, long] = outcomes else {
         return Err(Fail::from("there are four outcomes"));
     };
-    ensure(
-        *first == sent(alloc, &GCF)?,
-        "the first event is served with this reply alone",
-    )?;
-    ensure(
-        is_ignored(cut, IgnoredCause::Unreadable),
-        "the second one is unreadable",
-    )?;
-    ensure(
-        is_ignored(other, IgnoredCause::NotServed),
-        "the third one isn't served",
-    )?;
-    ensure(
-        is_ignored(long, IgnoredCause::TooLong),
-        "the fourth one is too long",
-    )
+    all_hold(&[
+        (
+            *first == sent(alloc, &GCF)?,
+            "the first event is served with this reply alone",
+        ),
+        (
+            is_ignored(cut, IgnoredCause::Unreadable),
+            "the second one is unreadable",
+        ),
+        (
+            is_ignored(other, IgnoredCause::NotServed),
+            "the third one isn't served",
+        ),
+        (
+            is_ignored(long, IgnoredCause::TooLong),
+            "the fourth one is too long",
+        ),
+    ])
 }
 
 /// Runs over the four events, which leaves the zone four steps on, at the latest moment.
@@ -140,13 +152,15 @@ fn run_on(alloc: Global, zone: &mut Zone<FixedPool>) -> Result<(), Fail> {
     drop(outcomes);
     drop(events);
     compared?;
-    ensure(is_run, "the run is whole")?;
-    ensure(zone.steps() == 4, "it made four steps")?;
-    ensure(
-        Some(zone.clock()) == Moment::new(40),
-        "the clock is at the latest moment",
-    )?;
-    ensure(!zone.is_closed(), "the zone takes further events")
+    all_hold(&[
+        (is_run, "the run is whole"),
+        (zone.steps() == 4, "it made four steps"),
+        (
+            Some(zone.clock()) == Moment::new(40),
+            "the clock is at the latest moment",
+        ),
+        (!zone.is_closed(), "the zone takes further events"),
+    ])
 }
 
 #[test]
@@ -181,13 +195,15 @@ fn step_what_was_read(alloc: Global, zone: &mut Zone<FixedPool>) -> Result<(), F
     let long = zone
         .step_prepared(prepare(alloc, event(alloc, &[0; 4_097], 6)?)?)?
         .note;
-    ensure(is_same, "what was read is the same event still")?;
-    ensure(is_sent, "the gatekeeper is told")?;
-    ensure(is_served, "the request is noted as served")?;
-    ensure(
-        long == Note::Ignored(IgnoredCause::TooLong),
-        "the long datagram is too long",
-    )
+    all_hold(&[
+        (is_same, "what was read is the same event still"),
+        (is_sent, "the gatekeeper is told"),
+        (is_served, "the request is noted as served"),
+        (
+            long == Note::Ignored(IgnoredCause::TooLong),
+            "the long datagram is too long",
+        ),
+    ])
 }
 
 #[test]
