@@ -181,12 +181,12 @@ fn keep(kept: &mut Kept, alloc: Global, number: u8) -> Result<(), Fail> {
     if kept.reserve(0).is_err() {
         kept.reserve(0)?;
     }
-    let reply = kept_reply(alloc, &confirm(number))?;
     let key = datagram(alloc, number)?;
     let born = u64::from(number);
     if kept.is_full() || !kept.is_free(&key, born) {
         return Err(Fail::from("it can't be kept"));
     }
+    let reply = kept_reply(alloc, &confirm(number))?;
     kept.keep(key, born, reply, 1000);
     Ok(())
 }

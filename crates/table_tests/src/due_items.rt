@@ -95,11 +95,11 @@ fn request(alloc: Global) -> Result<Request, AllocError> {
 /// Lets a request wait.
 fn pend(alloc: Global, kept: &mut Kept) -> Result<(), Fail> {
     kept.reserve(0)?;
-    let request = request(alloc)?;
     let key = datagram(alloc)?;
     if kept.is_full() || !kept.is_free(&key, 3) {
         return Err(Fail::from("there is no place"));
     }
+    let request = request(alloc)?;
     let reply = InProgress::new(seq(7), Delay::new(1500).unwrap());
     kept.pend(key, 3, request, reply, RETRY, 3);
     Ok(())
@@ -108,11 +108,11 @@ fn pend(alloc: Global, kept: &mut Kept) -> Result<(), Fail> {
 /// Keeps a reply until it is over.
 fn keep(alloc: Global, kept: &mut Kept) -> Result<(), Fail> {
     kept.reserve(0)?;
-    let reply = kept_reply(alloc, &Reply::Dcf { seq: seq(7) })?;
     let key = datagram(alloc)?;
     if kept.is_full() || !kept.is_free(&key, 5) {
         return Err(Fail::from("there is no place"));
     }
+    let reply = kept_reply(alloc, &Reply::Dcf { seq: seq(7) })?;
     kept.keep(key, 5, reply, OVER);
     Ok(())
 }

@@ -88,20 +88,21 @@ fn keep(
 }
 
 fn pend(
+    alloc: Global,
     kept: &mut Kept,
     key: KeptKey,
     born: u64,
-    request: Request,
     retry: u64,
     left: u64,
 ) -> Result<(), Fail> {
+    kept.reserve(retry)?;
     if kept.is_full() && kept.find(&key).is_none() {
         return Err(Fail::from("there is no place"));
     }
     if !kept.is_free(&key, born) || left == 0 {
         return Err(Fail::from("no entry is like this"));
     }
-    kept.reserve(retry)?;
+    let request = request(alloc)?;
     kept.pend(key, born, request, progress(7), retry, left);
     Ok(())
 }
@@ -316,7 +317,7 @@ fn find_waiting(kept: &Kept, row: &str, moment: u64, left: u64) -> Result<(), Fa
 
 /// Lets a request wait twice.
 fn wait_twice(alloc: Global, kept: &mut Kept, waiting: &KeptKey) -> Result<(), Fail> {
-    pend(kept, waiting.copy()?, 3, request(alloc)?, 1500, 3)?;
+    pend(alloc, kept, waiting.copy()?, 3, 1500, 3)?;
     find_waiting(kept, "first wait", 1500, 3)?;
     postpone(kept, waiting, 3000)?;
     find_waiting(kept, "second wait", 3000, 2)
@@ -529,13 +530,13 @@ fn datagrams_of_one_source_are_hashed_apart(rt: HostRuntime) -> Result<(), Fail>
 
 /// Enters a reply to the datagram of one octet without a search, if nothing is kept for it.
 fn add(alloc: Global, kept: &mut Kept, octet: u8, until: u64) -> Result<(), Fail> {
+    kept.make_room()?;
     let datagram = key(alloc, octet)?;
-    let reply = kept_reply(alloc, &confirm(u16::from(octet)))?;
     let born = u64::from(octet);
     if kept.is_full() || kept.find(&datagram).is_some() || !kept.is_free(&datagram, born) {
         return Err(Fail::from("it can't be kept"));
     }
-    kept.make_room()?;
+    let reply = kept_reply(alloc, &confirm(u16::from(octet)))?;
     let state = KeptState::Done { reply, until };
     kept.add(datagram, KeptEntry { born, state });
     Ok(())

@@ -136,13 +136,13 @@ fn numbered_key(alloc: Global, number: u32) -> Result<KeptKey, Fail> {
 
 /// Keeps a reply to the datagram of this number until a moment.
 fn keep(alloc: Global, kept: &mut Kept, number: u32, until: u64) -> Result<(), Fail> {
+    kept.reserve(0)?;
     let key = numbered_key(alloc, number)?;
-    let reply = kept_reply(alloc, &Reply::Dcf { seq: seq(1) })?;
     let born = u64::from(number);
     if kept.is_full() || kept.find(&key).is_some() || !kept.is_free(&key, born) {
         return Err(Fail::from("it can't be kept"));
     }
-    kept.reserve(0)?;
+    let reply = kept_reply(alloc, &Reply::Dcf { seq: seq(1) })?;
     kept.keep(key, born, reply, until);
     Ok(())
 }
