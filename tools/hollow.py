@@ -3,6 +3,9 @@
 What calls such a function still has its contract: its proof is a hole, which `rattle check
 --allow-holes` takes for what its statement says. So a check of some functions needs no proof of
 those that they call.
+
+Left as they are: what an impl of a trait has, whose names the prover makes in its own way; what the
+compiler computes (`const fn`), which needs its body; and functions that share one proof (`cycle`).
 """
 
 import glob
