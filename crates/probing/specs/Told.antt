@@ -1,5 +1,5 @@
 -- What an answer says, in words, each as it follows a text.
-use Rattle.std.specs.Prelude.{ℕ, ◌/◌, ◌%◌, List, ◌++◌, Bool, false, codes, get_or, nat_eq}
+use Rattle.std.specs.Prelude.{ℕ, ◌≡◌, ◌/◌, ◌%◌, List, ◌++◌, Bool, false, codes, get_or, nat_eq}
 use Rattle.std.specs.Prelude.{Option, Some, None, Result, Ok, Err, if◌then◌else◌}
 use Rattle.std.specs.Char.Utf16.{utf16_lossy_chars}
 use Rattle.std.specs.Fmt.{decimal}
@@ -8,6 +8,7 @@ use Rattle.std.specs.Str.{encode_utf8_all}
 use Rattle.escapes.specs.Escapes.{json_piece}
 use Rattle.ras_module.specs.declared.address.Address.{Address}
 use Rattle.ras_grammar.specs.declared.fault.ReadFault.{ReadFault}
+use Rattle.probing.specs.Replies.{reply_reading}
 use Rattle.probing.specs.declared.reply.Confirm.{Confirm}
 use Rattle.probing.specs.declared.reply.DiscoveryReply.{DiscoveryReply}
 use Rattle.probing.specs.declared.reply.DiscoveryReply.TheVariants as reply
@@ -80,3 +81,11 @@ is_found (Ok (reply.Confirm confirm)) = nat_eq confirm.seq 1
 is_found (Ok (reply.Reject reject)) = false
 is_found (Ok reply.Other) = false
 is_found (Err fault) = false
+
+-- An answer was told: behind what the text told before it tells how some octets read, and it is
+-- said that they confirm the request if and only if they do.
+abbrev pub IsAnswerTold : List ℕ → List ℕ → Bool → Type 0
+IsAnswerTold old new found =
+    (octets : List ℕ) × (microseconds : ℕ)
+    × (new ≡ with_told old (reply_reading octets) microseconds)
+    × (found ≡ is_found (reply_reading octets))

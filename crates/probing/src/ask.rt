@@ -1,7 +1,9 @@
 //! Asking over a socket.
 
-ghost use Rattle.std.specs.Prelude.{◌≡◌};
-ghost use Rattle.probing.specs.Statuses.{probe_status};
+ghost use Rattle.std.specs.Prelude.{◌≡◌, IfOk};
+ghost use Rattle.std.specs.String.{string_bytes};
+ghost use Rattle.probing.specs.Statuses.{probe_status, silence_of};
+ghost use Rattle.probing.specs.Told.{IsAnswerTold};
 
 use crate::request::discovery_request;
 use crate::told::push_told;
@@ -59,7 +61,9 @@ impl ProbeFault {
     }
 
     /// Why nothing was received.
-    fn of(kind: ErrorKind) -> ProbeFault {
+    fn of(kind: ErrorKind) -> ProbeFault
+        ensures { result ≡ silence_of kind }
+    {
         match kind {
             ErrorKind::ConnectionRefused => ProbeFault::Refused,
             _ => ProbeFault::NoAnswer,
@@ -119,14 +123,17 @@ fn microseconds_since<R: Clock>(rt: &R, start: Option<Instant>) -> u64 {
     }
 }
 
-/// Asks a gatekeeper whether it is there, and writes a line that tells its answer. Says whether it
-/// confirms that it is.
+/// Asks a gatekeeper whether it is there, and writes a line that tells how its answer reads. Says
+/// whether it confirms that it is.
 pub fn ask_gatekeeper<R: Net + Clock>(
     rt: &R,
     alloc: Global,
     probe: Probe,
     out: &mut String,
-) -> Result<bool, ProbeFault> {
+) -> Result<bool, ProbeFault>
+    ensures { IfOk result (λ found. IsAnswerTold (string_bytes out.old) (string_bytes out.new)
+        found) }
+{
     let Ok(socket) = bound(rt, probe.from) else {
         return Err(ProbeFault::Bind);
     };
