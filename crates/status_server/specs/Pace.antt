@@ -1,5 +1,5 @@
 -- How fast connections are accepted: in rounds, each of at most `MOST_ACCEPTED`.
-use Rattle.std.specs.Prelude.{◌+◌, Bool, nat_le, if◌then◌else◌}
+use Rattle.std.specs.Prelude.{◌≡◌, ◌+◌, Bool, Option, Some, None, nat_le, if◌then◌else◌}
 use Rattle.std.specs.declared.time.Instant.{Instant}
 use Rattle.status_server.specs.declared.pace.Pace.{Pace}
 use Rattle.status_server.specs.declared.pace.TheConstants.{MOST_ACCEPTED}
@@ -17,3 +17,8 @@ abbrev pub with_accepted : Pace → Instant → Pace
 with_accepted pace moment =
     if is_full pace then record { begin = moment; accepted = 1 }
     else record pace { accepted = pace.accepted + 1 }
+
+-- the pace after a look for a connection: one that came is counted, and else the pace stays
+abbrev pub IsPaceAfter : {A : Type 0} → Option A → Pace → Pace → Type 0
+IsPaceAfter (Some connection) old new = (moment : Instant) × (new ≡ with_accepted old moment)
+IsPaceAfter None old new = new ≡ old

@@ -1,7 +1,7 @@
 -- What is answered to what is asked for. A zone says which figures, counts and rows are its own at
 -- some moment, and which rows it tells together, below which place: `Z.RunningZone` has these
 -- words of a type `Z` of zones.
-use Rattle.std.specs.Prelude.{ℕ, ◌≡◌, ◌≤◌, ◌⊎◌, ◌++◌, ◌∷◌, [], All, Bool, IsTrue, List, codes}
+use Rattle.std.specs.Prelude.{ℕ, ◌≡◌, ◌≢◌, ◌≤◌, ◌⊎◌, ◌++◌, ◌∷◌, [], All, Bool, IsTrue, List, codes}
 use Rattle.std.specs.Prelude.{false, true, vec_len}
 use Rattle.std.specs.Cmp.Lexicographic.{slice_cmp}
 use Rattle.std.specs.List.Sorted.{IsStrictlySortedBy}
@@ -33,6 +33,11 @@ has_rows (asked.Home query) = true
 has_rows (asked.Endpoints query) = true
 has_rows (asked.Calls query) = true
 has_rows other = false
+
+-- what is asked for waits behind what was listed last, if and only if it has rows, it isn't the
+-- same, and those rows are fresh
+abbrev pub IsToWait : Asked → Asked → Bool → Type 0
+IsToWait last asked is_fresh = IsTrue (has_rows asked) × (last ≢ asked) × IsTrue is_fresh
 
 -- a response with this text
 abbrev pub IsText : Status → Content → List ℕ → Response → Type 0

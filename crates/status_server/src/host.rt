@@ -1,6 +1,6 @@
 //! Who serves a connection.
 
-ghost use Rattle.std.specs.Prelude.{◌≡◌, ◌*◌, IfOk};
+ghost use Rattle.std.specs.Prelude.{ℕ, ◌≡◌, ◌*◌, ◌<◌, IfOk};
 ghost use Rattle.std.specs.Duration.{as_nanos};
 ghost use Rattle.std.specs.declared.time.Duration.{Duration};
 ghost use Rattle.hyper.specs.ServerDispatch.{GivesBodies, IsNewFor, Runs};
@@ -22,6 +22,9 @@ use std::time::{Clock, Duration};
 use tokio::io::{AsyncRead, AsyncWrite};
 use tokio::net::TcpStream;
 use tokio::time::{Handle, Timeout};
+
+/// The most connections at a time.
+pub(crate) const MOST_CONNECTIONS: usize = 16;
 
 /// How many seconds a connection may take, with its one request.
 const MOST_SECONDS: u64 = 10;
@@ -60,16 +63,23 @@ where
 
 /// Who serves connections.
 pub(crate) trait Host: Drop {
+    ghost use Rattle.std.specs.Prelude.{ℕ};
+
+    /// At some moment so many connections were being served.
+    ghost serves: { Self → ℕ → Type 0 } = { λ _ _. Unit {0} };
+
     type Outcome: Drop;
 
     type Work: Future<Output = Self::Outcome>;
 
-    /// The work of serving a connection.
+    /// The work of serving a connection, if there was room for it.
     fn work(&self, socket: TcpStream) -> io::Result<Self::Work>
+        requires { (count : ℕ) × serves self.now count × (count < MOST_CONNECTIONS) }
         ensures { IfOk result Self.Work.can_poll };
 
     /// How many connections are being served.
-    fn open(&self) -> usize;
+    fn open(&self) -> usize
+        ensures told { serves self.now result };
 
     /// Whether no more connections are to be served.
     fn has_ended(&self) -> bool;

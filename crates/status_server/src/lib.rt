@@ -3,7 +3,8 @@
 //!
 //! proved: that it is safe; what a connection sends is the answer to what its request asks for, of
 //! the zone that is shown and under its name, also if it is told again (`serve_one`, `response`); a
-//! page is sent with its status, header fields and body (`as_hyper`)
+//! page is sent with its status, header fields and body (`as_hyper`); a connection is accepted only
+//! if fewer than 16 were told to be open, and is counted (`next_connection`)
 //! tested: the built program; how long a page is told again; when a zone has ended
 #![tactic(auto)]
 

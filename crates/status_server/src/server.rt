@@ -1,9 +1,10 @@
 //! Serving the pages, several connections at a time.
 
-ghost use Rattle.std.specs.Prelude.{◌≡◌, IfOk, IsFalse, Some};
+ghost use Rattle.std.specs.Prelude.{ℕ, ◌≡◌, ◌<◌, ◌↔◌, IfOk, IfSome, IsFalse, IsTrue, Some};
+ghost use Rattle.status_server.specs.Pace.{IsPaceAfter};
 
 use crate::bound::BoundListener;
-use crate::host::{Host, PageHost};
+use crate::host::{Host, MOST_CONNECTIONS, PageHost};
 use crate::pace::Pace;
 use crate::shown::Shown;
 use crate::site::Site;
@@ -25,9 +26,6 @@ use tokio::runtime::LocalRuntime;
 use tokio::task::LocalSet;
 use tokio::time::{Handle, Sleep};
 use zone_view::RunningZone;
-
-/// The most connections at a time.
-const MOST_CONNECTIONS: usize = 16;
 
 /// The most octets of a request's head.
 const MOST_HEAD: usize = 8192;
@@ -107,29 +105,70 @@ where
 {
     let mut listener = listener;
     let timers = runtime.handle().time().clone()?;
-    let turn = Duration::from_millis(TURN);
     let works = LocalSet::new(rt.alloc())?;
     let mut pace = Pace::new(Instant::now(rt)?);
     for _ in rt.forever() {
         if host.has_ended() {
             break;
         }
-        if let Some(moment) = pace.pause() {
-            rest(rt, runtime, &works, timers.sleep_until(moment)?)?;
-        }
-        if host.open() >= MOST_CONNECTIONS {
-            rest(rt, runtime, &works, timers.sleep(rt, turn)?)?;
-            continue;
-        }
-        let Some(socket) = accepted(rt, runtime, &works, &timers, &mut listener)? else {
+        let next = next_connection(
+            rt,
+            runtime,
+            &works,
+            &timers,
+            &mut listener,
+            &host,
+            &mut pace,
+        )?;
+        let Some(socket) = next else {
             continue;
         };
-        pace.count(Instant::now(rt)?);
         if let Ok(work) = host.work(socket) {
             let _ = works.spawn_local(work);
         }
     }
     Ok(())
+}
+
+/// Whether there is room for another connection beside this many.
+fn has_room(count: usize) -> bool
+    ensures { IsTrue result ↔ (count < MOST_CONNECTIONS) }
+{
+    count < MOST_CONNECTIONS
+}
+
+/// The next connection, behind a pause if the pace asks for one; None if there is no room for it,
+/// or if none comes before the next turn. It is counted.
+fn next_connection<R, H, W>(
+    rt: &R,
+    runtime: &mut LocalRuntime,
+    works: &LocalSet<W>,
+    timers: &Handle,
+    listener: &mut TcpListener,
+    host: &H,
+    pace: &mut Pace,
+) -> io::Result<Option<TcpStream>>
+where
+    R: Wait + Clock + RandomSource + AllocGlobal,
+    H: Host,
+    W: Future<Output = ()>,
+    ensures room { IfOk result (λ next. IfSome next (λ _.
+        (count : ℕ) × H.serves host.now count × (count < MOST_CONNECTIONS))) }
+    ensures counted { IfOk result (λ next. IsPaceAfter next pace.old pace.new) }
+{
+    if let Some(moment) = pace.pause() {
+        rest(rt, runtime, works, timers.sleep_until(moment)?)?;
+    }
+    if !has_room(host.open()) {
+        let turn = Duration::from_millis(TURN);
+        rest(rt, runtime, works, timers.sleep(rt, turn)?)?;
+        return Ok(None);
+    }
+    let Some(socket) = accepted(rt, runtime, works, timers, listener)? else {
+        return Ok(None);
+    };
+    pace.count(Instant::now(rt)?);
+    Ok(Some(socket))
 }
 
 /// Serves the connections that are open, until a pause is over.

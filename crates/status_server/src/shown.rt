@@ -1,10 +1,12 @@
 //! A zone as it is shown.
 
-ghost use Rattle.std.specs.Prelude.{◌≡◌, IfOk, IfSome, IsSome, IsSomeAnd, IsTrue, Some};
+ghost use Rattle.std.specs.Prelude.{◌≡◌, ◌+◌, ◌*◌, ◌↔◌, IfOk, IfSome, IsSome, IsSomeAnd, IsTrue};
+ghost use Rattle.std.specs.Prelude.{Some};
 ghost use Rattle.std.specs.String.{string_bytes};
+ghost use Rattle.std.specs.Time.{FitsClock, instant_nanos};
 ghost use Rattle.status_server.specs.Shown.{IsAnswerOf, IsCallPageOf, IsEndpointPageOf};
-ghost use Rattle.status_server.specs.Shown.{IsHomeOf, IsMetricsOf, IsOverviewOf, IsZonePageOf};
-ghost use Rattle.status_server.specs.Shown.{has_rows};
+ghost use Rattle.status_server.specs.Shown.{IsHomeOf, IsMetricsOf, IsOverviewOf, IsToWait};
+ghost use Rattle.status_server.specs.Shown.{IsZonePageOf, has_rows};
 
 use crate::site::Site;
 use crate::view::View;
@@ -259,6 +261,30 @@ fn has_rows(asked: &Asked) -> bool
     )
 }
 
+/// Whether what is asked for waits behind what was listed last: it has rows, it isn't the same, and
+/// those rows are fresh.
+fn is_to_wait(last: &Asked, asked: &Asked, is_fresh: bool) -> bool
+    ensures { IsTrue result ↔ IsToWait last.now asked.now is_fresh }
+{
+    has_rows(asked) && *last != *asked && is_fresh
+}
+
+impl<Z: RunningZone, S: Site<Z>> Listed<Z, S> {
+    /// The moment from which on what is asked for may be answered, if these rows were listed last;
+    /// None if it may be now, or if no clock reaches that moment.
+    fn turn(&self, asked: &Asked, is_fresh: bool) -> Option<Instant>
+        ensures waits { IsSome result ↔ (IsToWait self.now.asked asked.now is_fresh
+            × FitsClock (instant_nanos self.now.moment + ROWS_AGE * 1000000)) }
+        ensures moment { IfSome result (λ moment.
+            instant_nanos moment ≡ instant_nanos self.now.moment + ROWS_AGE * 1000000) }
+    {
+        if !is_to_wait(&self.asked, asked, is_fresh) {
+            return None;
+        }
+        self.moment.checked_add(Duration::from_millis(ROWS_AGE))
+    }
+}
+
 impl<R: Clock, Z: RunningZone, S: Site<Z>> View for Shown<'_, R, Z, S> {
     ghost answers = { λ view asked response.
         ∥ IsAnswerOf Z.RunningZone view.zone.now view.about asked response ∥₁ };
@@ -271,15 +297,10 @@ impl<R: Clock, Z: RunningZone, S: Site<Z>> View for Shown<'_, R, Z, S> {
 
     /// Other rows than the last ones wait until those are old enough.
     fn turn(&self, asked: &Asked) -> Option<Instant> {
-        if !has_rows(asked) {
-            return None;
-        }
         let last = self.rows.try_borrow().ok()?;
         match &*last {
-            Some(listed) if listed.asked != *asked && self.is_fresh(listed) => {
-                listed.moment.checked_add(Duration::from_millis(ROWS_AGE))
-            }
-            _ => None,
+            Some(listed) => listed.turn(asked, self.is_fresh(listed)),
+            None => None,
         }
     }
 
