@@ -1,6 +1,8 @@
 //! Binding the address of a zone.
 
 ghost use Rattle.std.specs.Prelude.{◌≡◌};
+ghost use Rattle.std.specs.Int.{cast_signed, from_le_bytes, w32};
+ghost use Rattle.udp_socket.specs.Buffers.{half_of};
 ghost use Rattle.udp_socket.specs.Limits.{receives_left};
 
 use crate::addresses::{ras_address, system_address};
@@ -110,7 +112,15 @@ impl BoundSocket {
             return None;
         }
         let [a, b, c, d, ..] = granted;
-        // Linux counts its own needs in, and so tells twice what it grants.
-        u64::try_from(i32::from_ne_bytes([a, b, c, d]) / 2).ok()
+        granted_of([a, b, c, d])
     }
+}
+
+/// How many octets the system grants, by what it tells in a C int of its own: Linux counts its own
+/// needs in, and so tells twice what it grants. None if it tells a number below 0.
+fn granted_of(told: [u8; 4]) -> Option<u64>
+    ensures { result ≡ half_of (cast_signed w32 (from_le_bytes w32 told)) }
+{
+    let told = u64::try_from(i32::from_ne_bytes(told)).ok()?;
+    Some(told / 2)
 }
