@@ -1,6 +1,7 @@
 pub mod Carrying
 pub mod Counts
 pub mod Each
+pub mod Numbers
 pub mod Sends
 pub mod Steps
 pub mod Ticks

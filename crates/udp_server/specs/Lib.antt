@@ -2,11 +2,12 @@ pub mod Ends
 pub mod Faults
 pub mod Headline
 pub mod Joint
-pub mod OrderCounts
+pub mod OrderNumbers
 pub mod Orders
 pub mod Plans
 pub mod Rooms
 pub mod Sending
 pub mod Served
 pub mod Ticks
+pub mod WholeTicks
 pub mod Working

@@ -1,6 +1,6 @@
 -- Pools that are to be replaced.
 use Rattle.std.specs.Prelude.{◌≡◌, ◌≢◌, ◌≤◌, ◌<◌, ◌-◌, ◌++◌, ◌∷◌, ◌⊎◌, ℕ, List, [], Option, None}
-use Rattle.std.specs.Prelude.{Bool, IfSome, Some, false, length, slice_get, true}
+use Rattle.std.specs.Prelude.{Bool, IfSome, Some, false, length, map, reverse, slice_get, true}
 use Rattle.pools.specs.Account.{Account}
 use Rattle.pools.specs.Replacing.{IsHandedBack}
 use Rattle.pools.specs.declared.fault.ReplaceFault.{ReplaceFault}
@@ -26,6 +26,30 @@ abbrev pub IsNextAt : {P : Type 0} → ℕ → List (PoolOrder P) → Option (Po
     → List (PoolOrder P) → Type 0
 IsNextAt now old (Some order) new = (old ≡ new ++ order ∷ []) × (order.at ≤ now)
 IsNextAt now old None new = (new ≡ old) × IfSome (next_of old) (λ order. now < order.at)
+
+-- the numbers of the pools that orders name
+abbrev pub numbers_ordered : {P : Type 0} → List (PoolOrder P) → List ℕ
+numbers_ordered orders = map (λ order. order.pool) orders
+
+-- the numbers beside which pools came back
+abbrev pub numbers_back : {P : Type 0} → List (ℕ × P × Bool) → List ℕ
+numbers_back boxes = map (λ box. box.0) boxes
+
+-- what comes back of an order that isn't tried: its fresh pool
+abbrev pub untried : {P : Type 0} → PoolOrder P → ℕ × P × Bool
+untried order = (order.pool, order.fresh, false)
+
+-- what comes back of all orders if those that wait aren't tried, the next one of which is the last
+abbrev pub all_back : {P : Type 0} → List (PoolOrder P) → List (ℕ × P × Bool) → List (ℕ × P × Bool)
+all_back waiting boxes = boxes ++ map untried (reverse waiting)
+
+-- the numbers of the pools that all orders name, in the list's order
+abbrev pub numbers_of : {P : Type 0} → List (PoolOrder P) → List (ℕ × P × Bool) → List ℕ
+numbers_of waiting boxes = numbers_back (all_back waiting boxes)
+
+-- of each of these orders one pool came back, in their order, beside its pool's number
+abbrev pub AreOfOrders : {P : Type 0} → List (ℕ × P × Bool) → List (PoolOrder P) → Type 0
+AreOfOrders boxes orders = numbers_back boxes ≡ numbers_ordered orders
 
 -- the change by which a fresh pool, seen as this account, takes the place of a pool
 abbrev pub replacement : ℕ → Account → ℕ → Change

@@ -1,5 +1,7 @@
 -- What the sender does with a reply that it takes out of a ring.
-use Rattle.std.specs.Prelude.{◌≡◌, ◌+◌, ◌++◌, ◌∷◌, ◌⊎◌, ℕ, List, [], Ok, Err}
+use Rattle.std.specs.Prelude.{◌≡◌, ◌<◌, ◌+◌, ◌++◌, ◌∷◌, ◌⊎◌, ℕ, List, [], Ok, Err, get_or, length}
+use Rattle.reply_queues.specs.Rings.{datagrams_seen, datagrams_taken}
+use Rattle.reply_queues.specs.declared.inlet.Inlet.{Inlet}
 use Rattle.zone_events.specs.declared.outcome.Datagram.{Datagram}
 use Rattle.udp_server.specs.declared.datagrams.DeviceFault.{DeviceFault}
 use Rattle.udp_server.specs.declared.sender.SendCounts.{SendCounts}
@@ -49,3 +51,14 @@ pub record IsNextSent (sends : Sends) (taken taken_then : List Datagram)
   pub reply : Datagram
   pub next : taken_then ≡ taken ++ reply ∷ []
   pub counted : IsSendCounted sends reply failures failures_then counts counts_then
+
+-- A ring was looked at once: no reply was seen in it, and none was taken; or the next one was taken.
+abbrev pub IsLookedAt : Inlet → Inlet → Type 0
+IsLookedAt old new =
+    ((datagrams_seen new ≡ []) × (datagrams_taken new ≡ datagrams_taken old))
+    ⊎ ((reply : Datagram) × (datagrams_taken new ≡ datagrams_taken old ++ reply ∷ []))
+
+-- each of these rings was looked at once
+abbrev pub AreLookedAt : List Inlet → List Inlet → Type 0
+AreLookedAt old new =
+    (k : ℕ) (none : Inlet) → k < length old → IsLookedAt (get_or old k none) (get_or new k none)

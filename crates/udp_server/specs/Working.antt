@@ -136,6 +136,11 @@ IsTold {C} tells clock moment = (clock_then : C) × tells clock moment clock_the
 abbrev pub Gives : Type 1
 Gives = ReceiveResult → List ℕ → Type 0
 
+-- the event of a datagram from this source, with these octets, at a moment that was told
+abbrev pub IsEventNow : (ℕ → Type 0) → Address → List ℕ → Event → Type 0
+IsEventNow tells source octets what =
+    (moment : ℕ) × tells moment × (what ≡ event.Datagram source octets moment)
+
 -- The event of the datagram that the end gave: from its source, with as many octets as it told,
 -- which stand at the front of the buffer, at the moment that the worker's clock told.
 pub record IsReceivedIn (gives : Gives) (tells : ℕ → Type 0) (buffer : List ℕ) (what : Event)

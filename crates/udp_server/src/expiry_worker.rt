@@ -1,8 +1,11 @@
 //! The worker that makes the turns of the timers.
 
-ghost use Rattle.std.specs.Prelude.{◌≡◌, IsFalse, vec_len};
+ghost use Rattle.std.specs.Prelude.{◌≡◌, IsFalse};
 ghost use Rattle.zone_lock.specs.Held.{IsClosed};
-ghost use Rattle.udp_server.specs.OrderCounts.{order_count};
+ghost use Rattle.udp_server.specs.OrderNumbers.{order_numbers, ordering_of};
+ghost use Rattle.udp_server.specs.Orders.{numbers_back};
+ghost use Rattle.udp_server.specs.Plans.{has_history};
+ghost use Rattle.udp_server.specs.WholeTicks.{IsWholeTick};
 ghost use Rattle.udp_server.specs.Ticks.{AreTurnsOfRound, IsTick, IsTurnOfRound};
 ghost use Rattle.udp_server.specs.Ticks.{goes_on_after_turns, is_more_due, is_more_due_after};
 ghost use Rattle.udp_server.specs.Working.{goes_on_after, standing};
@@ -52,21 +55,22 @@ pub(crate) fn expire<
     worker: Worker<D, T, U, V, C>,
     orders: Orders<P>,
 ) -> ExpiryRecord<P, D, T, U, V>
-    ensures { vec_len result.boxes ≡ order_count orders }
+    ensures { numbers_back result.boxes.items ≡ order_numbers orders }
 {
     let (mut worker, mut orders) = (worker, orders);
     let mut chapters = Chapters::new(shared.alloc);
     let mut replies = Vec::new(shared.alloc);
     if shared.board.may_begin(shared.rt) {
-        let tick = Duration::from_millis(shared.plan.tick);
+        let pause = Duration::from_millis(shared.plan.tick);
         for _ in shared.rt.forever() {
-            let have_ended = shared.board.wait_for_tick(shared.rt, others, tick);
-            orders.carry_out(shared, &mut worker);
-            let goes_on = if shared.plan.is_recorded() {
-                goes_on_recorded(shared, &mut worker, &mut chapters)
-            } else {
-                goes_on_unrecorded(shared, &mut worker, &mut replies)
-            };
+            let have_ended = shared.board.wait_for_tick(shared.rt, others, pause);
+            let goes_on = tick(
+                shared,
+                &mut worker,
+                &mut orders,
+                &mut chapters,
+                &mut replies,
+            );
             if !goes_on || have_ended {
                 break;
             }
@@ -78,12 +82,37 @@ pub(crate) fn expire<
     }
 }
 
+/// Carries out the orders whose moment is reached, then makes the turns that are due. Whether the
+/// worker goes on.
+///
+/// promise tick-tries-orders-then-turns: At a tick a worker tries each order that is due, and makes
+/// turns behind that, recorded or not as the plan says (`IsWholeTick`, `AreCarriedOut`).
+fn tick<P: Pool, D: Hall, T: Ledger, U: Ledger, V: Ledger, R: Wait, G: Gate, C: Moments>(
+    shared: &Shared<'_, P, D, T, U, V, R, G>,
+    worker: &mut Worker<D, T, U, V, C>,
+    orders: &mut Orders<P>,
+    chapters: &mut Chapters,
+    replies: &mut Vec<Datagram>,
+) -> bool
+    ensures all { order_numbers orders.new ≡ order_numbers orders.old }
+    ensures tick { IsWholeTick D.opened P.account C.tells (has_history shared.now.plan) result
+        (ordering_of orders.old (standing worker.old.seat worker.old.outlet worker.old.counts))
+        (ordering_of orders.new (standing worker.new.seat worker.new.outlet worker.new.counts)) }
+{
+    orders.carry_out(shared, worker);
+    if shared.plan.is_recorded() {
+        goes_on_recorded(shared, worker, chapters)
+    } else {
+        goes_on_unrecorded(shared, worker, replies)
+    }
+}
+
 /// Makes turns until nothing is due, or one is refused, many of them each time that it holds the
 /// lock. Whether the worker goes on: it ends only if no step may be made any more.
 ///
-/// promise tick-makes-turns-while-due: All that a worker does at a tick is rounds of turns, until
-/// none is due, one is refused, or 20 rounds were made; or, if they are recorded, 1,000 turns
-/// (`IsTick`, `AreTurnsOfRound`).
+/// promise tick-makes-turns-while-due: The turns of a tick are rounds, until none is due, one is
+/// refused, or 20 rounds were made; or, if they are recorded, 1,000 turns (`IsTick`,
+/// `AreTurnsOfRound`).
 fn goes_on_unrecorded<
     P: Pool,
     D: Hall,

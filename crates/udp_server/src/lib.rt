@@ -9,6 +9,7 @@
 
 mod board;
 mod chapters;
+mod comes_back;
 mod datagrams;
 mod expiry_worker;
 mod gate;

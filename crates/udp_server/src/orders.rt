@@ -3,7 +3,7 @@
 ghost use Rattle.std.specs.Prelude.{◌≡◌, ◌≤◌, ◌<◌, ◌+◌, ◌-◌, IfOk, IsFalse, IsTrue, OnSome};
 ghost use Rattle.std.specs.Prelude.{vec_capacity, vec_len};
 ghost use Rattle.udp_server.specs.Orders.{AreCarriedOut, IsNextAt, IsNextTried, IsNoneDue};
-ghost use Rattle.udp_server.specs.Orders.{ordering};
+ghost use Rattle.udp_server.specs.Orders.{all_back, numbers_of, numbers_ordered, ordering};
 ghost use Rattle.udp_server.specs.Working.{IsTold, standing};
 
 use crate::gate::Gate;
@@ -46,20 +46,13 @@ impl<P: Pool> Drop for Orders<P> {
 impl<P: Pool> Orders<P> {
     /// None of these orders was tried.
     pub(crate) fn new(alloc: Global, orders: Vec<PoolOrder<P>>) -> Result<Self, AllocError>
-        ensures { IfOk result (λ made. vec_len made.waiting + vec_len made.boxes
-            ≡ vec_len orders) }
+        ensures { IfOk result (λ made. numbers_of made.waiting.items made.boxes.items
+            ≡ numbers_ordered orders.items) }
     {
         let boxes = Vec::with_capacity(alloc, orders.len())?;
         let mut waiting = orders;
         waiting.reverse();
         Ok(Orders { waiting, boxes })
-    }
-
-    /// How many orders there are, those that were tried among them.
-    pub(crate) fn len(&self) -> usize
-        ensures { result ≡ vec_len self.now.waiting + vec_len self.now.boxes }
-    {
-        self.waiting.len() + self.boxes.len()
     }
 
     /// Tries each order, in the list's order, whose moment the worker's clock has reached. An order
@@ -78,8 +71,8 @@ impl<P: Pool> Orders<P> {
             (standing worker.old.seat worker.old.outlet worker.old.counts))
             (ordering self.new.waiting.items self.new.boxes.items
             (standing worker.new.seat worker.new.outlet worker.new.counts)) }
-        ensures all { vec_len self.new.waiting + vec_len self.new.boxes
-            ≡ vec_len self.old.waiting + vec_len self.old.boxes }
+        ensures all { numbers_of self.new.waiting.items self.new.boxes.items
+            ≡ numbers_of self.old.waiting.items self.old.boxes.items }
     {
         for _ in 0..self.waiting.len() {
             if !self.has_tried_next(shared, worker) {
@@ -101,8 +94,8 @@ impl<P: Pool> Orders<P> {
             (standing worker.old.seat worker.old.outlet worker.old.counts))
             (ordering self.new.waiting.items self.new.boxes.items
             (standing worker.new.seat worker.new.outlet worker.new.counts)) }
-        ensures all { vec_len self.new.waiting + vec_len self.new.boxes
-            ≡ vec_len self.old.waiting + vec_len self.old.boxes }
+        ensures all { numbers_of self.new.waiting.items self.new.boxes.items
+            ≡ numbers_of self.old.waiting.items self.old.boxes.items }
         ensures none { IsFalse result
             → IsNoneDue (IsTold C.tells worker.old.clock) self.new.waiting.items }
         ensures same { IsFalse result
@@ -140,7 +133,7 @@ impl<P: Pool> Orders<P> {
 
     /// What came back of each order. The fresh pools of those that were not tried come back, too.
     pub(crate) fn into_boxes(mut self) -> Vec<(usize, P, bool)>
-        ensures { vec_len result ≡ vec_len self.waiting + vec_len self.boxes }
+        ensures { result.items ≡ all_back self.waiting.items self.boxes.items }
     {
         for _ in 0..self.waiting.len() {
             self.hand_back();
@@ -151,8 +144,8 @@ impl<P: Pool> Orders<P> {
 
     /// The next order isn't tried any more: its fresh pool comes back.
     fn hand_back(&mut self)
-        ensures all { vec_len self.new.waiting + vec_len self.new.boxes
-            ≡ vec_len self.old.waiting + vec_len self.old.boxes }
+        ensures all { all_back self.new.waiting.items self.new.boxes.items
+            ≡ all_back self.old.waiting.items self.old.boxes.items }
         ensures fewer { vec_len self.new.waiting ≡ vec_len self.old.waiting - 1 }
     {
         if let Some(order) = self.waiting.pop() {

@@ -1,7 +1,8 @@
 //! The workers that receive datagrams.
 
-ghost use Rattle.std.specs.Prelude.{◌≡◌, IfOk};
-ghost use Rattle.udp_server.specs.Working.{IsReceived, IsTold, IsTurnOfLoop, failures, standing};
+ghost use Rattle.std.specs.Prelude.{IfOk};
+ghost use Rattle.udp_server.specs.Working.{IsEventNow, IsReceived, IsTold, IsTurnOfLoop};
+ghost use Rattle.udp_server.specs.Working.{failures, standing};
 
 use crate::datagrams::{Datagrams, DeviceFault, MOST_RECEIVED, Received};
 use crate::gate::Gate;
@@ -13,7 +14,6 @@ use ras_module::{Octets, Source};
 use std::alloc::{AllocError, Global};
 use std::sync::Wait;
 use std::sync::ledger::Ledger;
-use zone_config::Moment;
 use zone_lock::Hall;
 
 /// An end that receives, with what it received last, and how many receives in a row have failed.
@@ -207,8 +207,8 @@ fn receive_next<
         Ok(Received::Datagram(source, length)) => {
             receiver.failed_in_a_row = 0;
             shared.count_received(worker.number);
-            let moment = worker.clock.now();
-            match event_of(shared.alloc, source, &receiver.buffer[..length], moment) {
+            let octets = &receiver.buffer[..length];
+            match event_of(shared.alloc, source, octets, &mut worker.clock) {
                 Ok(event) => Next::Event(event),
                 Err(AllocError) => {
                     worker.counts.refuse();
@@ -228,15 +228,16 @@ fn receive_next<
     }
 }
 
-/// The event of a datagram.
-fn event_of(
+/// The event of a datagram that has come, at the moment that the clock tells now.
+fn event_of<C: Moments>(
     alloc: Global,
     source: Source,
     octets: &[u8],
-    moment: Moment,
+    clock: &mut C,
 ) -> Result<Event, AllocError>
-    ensures { IfOk result (λ event. event ≡ Event.Datagram source octets.now moment) }
+    ensures { IfOk result (IsEventNow (IsTold C.tells clock.old) source octets.now) }
 {
+    let moment = clock.now();
     let octets = Octets::from_vec(Vec::from_slice(alloc, octets)?);
     Ok(Event::Datagram(source, octets, moment))
 }

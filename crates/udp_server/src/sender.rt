@@ -2,7 +2,8 @@
 
 ghost use Rattle.std.specs.Prelude.{◌≡◌, ◌≤◌, ◌+◌, [], All, IsFalse, IsTrue, length};
 ghost use Rattle.reply_queues.specs.Rings.{datagrams_seen, datagrams_taken};
-ghost use Rattle.udp_server.specs.Sending.{IsNextSent, IsSendCounted, all_counted};
+ghost use Rattle.udp_server.specs.Sending.{AreLookedAt, IsLookedAt, IsNextSent, IsSendCounted};
+ghost use Rattle.udp_server.specs.Sending.{all_counted};
 
 use crate::board::Board;
 use crate::datagrams::{Datagrams, DeviceFault};
@@ -64,11 +65,12 @@ pub(crate) fn send_all<R: Wait, N: Datagrams>(
 }
 
 impl<N: Datagrams> Sender<N> {
-    /// Sends the next reply of each ring. Whether there was any.
+    /// Looks at each ring once, and sends its next reply, if there is one. Whether there was any.
     #[tactic(auto, using(crate::proofs::Sends::one_more_at_most))]
     fn has_sent(&mut self, inlets: &mut [Inlet]) -> bool
         ensures looked { IsFalse result → All (λ inlet. datagrams_seen inlet ≡ []) inlets.new }
         ensures same { IsFalse result → self.new.sent ≡ self.old.sent }
+        ensures each { AreLookedAt inlets.old inlets.new }
         ensures once { all_counted self.new.sent
             ≤ all_counted self.old.sent + length inlets.old }
     {
@@ -90,6 +92,7 @@ impl<N: Datagrams> Sender<N> {
         ensures none { IsFalse result → datagrams_taken inlet.new ≡ datagrams_taken inlet.old }
         ensures same { IsFalse result → self.new.sent ≡ self.old.sent }
         ensures looked { IsFalse result → datagrams_seen inlet.new ≡ [] }
+        ensures ring { IsLookedAt inlet.old inlet.new }
         ensures next { IsTrue result
             → IsNextSent (λ datagram given. N.sends self.old.end datagram given self.new.end)
             (datagrams_taken inlet.old) (datagrams_taken inlet.new)

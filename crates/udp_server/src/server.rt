@@ -1,8 +1,9 @@
 //! Running a server.
 
-ghost use Rattle.std.specs.Prelude.{◌≡◌, ◌≢◌, ◌≤◌, ◌↔◌, Err, IfOk, vec_len};
+ghost use Rattle.std.specs.Prelude.{◌≡◌, ◌≢◌, ◌≤◌, ◌++◌, ◌∷◌, ◌↔◌, [], Err, IfOk, map, vec_len};
 ghost use Rattle.udp_server.specs.Faults.{AreCounts, AreCountsOfEnds};
-ghost use Rattle.udp_server.specs.OrderCounts.{order_count};
+ghost use Rattle.udp_server.specs.OrderNumbers.{order_numbers};
+ghost use Rattle.udp_server.specs.Orders.{AreOfOrders, numbers_back, numbers_ordered};
 ghost use Rattle.udp_server.specs.Plans.{IsPlan, beginning_of};
 ghost use Rattle.udp_server.specs.Served.{IsServed};
 
@@ -37,7 +38,8 @@ use zone_lock::{Blanks, Hall, OpenFault, Seat, ZoneLock};
 ///
 /// promise server-leaves-a-run: All steps are a run from the locked state to the zone that is left,
 /// and the report has its datagrams, turns and changes (`IsServed`).
-/// promise server-gives-back-each-order: Of each order a pool comes back, the old one or the fresh one.
+/// promise server-gives-back-each-order: Of each order a pool comes back, in the orders' order,
+/// beside the number of its pool (`AreOfOrders`).
 /// promise server-counts-its-ends: It is refused as WrongCounts if and only if seats, ends and
 /// clocks don't fit; likewise `serve_zone` (`AreCounts`, `AreCountsOfEnds`).
 pub fn serve<
@@ -66,7 +68,7 @@ pub fn serve<
     requires plan { IsPlan plan }
     ensures served { IfOk result (λ r. IsServed D.opened r.finished r.datagrams r.turns
         r.changes) }
-    ensures back { IfOk result (λ r. vec_len r.boxes ≡ vec_len orders) }
+    ensures back { IfOk result (λ r. AreOfOrders r.boxes.items orders.items) }
     ensures wrong_counts { (result ≡ Err ServeFault.WrongCounts)
         ↔ ¬ AreCounts (vec_len seats) (vec_len receivers) (vec_len clocks) }
 {
@@ -119,7 +121,7 @@ pub fn serve_watched<
     requires plan { IsPlan plan }
     ensures served { IfOk result (λ r. IsServed D.opened r.finished r.datagrams r.turns
         r.changes) }
-    ensures back { IfOk result (λ r. vec_len r.boxes ≡ vec_len orders) }
+    ensures back { IfOk result (λ r. AreOfOrders r.boxes.items orders.items) }
     ensures wrong_counts { (result ≡ Err ServeFault.WrongCounts)
         ↔ ¬ AreCounts (vec_len seats) (vec_len receivers) (vec_len clocks) }
 {
@@ -163,7 +165,7 @@ fn serve_by<
     requires plan { IsPlan plan }
     ensures served { IfOk result (λ r. IsServed D.opened r.finished r.datagrams r.turns
         r.changes) }
-    ensures back { IfOk result (λ r. vec_len r.boxes ≡ order_count crew.orders) }
+    ensures back { IfOk result (λ r. numbers_back r.boxes.items ≡ order_numbers crew.orders) }
     ensures counts { result ≢ Err ServeFault.WrongCounts }
 {
     let Ok(tallies) = Tallies::new(alloc, workers) else {
@@ -180,7 +182,7 @@ fn serve_by<
         tallies: &tallies,
         plan,
     };
-    match run(&shared, crew, inlets, sender, watchers) {
+    match run::<P, D, T, U, V, R, N, G, C, W, Brand>(&shared, crew, inlets, sender, watchers) {
         Ok(record) => report_of(alloc, lock, record),
         Err(AllocError) => Err(ServeFault::Memory),
     }
@@ -225,7 +227,8 @@ fn begin_history<P: Pool, D: Hall, T: Ledger, U: Ledger, V: Ledger, R: Wait>(
     }
 }
 
-/// Who makes steps, each with its ring, and the other ends of the rings.
+/// Who makes steps, each with a seat, in order, the worker of the timers with the last one, and
+/// with a ring; and the other ends of the rings.
 fn gather<P: Pool, D: Hall, T: Ledger, U: Ledger, V: Ledger, N: Datagrams, C: Moments>(
     alloc: Global,
     seats: Vec<Seat<D, T, U, V>>,
@@ -236,7 +239,11 @@ fn gather<P: Pool, D: Hall, T: Ledger, U: Ledger, V: Ledger, N: Datagrams, C: Mo
 ) -> Result<(Crew<P, D, T, U, V, N, C>, Vec<Inlet>), AllocError>
     requires seats { vec_len seats ≤ 16 }
     requires plan { IsPlan plan }
-    ensures { IfOk result (λ made. order_count made.0.orders ≡ vec_len orders) }
+    ensures orders { IfOk result (λ made. order_numbers made.0.orders
+        ≡ numbers_ordered orders.items) }
+    ensures receivers { IfOk result (λ made. made.0.receivers ≡ receivers) }
+    ensures seats { IfOk result (λ made. map (λ worker. worker.seat) made.0.workers.items
+        ++ made.0.expiry.seat ∷ [] ≡ seats.items) }
 {
     let (outlets, inlets) = rings(alloc, seats.len(), plan.ring)?;
     let mut workers = workers_of(alloc, seats, clocks, outlets)?;
@@ -257,12 +264,17 @@ fn workers_of<D: Hall, T: Ledger, U: Ledger, V: Ledger, C: Moments>(
     seats: Vec<Seat<D, T, U, V>>,
     clocks: Vec<C>,
     outlets: Vec<Outlet>,
-) -> Result<Vec<Worker<D, T, U, V, C>>, AllocError> {
+) -> Result<Vec<Worker<D, T, U, V, C>>, AllocError>
+    ensures { IfOk result (λ workers. map (λ worker. worker.seat) workers.items
+        ≡ seats.items) }
+{
     let mut workers = Vec::with_capacity(alloc, seats.len())?;
-    let parts = seats.into_iter().zip(clocks).zip(outlets);
-    for (number, ((seat, clock), outlet)) in parts.enumerate() {
+    let (mut clocks, mut outlets) = (clocks.into_iter(), outlets.into_iter());
+    for seat in seats {
+        let clock = clocks.next().ok_or(AllocError)?;
+        let outlet = outlets.next().ok_or(AllocError)?;
         let worker = Worker {
-            number,
+            number: workers.len(),
             seat,
             clock,
             outlet,
@@ -297,7 +309,7 @@ pub fn serve_zone<
     requires plan { IsPlan plan }
     ensures served { IfOk result (λ r. IsServed zone.state r.finished r.datagrams r.turns
         r.changes) }
-    ensures back { IfOk result (λ r. vec_len r.boxes ≡ vec_len orders) }
+    ensures back { IfOk result (λ r. AreOfOrders r.boxes.items orders.items) }
     ensures wrong_counts { (result ≡ Err ServeFault.WrongCounts)
         ↔ ¬ AreCountsOfEnds (vec_len receivers) (vec_len clocks) }
 {
@@ -340,7 +352,7 @@ pub fn serve_zone_watched<
     requires plan { IsPlan plan }
     ensures served { IfOk result (λ r. IsServed zone.state r.finished r.datagrams r.turns
         r.changes) }
-    ensures back { IfOk result (λ r. vec_len r.boxes ≡ vec_len orders) }
+    ensures back { IfOk result (λ r. AreOfOrders r.boxes.items orders.items) }
     ensures wrong_counts { (result ≡ Err ServeFault.WrongCounts)
         ↔ ¬ AreCountsOfEnds (vec_len receivers) (vec_len clocks) }
 {
@@ -394,7 +406,7 @@ fn open_and_serve<
     requires plan { IsPlan plan }
     ensures served { IfOk result (λ r. IsServed zone.state r.finished r.datagrams r.turns
         r.changes) }
-    ensures back { IfOk result (λ r. vec_len r.boxes ≡ vec_len orders) }
+    ensures back { IfOk result (λ r. AreOfOrders r.boxes.items orders.items) }
     ensures counts { result ≢ Err ServeFault.WrongCounts }
 {
     match ZoneLock::<P, D, T, U, V>::open(alloc, zone, seats, blanks) {

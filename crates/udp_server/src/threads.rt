@@ -2,9 +2,10 @@
 
 ghost use Rattle.std.specs.Prelude.{◌≡◌, ◌≤◌, ◌<◌, ◌+◌, IfSome, vec_capacity, vec_len};
 ghost use Rattle.std.specs.Prelude.{IfOk};
-ghost use Rattle.std.specs.Thread.{IsSend};
-ghost use Rattle.udp_server.specs.OrderCounts.{order_count};
+ghost use Rattle.udp_server.specs.OrderNumbers.{order_numbers};
+ghost use Rattle.udp_server.specs.Orders.{numbers_back};
 
+use crate::comes_back::{EachComesBack, OrderNumbers};
 use crate::datagrams::Datagrams;
 use crate::expiry_worker::{ExpiryRecord, expire};
 use crate::gate::Gate;
@@ -18,11 +19,12 @@ use crate::worker::{Shared, Worker, WorkerRecord};
 use pools::Pool;
 use reply_queues::Inlet;
 use std::alloc::AllocError;
+use std::marker::PhantomData;
 use std::rt::Clock;
 use std::sync::Wait;
 use std::sync::ledger::Ledger;
 use std::thread;
-use std::thread::{JoinHandle, Promise, PromisedHandle, Scope, Threads};
+use std::thread::{JoinHandle, PromisedHandle, Scope, Threads};
 use zone_lock::Hall;
 
 /// Who makes steps: a worker for each receiving end, in order, and the expiry worker, with its
@@ -64,6 +66,7 @@ pub(crate) fn run<
     G: Gate + Sync,
     C: Moments + Send,
     W: Watcher + Send,
+    O: OrderNumbers,
 >(
     shared: &Shared<'_, P, D, T, U, V, R, G>,
     crew: Crew<P, D, T, U, V, N, C>,
@@ -71,16 +74,20 @@ pub(crate) fn run<
     sender: N,
     watchers: Vec<W>,
 ) -> Result<CrewRecord<P, D, T, U, V>, AllocError>
-    ensures { IfOk result (λ left. vec_len left.boxes ≡ order_count crew.orders) }
+    requires orders { O.numbers ≡ order_numbers crew.orders }
+    ensures { IfOk result (λ left. numbers_back left.boxes.items ≡ O.numbers) }
 {
     let record = thread::scope(
         thread::scope_env(),
         shared.rt,
         |scope| -> Option<CrewRecord<P, D, T, U, V>>
-            requires { IsSend P.row × IsSend D.row × IsSend T.row × IsSend U.row × IsSend N.row
-                × IsSend C.row × IsSend W.row }
-            ensures { IfSome result (λ left. vec_len left.boxes ≡ order_count crew.orders) }
-        { run_in(scope, shared, crew, inlets, sender, watchers) },
+            requires { O.numbers ≡ order_numbers crew.orders }
+            ensures { IfSome result (λ left. numbers_back left.boxes.items ≡ O.numbers) }
+        {
+            run_in::<_, P, D, T, U, V, R, N, G, C, W, O>(
+                scope, shared, crew, inlets, sender, watchers,
+            )
+        },
     );
     record.ok_or(AllocError)
 }
@@ -100,6 +107,7 @@ fn run_in<
     G: Gate + Sync + 's,
     C: Moments + Send + 's,
     W: Watcher + Send + 's,
+    O: OrderNumbers,
 >(
     scope: &'s Scope<'s, E>,
     shared: &'s Shared<'s, P, D, T, U, V, R, G>,
@@ -108,7 +116,8 @@ fn run_in<
     sender: N,
     watchers: Vec<W>,
 ) -> Option<CrewRecord<P, D, T, U, V>>
-    ensures { IfSome result (λ left. vec_len left.boxes ≡ order_count crew.orders) }
+    requires orders { O.numbers ≡ order_numbers crew.orders }
+    ensures { IfSome result (λ left. numbers_back left.boxes.items ≡ O.numbers) }
 {
     let Crew {
         receivers,
@@ -127,7 +136,10 @@ fn run_in<
         return None;
     };
     let others = handles.len();
-    let Some(last) = start_expiry(scope, shared, others, expiry, orders) else {
+    let expiry = start_expiry::<_, P, D, T, U, V, R, G, C, O>(
+        scope, shared, others, expiry, orders,
+    );
+    let Some(last) = expiry else {
         shared.board.cancel(shared.rt);
         return None;
     };
@@ -151,7 +163,8 @@ fn run_in<
     })
 }
 
-/// Starts a thread for each receiving end. None if one of them can't be made.
+/// Starts a thread for each receiving end, by the workers in order. None if one of them can't be
+/// made, or if there are too few workers.
 fn start_workers<
     's,
     E,
@@ -170,16 +183,14 @@ fn start_workers<
     receivers: Vec<N>,
     workers: Vec<Worker<D, T, U, V, C>>,
 ) -> Option<Vec<JoinHandle<WorkerRecord<D, T, U, V>>>>
-    ensures { IfSome result (λ handles. vec_len handles ≤ vec_len receivers) }
+    ensures { IfSome result (λ handles. vec_len handles ≡ vec_len receivers) }
 {
     let Ok(mut handles) = Vec::with_capacity(shared.alloc, receivers.len()) else {
         return None;
     };
     let mut workers = workers.into_iter();
     for end in receivers {
-        let Some(worker) = workers.next() else {
-            break;
-        };
+        let worker = workers.next()?;
         handles.push_reserved(start_worker(scope, shared, end, worker)?);
     }
     Some(handles)
@@ -229,17 +240,6 @@ fn start_worker<
     scope.spawn(move || work(shared, end, worker)).ok()
 }
 
-/// Of each of a number of orders a pool comes back.
-#[derive(Clone, Copy)]
-struct EachComesBack {
-    orders: usize,
-}
-
-impl<P: Pool, D: Hall, T: Ledger, U: Ledger, V: Ledger> Promise<ExpiryRecord<P, D, T, U, V>>
-    for EachComesBack {
-    ghost kept_by = { λ promise left. vec_len left.boxes ≡ promise.orders };
-}
-
 /// Starts the thread of the expiry worker. None if no thread can be made.
 fn start_expiry<
     's,
@@ -252,20 +252,21 @@ fn start_expiry<
     R: Threads + Wait + Clock + Sync + 's,
     G: Gate + Sync + 's,
     C: Moments + Send + 's,
+    O: OrderNumbers,
 >(
     scope: &'s Scope<'s, E>,
     shared: &'s Shared<'s, P, D, T, U, V, R, G>,
     others: usize,
     worker: Worker<D, T, U, V, C>,
     orders: Orders<P>,
-) -> Option<PromisedHandle<ExpiryRecord<P, D, T, U, V>, EachComesBack>>
-    ensures { IfSome result (λ handle. handle.promise.orders ≡ order_count orders) }
+) -> Option<PromisedHandle<ExpiryRecord<P, D, T, U, V>, EachComesBack<O>>>
+    requires { O.numbers ≡ order_numbers orders }
 {
     let promise = EachComesBack {
-        orders: orders.len(),
+        orders: PhantomData,
     };
     let work = move || -> ExpiryRecord<P, D, T, U, V>
-        ensures { vec_len result.boxes ≡ order_count orders }
+        ensures { numbers_back result.boxes.items ≡ order_numbers orders }
     { expire(shared, others, worker, orders) };
     scope.spawn_with(promise, work).ok()
 }

@@ -1,6 +1,7 @@
 //! One who makes steps of the zone, and hands the replies to the sender.
 
-ghost use Rattle.std.specs.Prelude.{◌≡◌, ◌<◌, ◌+◌, ◌↔◌, min, IfErr, IfOk, IsTrue, OnErr, OnOk};
+ghost use Rattle.std.specs.Prelude.{◌≡◌, ◌<◌, ◌+◌, ◌++◌, ◌∷◌, ◌↔◌, [], min, IfErr, IfOk};
+ghost use Rattle.std.specs.Prelude.{IsTrue, OnErr, OnOk};
 ghost use Rattle.std.specs.Prelude.{Some, is_some, vec_capacity, vec_len};
 ghost use Rattle.std.specs.Option.{ForSome};
 ghost use Rattle.ras_machine.specs.Steps.{HasFewOctets};
@@ -354,7 +355,8 @@ impl<D: Hall, T: Ledger, U: Ledger, V: Ledger, C: Moments> Worker<D, T, U, V, C>
     /// Keeps a receipt, for which there is room.
     fn keep(&mut self, receipt: Receipt)
         requires { vec_len self.old.receipts < vec_capacity self.old.receipts }
-        ensures { standing self.new.seat self.new.outlet self.new.counts
+        ensures kept { self.new.receipts.items ≡ self.old.receipts.items ++ receipt ∷ [] }
+        ensures same { standing self.new.seat self.new.outlet self.new.counts
             ≡ standing self.old.seat self.old.outlet self.old.counts }
     {
         self.receipts.push_reserved(receipt);
@@ -406,7 +408,12 @@ impl<D: Hall, T: Ledger, U: Ledger, V: Ledger, C: Moments> Worker<D, T, U, V, C>
         self,
         shared: &Shared<'_, P, D, T, U, V, R, G>,
         chapters: Vec<Chapter>,
-    ) -> WorkerRecord<D, T, U, V> {
+    ) -> WorkerRecord<D, T, U, V>
+        ensures seat { result.seat ≡ self.seat }
+        ensures receipts { result.receipts ≡ self.receipts }
+        ensures chapters { result.chapters ≡ chapters }
+        ensures counts { result.counts ≡ self.counts }
+    {
         let Worker {
             number: _,
             seat,

@@ -1,5 +1,6 @@
 use Rattle.std.proofs.Common.{◌≡◌, ◌∙◌, arith, refl, vec_len}
-use Rattle.udp_server.specs.OrderCounts.{order_count}
+use Rattle.udp_server.specs.OrderNumbers.{order_numbers}
+use Rattle.udp_server.specs.Orders.{AreOfOrders, numbers_back}
 use Rattle.udp_server.proofs.Each.{of_each}
 use Rattle.udp_server.specs.Faults.{AreCounts}
 use Rattle.udp_server.proofs.server.serve_watched.Goals as goal
@@ -37,8 +38,9 @@ returns-then-len-count-clause-wrong_counts g c = (
 
 pub returns-clause-back : goal.returns-clause-back
 returns-clause-back g c =
-    of_each c.serve_by.result (λ r. vec_len r.boxes ≡ order_count c.in-Ok.crew.orders)
-    (λ r. vec_len r.boxes ≡ vec_len c.args.orders) (λ r all. all ∙ c.in-Ok.ensures)
+    of_each c.serve_by.result
+    (λ r. numbers_back r.boxes.items ≡ order_numbers c.in-Ok.crew.orders)
+    (λ r. AreOfOrders r.boxes.items c.args.orders.items) (λ r all. all ∙ c.in-Ok.ensures.orders)
     c.serve_by.ensures.back
 
 pub returns-clause-wrong_counts : goal.returns-clause-wrong_counts

@@ -2,7 +2,7 @@ use denote.Param.Send.{sendable}
 use Rattle.std.proofs.Common.{◌≡◌, IfOk, subst, sym, vec_len}
 use Rattle.std.specs.Option.{IfSome, ok_or}
 use Rattle.std.specs.Prelude.{None, Option, Result, Some}
-use Rattle.udp_server.specs.OrderCounts.{order_count}
+use Rattle.udp_server.specs.Orders.{numbers_back}
 use Rattle.udp_server.proofs.threads.run.Goals as goal
 
 -- what holds of a value, if there is one, holds of the result that has it
@@ -15,15 +15,7 @@ if_ok None fault P holds = tt
 pub scoped-record-requires : goal.scoped-record-requires
 scoped-record-requires g c = record {
   at = λ s. (
-    (
-      search sendable depth 8,
-      search sendable depth 8,
-      search sendable depth 8,
-      search sendable depth 8,
-      search sendable depth 8,
-      search sendable depth 8,
-      search sendable depth 8,
-    ),
+    c.requires.orders,
     (
       search sendable depth 8,
       search sendable depth 8,
@@ -45,7 +37,7 @@ scoped-record-requires g c = record {
 
 pub returns : goal.returns
 returns g c =
-    subst (λ (r : Result _ _). IfOk r (λ left. vec_len left.boxes ≡ order_count c.args.crew.orders))
-    (sym c.ok_or.ensures.value)
-    (if_ok c.scoped-record.result _ (λ left. vec_len left.boxes ≡ order_count c.args.crew.orders)
-    c.scoped-record.ensures.1)
+    subst (λ (r : Result _ _). IfOk r (λ left. numbers_back left.boxes.items
+    ≡ g.O.OrderNumbers.numbers)) (sym c.ok_or.ensures.value)
+    (if_ok c.scoped-record.result _ (λ left. numbers_back left.boxes.items
+    ≡ g.O.OrderNumbers.numbers) c.scoped-record.ensures.1)

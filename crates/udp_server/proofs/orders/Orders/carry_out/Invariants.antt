@@ -1,5 +1,5 @@
-use Rattle.std.proofs.Common.{◌≡◌, ◌+◌, vec_len}
-use Rattle.udp_server.specs.Orders.{ordering}
+use Rattle.std.proofs.Common.{◌≡◌}
+use Rattle.udp_server.specs.Orders.{numbers_of, ordering}
 use Rattle.udp_server.specs.Working.{standing}
 use Rattle.udp_server.proofs.Carrying.{AreTried}
 use Rattle.udp_server.proofs.orders.Orders.carry_out.Given as goal
@@ -12,6 +12,6 @@ invariant-loop g l = record {
       (standing l.fn.worker.seat l.fn.worker.outlet l.fn.worker.counts))
       (ordering l.self.waiting.items l.self.boxes.items
       (standing l.worker.seat l.worker.outlet l.worker.counts));
-  all : vec_len l.self.waiting + vec_len l.self.boxes
-      ≡ vec_len l.fn.self.waiting + vec_len l.fn.self.boxes;
+  all : numbers_of l.self.waiting.items l.self.boxes.items
+      ≡ numbers_of l.fn.self.waiting.items l.fn.self.boxes.items;
 }

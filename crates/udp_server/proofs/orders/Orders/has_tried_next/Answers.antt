@@ -1,4 +1,5 @@
 use Rattle.std.specs.Prelude.{false, true}
+use Rattle.udp_server.proofs.Numbers.{one_back}
 use Rattle.udp_server.proofs.orders.Orders.has_tried_next.Goals as goal
 
 pub returns-in-Ok-clause-tried : goal.returns-in-Ok-clause-tried
@@ -28,3 +29,17 @@ returns-in-Err-clause-tried g c is = (
     kept = let boxes = c.next_at.ensures.boxes in cc (c.push_reserved-in-Err.ensures.items, boxes);
   },
 )
+
+pub returns-in-Ok-clause-all : goal.returns-in-Ok-clause-all
+returns-in-Ok-clause-all g c =
+    let boxes = c.next_at.ensures.boxes in
+    one_back c.args.self.now.waiting.items c.next_at.new.self.waiting.items c.in-Some.order
+    c.args.self.now.boxes.items c.push_reserved.new.self.items c.in-Ok.old true
+    c.in-Some.ensures.next.0 (cc (c.push_reserved.ensures.items, boxes))
+
+pub returns-in-Err-clause-all : goal.returns-in-Err-clause-all
+returns-in-Err-clause-all g c =
+    let boxes = c.next_at.ensures.boxes in
+    one_back c.args.self.now.waiting.items c.next_at.new.self.waiting.items c.in-Some.order
+    c.args.self.now.boxes.items c.push_reserved-in-Err.new.self.items c.in-Err.fresh false
+    c.in-Some.ensures.next.0 (cc (c.push_reserved-in-Err.ensures.items, boxes))

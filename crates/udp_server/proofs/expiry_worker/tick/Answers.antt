@@ -1,0 +1,20 @@
+use Rattle.std.proofs.Common.{◌≡◌, ◌∙◌, subst, sym}
+use Rattle.std.specs.Prelude.{Bool, false, true}
+use Rattle.udp_server.specs.Plans.{has_history}
+use Rattle.udp_server.specs.WholeTicks.{AreTurnsOfTick}
+use Rattle.udp_server.specs.Working.{standing}
+use Rattle.udp_server.proofs.expiry_worker.tick.Goals as goal
+
+pub returns-then-is_recorded-clause-tick : goal.returns-then-is_recorded-clause-tick
+returns-then-is_recorded-clause-tick g c =
+    let then = c.carry_out.new.worker in
+    let new = c.goes_on_recorded.new.worker in
+    let is : has_history c.args.shared.now.plan ≡ true =
+    sym c.is_recorded.ensures ∙ c.if-is_recorded.true in
+    record {
+      then = standing then.seat then.outlet then.counts;
+      orders = c.carry_out.ensures.tried;
+      turns = subst (λ (r : Bool). AreTurnsOfTick g.D.Hall.opened g.C.Moments.tells r
+          c.goes_on_recorded.result (standing then.seat then.outlet then.counts)
+          (standing new.seat new.outlet new.counts)) (sym is) c.goes_on_recorded.ensures.tick;
+    }

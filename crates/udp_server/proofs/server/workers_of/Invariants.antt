@@ -1,0 +1,8 @@
+use Rattle.std.proofs.Common.{◌≡◌, ◌++◌, map}
+use Rattle.std.specs.Vec.Iter.{into_iter_items}
+use Rattle.udp_server.proofs.server.workers_of.Given as goal
+
+-- the seats of the workers so far, and those that are still to come
+abbrev pub invariant-loop-seat : goal.invariant-loop-seat
+invariant-loop-seat g l =
+    map (λ w. w.seat) l.workers.items ++ into_iter_items l.seat-iterator ≡ l.fn.seats.items
