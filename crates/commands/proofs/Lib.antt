@@ -1,2 +1,5 @@
+pub mod Beginnings
 pub mod Fronts
 pub mod Given
+pub mod Naming
+pub mod Told

@@ -1,13 +1,15 @@
 -- What a reading of settings from an input returns, and the exit status of each of its faults.
-use Rattle.std.specs.Prelude.{ℕ, ◌≡◌, ◌≤◌, ◌<◌, ◌+◌, ◌==◌, List, length, map, take, Some, IsUtf8}
-use Rattle.std.specs.Prelude.{Result, Ok, Err}
+use Rattle.std.specs.Prelude.{ℕ, ◌≡◌, ◌≤◌, ◌<◌, ◌+◌, ◌==◌, ◌++◌, List, [], ◌∷◌, length, map, take}
+use Rattle.std.specs.Prelude.{Some, IsUtf8, Result, Ok, Err, string_bytes}
 use Rattle.std.specs.List.{count_by}
+use Rattle.std.specs.Str.{bytes_eq}
 use Rattle.std.specs.Str.Lossy.{utf8_valid_len}
 use Rattle.settings.specs.declared.fault.SettingsFault.{SettingsFault}
 use Rattle.settings.specs.declared.fault.SettingsFault.TheVariants as settings
 use Rattle.settings.specs.Settings.{settings_of, IsAnswer}
 use Rattle.settings.specs.declared.settings.Settings.{Settings}
 use Rattle.settings.specs.Unknown.{paths_of, unknown_of}
+use Rattle.commands.specs.KeyLines.{line_of}
 use Rattle.commands.specs.declared.settings_input.TheConstants.{MOST_READ}
 use Rattle.commands.specs.declared.settings_input.InputFault.{InputFault}
 use Rattle.commands.specs.declared.settings_input.InputFault.TheVariants.{Stream, TooLong}
@@ -64,6 +66,23 @@ IsInputRead octets answer =
 -- exactly the keys of the text that aren't known are told, in order
 abbrev pub ArePassedOver : List ℕ → List PassedOver → Type 0
 ArePassedOver text told = Some (paths_of (map (λ passed. passed.key) told)) ≡ unknown_of text
+
+-- how many of these keys have this path
+abbrev pub count_with : List ℕ → List PassedOver → ℕ
+count_with path keys = count_by (λ passed. bytes_eq (string_bytes passed.key.path) path) keys
+
+-- Keys that are told behind others have their lines: each stands on a line that names its path,
+-- behind as many such lines as there are keys with this path before it.
+abbrev pub HaveLinesBehind : List ℕ → List PassedOver → List PassedOver → Type 0
+HaveLinesBehind text before [] = Unit {0}
+HaveLinesBehind text before (passed ∷ behind) =
+    (passed.line ≡ line_of text (string_bytes passed.key.path)
+    (count_with (string_bytes passed.key.path) before))
+    × HaveLinesBehind text (before ++ passed ∷ []) behind
+
+-- each key that is told has its line
+abbrev pub HaveLines : List ℕ → List PassedOver → Type 0
+HaveLines text told = HaveLinesBehind text [] told
 
 -- the octets are settings: no more than are read, UTF-8, and a text that gives settings
 pub record GivesSettings (octets : List ℕ) : Type 0 where

@@ -1,4 +1,5 @@
 pub mod Audits
 pub mod Checks
 pub mod Inputs
+pub mod KeyLines
 pub mod Replays

@@ -2,8 +2,8 @@
 
 ghost use Rattle.std.specs.Prelude.{◌≡◌, ◌≤◌, length, map, IfErr, IfOk, IfSome};
 ghost use Rattle.settings.specs.Settings.{AreSettings};
-ghost use Rattle.commands.specs.Inputs.{ArePassedOver, input_status, IsReadFault, IsRefusal};
-ghost use Rattle.commands.specs.Inputs.{IsInputRead, IsTextRead};
+ghost use Rattle.commands.specs.Inputs.{ArePassedOver, HaveLines, IsInputRead, IsReadFault};
+ghost use Rattle.commands.specs.Inputs.{IsRefusal, IsTextRead, count_with, input_status};
 
 use crate::key_lines::{line_behind, line_of};
 use settings::{Settings, SettingsFault, UnknownKey, read_settings, unknown_keys};
@@ -103,14 +103,12 @@ fn refusal(fault: SettingsFault) -> InputFault
 }
 
 /// How many of these keys have this path.
-fn count_of(keys: &[PassedOver], path: &str) -> usize {
-    let mut count = 0usize;
-    for passed in keys {
-        if passed.key.path.as_str() == path {
-            count = count.saturating_add(1);
-        }
-    }
-    count
+fn count_of(keys: &[PassedOver], path: &str) -> usize
+    ensures { result ≡ count_with path.now keys.now }
+{
+    keys.iter()
+        .filter(|passed| passed.key.path.as_str() == path)
+        .count()
 }
 
 /// The keys that are passed over, each with the line on which it stands.
@@ -119,7 +117,8 @@ fn passed_over(
     text: &str,
     unknown: Vec<UnknownKey>,
 ) -> Result<Vec<PassedOver>, AllocError>
-    ensures { IfOk result (λ all. map (λ passed. passed.key) all.items ≡ unknown.items) }
+    ensures keys { IfOk result (λ all. map (λ passed. passed.key) all.items ≡ unknown.items) }
+    ensures lines { IfOk result (λ all. HaveLines text.now all.items) }
 {
     let mut all = Vec::with_capacity(alloc, unknown.len())?;
     for key in unknown {
@@ -135,6 +134,7 @@ fn passed_over(
 fn read_text(alloc: Global, text: &str) -> Result<ReadInput, InputFault>
     ensures answer { IsTextRead text.now result }
     ensures passed { IfOk result (λ read. ArePassedOver text.now read.passed_over.items) }
+    ensures lines { IfOk result (λ read. HaveLines text.now read.passed_over.items) }
     ensures ranges { IfOk result (λ read. AreSettings read.settings) }
 {
     let settings = match read_settings(alloc, text) {
@@ -157,12 +157,14 @@ fn read_text(alloc: Global, text: &str) -> Result<ReadInput, InputFault>
 /// Reads settings from an input, which is read whole.
 ///
 /// promise settings-input-is-bounded: Octets are settings if and only if they are UTF-8, at most
-/// 1,048,576, and `read_settings` takes them; told are the keys that are passed over, and the line
-/// where UTF-8 ends.
+/// 1,048,576, and `read_settings` takes them; told are the keys that are passed over, each with its
+/// line, and the line where UTF-8 ends.
 pub fn read_input<R: Read + Drop>(alloc: Global, input: R) -> Result<ReadInput, InputFault>
     ensures answer { IfSome (R.remaining input) (λ octets. IsInputRead octets result) }
     ensures passed { IfSome (R.remaining input) (λ octets.
         IfOk result (λ read. ArePassedOver octets read.passed_over.items)) }
+    ensures lines { IfSome (R.remaining input) (λ octets.
+        IfOk result (λ read. HaveLines octets read.passed_over.items)) }
     ensures ranges { IfOk result (λ read. AreSettings read.settings) }
 {
     match read_octets(alloc, input) {
