@@ -1,4 +1,5 @@
 pub mod Clocks
+pub mod Endings
 pub mod Recorders
 pub mod Reports
 pub mod Serves

@@ -1,10 +1,12 @@
 -- What a record gets of the entries that leave a zone's history while it is served.
-use Rattle.std.specs.Prelude.{ℕ, ◌≡◌, ◌==◌, ◌&&◌, ◌⊎◌, Bool, true, false, List, Result}
+use Rattle.std.specs.Prelude.{ℕ, ◌≡◌, ◌==◌, ◌&&◌, ◌⊎◌, Bool, IsTrue, true, false, List, Result, Ok}
+use Rattle.std.specs.Prelude.{Err}
 use Rattle.std.specs.Io.KnownBytes.{Keeps}
 use Rattle.std.specs.declared.io.Error.{Error}
 use Rattle.books.specs.declared.book.Entry.{Entry}
 use Rattle.zone_lock.specs.declared.handing.HandedOut.{HandedOut}
 use Rattle.recording.specs.declared.writer.Recorded.{Recorded}
+use Rattle.recording.specs.declared.writer.Recorded.TheVariants.{Closed, Ended, Written}
 use Rattle.recording.specs.declared.writer.End.TheVariants.{Overrun}
 use Rattle.recording.specs.Records.{AreAnswered, IsEndAnswer}
 use Rattle.recording.specs.Standings.{Standing}
@@ -23,13 +25,21 @@ abbrev pub IsPutDown : {E : Type 0} → Standing → HandedOut → Result Record
 IsPutDown old handed result new =
     IsPutDownIf (go_on old.steps handed) old handed.entries.items result new
 
--- a flush was tried: what was written stays, and nothing changes but the output and whether a
--- further step may be written
+-- A flush was made: what was written stays, and nothing changes but the output and whether a
+-- further step may be written. If it failed, none may; else it is as before.
 pub record IsFlushed (old new : Standing) : Type 0 where
   pub same : new ≡ record old { output = new.output; is_open = new.is_open }
   pub text : Keeps old.output.contents new.output.contents
+  pub made : (IsTrue new.output.flushed × (new.is_open ≡ old.is_open)) ⊎ (new.is_open ≡ false)
 
--- the entries were put down, and behind that the record may have been flushed
+-- what comes behind such an answer: a record that ended, or into which a write failed, is flushed
+abbrev pub IsBehindAnswer : {E : Type 0} → Result Recorded E → Standing → Standing → Type 0
+IsBehindAnswer (Ok (Ended why)) old new = IsFlushed old new
+IsBehindAnswer (Ok Written) old new = new ≡ old
+IsBehindAnswer (Ok Closed) old new = new ≡ old
+IsBehindAnswer (Err error) old new = IsFlushed old new
+
+-- the entries were put down, and what comes behind that was done
 abbrev pub ArePut : Standing → HandedOut → Standing → Type 0
 ArePut old handed new = (answer : Result Recorded Error) × (mid : Standing)
-    × IsPutDown old handed answer mid × ((new ≡ mid) ⊎ IsFlushed mid new)
+    × IsPutDown old handed answer mid × IsBehindAnswer answer mid new

@@ -23,16 +23,20 @@ running_fault_of server.NotFinished = NotFinished
 abbrev pub IsServerFault : RunningFault → Type 0
 IsServerFault fault = (fault ≡ Memory) ⊎ (fault ≡ NotFinished)
 
--- nor does one with a page or without, and with a record or without
-abbrev pub IsAttendedFault : Bool → Bool → RunningFault → Type 0
-IsAttendedFault has_page has_record fault =
-    ((fault ≡ BindPage) × IsTrue has_page) ⊎ ((fault ≡ Record) × IsTrue has_record)
-    ⊎ IsServerFault fault
+-- nor does one with a record or without, whose addresses are bound before
+abbrev pub IsAttendedFault : Bool → RunningFault → Type 0
+IsAttendedFault has_record fault =
+    ((fault ≡ Record) × IsTrue has_record) ⊎ IsServerFault fault
+
+-- nor does one whose page has to be bound, if it has one
+abbrev pub IsPagedFault : Bool → Bool → RunningFault → Type 0
+IsPagedFault has_page has_record fault =
+    ((fault ≡ BindPage) × IsTrue has_page) ⊎ IsAttendedFault has_record fault
 
 -- nor does one whose zone has to be made, and its address to be bound
 abbrev pub IsServeFault : Bool → Bool → RunningFault → Type 0
 IsServeFault has_page has_record fault =
-    (fault ≡ WrongPools) ⊎ (fault ≡ Bind) ⊎ IsAttendedFault has_page has_record fault
+    (fault ≡ WrongPools) ⊎ (fault ≡ Bind) ⊎ IsPagedFault has_page has_record fault
 
 -- and its report isn't printed
 abbrev pub IsPrintFault : Bool → Bool → RunningFault → Type 0

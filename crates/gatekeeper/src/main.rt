@@ -1,11 +1,12 @@
 //! The gatekeeper's program.
 //!
 //! proved: nothing is written of refused settings (`serve`); a report is its counts
-//! (`print_report`)
+//! (`print_report`); the exit status once it has served (`served_status`)
 //! tested: the built program
 #![tactic(auto)]
 
 mod attendants;
+mod ending;
 mod over_socket;
 mod page_server;
 mod recorder;
@@ -16,6 +17,7 @@ mod stopping;
 mod stopwatch;
 
 use commands::{Choice, Serving, chosen};
+use ending::served_status;
 use log::Log;
 use script::Output;
 use serve::serve;
@@ -31,8 +33,8 @@ use std::thread::Threads;
 use std::{env, io};
 use stopping::SignalStop;
 use surroundings::{
-    SETTINGS, StopSignal, audit_source, check_source, end_status, explain_input, open_file,
-    out_of_memory, probe_gatekeeper, replay_input, stream_failed,
+    SETTINGS, StopSignal, audit_source, check_source, explain_input, open_file, out_of_memory,
+    probe_gatekeeper, replay_input, stream_failed,
 };
 use udp_socket::Stop;
 
@@ -127,12 +129,7 @@ fn serve_input<
         return out_of_memory(rt);
     };
     let mut out = Output::new(buffer);
-    let is_limited = serving.receives.is_some();
-    match serve(rt, alloc, input, serving, stop, &mut out) {
-        Ok(()) => end_status(rt, is_limited || stop.is_over()),
-        Err(fault) => {
-            let _ = eprintln!(rt; "{fault}");
-            fault.status()
-        }
-    }
+    let receives = serving.receives;
+    let served = serve(rt, alloc, input, serving, stop, &mut out);
+    served_status(rt, served, receives, stop)
 }

@@ -1,5 +1,7 @@
 //! The status page beside the server of a zone.
 
+ghost use Rattle.std.specs.Prelude.{◌≡◌, ◌↔◌, IfSome, IsSome};
+
 use log::{Log, warn};
 use status_page::About;
 use status_server::BoundListener;
@@ -24,7 +26,10 @@ pub fn watcher_of<'a, R>(
     rt: &'a R,
     listener: Option<&'a BoundListener>,
     about: &'a About,
-) -> Option<PageServer<'a, R>> {
+) -> Option<PageServer<'a, R>>
+    ensures page { IsSome result ↔ IsSome listener.entry }
+    ensures about { IfSome result (λ page. page.about.now ≡ about.now) }
+{
     match listener {
         Some(listener) => Some(PageServer {
             rt,

@@ -90,7 +90,8 @@ impl<R: Log, W: Write + Drop> Recorder<'_, R, W> {
         }
     }
 
-    /// Hands what is held to the system. A warning tells if that fails.
+    /// Hands what is held to the system. If that fails, a warning tells it, and the record is
+    /// closed.
     fn flush(&mut self)
         ensures { IsFlushed self.old.record self.new.record }
     {

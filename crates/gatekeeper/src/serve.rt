@@ -1,8 +1,9 @@
 //! Serving a zone over UDP.
 
 ghost use Rattle.std.specs.Prelude.{◌≡◌, ◌≤◌, IfErr, IfOk, IfSome, IsSome, is_some};
-ghost use Rattle.gatekeeper.specs.Serves.{AreServed, IsAttendedFault, IsPrintFault};
-ghost use Rattle.gatekeeper.specs.Serves.{IsReportWritten, IsServeFault, IsServiceWritten};
+ghost use Rattle.gatekeeper.specs.Serves.{AreServed, IsAttendedFault, IsPagedFault};
+ghost use Rattle.gatekeeper.specs.Serves.{IsPrintFault, IsReportWritten, IsServeFault};
+ghost use Rattle.gatekeeper.specs.Serves.{IsServiceWritten};
 ghost use Rattle.settings.specs.Settings.{AreSettings};
 ghost use Rattle.surroundings.specs.Zones.{zone_set};
 ghost use Rattle.udp_server.specs.Plans.{IsPlan};
@@ -22,6 +23,7 @@ use ras_module::Address;
 use script::Output;
 use settings::Settings;
 use status_page::About;
+use status_server::BoundListener;
 use std::alloc::{AllocGlobal, Global};
 use std::fs::File;
 use std::io::{Read, Write};
@@ -37,9 +39,50 @@ use surroundings::{
 use udp_server::Report;
 use udp_socket::{BoundSocket, Stop, bind_zone};
 
-/// Serves a zone over a socket, its status page if that has an address, and writes its record if
-/// one is planned. The record is begun last, so that what can't be served leaves none.
+/// Serves a zone over a socket, its status page if there is a listener for it, and writes its
+/// record if one is planned. The record is begun once socket and page are bound.
 fn serve_attended<
+    P: Pool + Send,
+    R: Threads
+        + Wait
+        + Clock
+        + Files<File = File>
+        + Net<Listener = TcpListener, Stream = TcpStream>
+        + RandomSource
+        + AllocGlobal
+        + Log
+        + Sync,
+    S: Stop + Sync,
+>(
+    rt: &R,
+    alloc: Global,
+    zone: Zone<P>,
+    socket: &BoundSocket,
+    service: Service,
+    stop: &S,
+    listener: Option<&BoundListener>,
+    about: &About,
+    planned: Option<PlannedRecord<'_>>,
+) -> Result<Report<P>, RunningFault>
+    requires receivers { service.receivers ≤ 15 }
+    requires plan { IsPlan service.plan }
+    ensures served { IfOk result (λ r. IsServed zone.state r.finished r.datagrams r.turns
+        r.changes) }
+    ensures fault { IfErr result (IsAttendedFault (is_some planned.entry)) }
+{
+    ask_for_buffer(rt, socket, service.buffer);
+    let page = watcher_of(rt, listener, about);
+    let recorder = match planned {
+        Some(planned) => Some(recorder_of(rt, alloc, &planned)?),
+        None => None,
+    };
+    let attendants = attendants_of(alloc, page, recorder)?;
+    tell_zone(rt, &about.name, about.address, service.receivers);
+    serve_socket(rt, alloc, zone, socket, service, stop, attendants)
+}
+
+/// Binds the address of the status page, if it has one, and serves the zone over a socket.
+fn serve_paged<
     P: Pool + Send,
     R: Threads
         + Wait
@@ -66,18 +109,13 @@ fn serve_attended<
     requires plan { IsPlan service.plan }
     ensures served { IfOk result (λ r. IsServed zone.state r.finished r.datagrams r.turns
         r.changes) }
-    ensures fault { IfErr result (IsAttendedFault (is_some page) (is_some planned.entry)) }
+    ensures fault { IfErr result (IsPagedFault (is_some page) (is_some planned.entry)) }
 {
     let listener = bind_page(rt, page)?;
-    let recorder = match planned {
-        Some(planned) => Some(recorder_of(rt, alloc, &planned)?),
-        None => None,
-    };
-    let page = watcher_of(rt, listener.as_ref(), about);
-    let attendants = attendants_of(alloc, page, recorder)?;
-    ask_for_buffer(rt, socket, service.buffer);
-    tell_zone(rt, &about.name, about.address, service.receivers);
-    serve_socket(rt, alloc, zone, socket, service, stop, attendants)
+    let listener = listener.as_ref();
+    serve_attended(
+        rt, alloc, zone, socket, service, stop, listener, about, planned,
+    )
 }
 
 /// Serves the zone that is set with the pools that were made for it, once it is seen that they are
@@ -130,7 +168,7 @@ fn serve_pools<
         }
     };
     let about = About { name, address };
-    let report = serve_attended(
+    let report = serve_paged(
         rt, alloc, zone, &socket, service, task.stop, status, &about, planned,
     )?;
     warn_of_faults(rt, &report);
