@@ -32,7 +32,8 @@ pub record IsFlushed (old new : Standing) : Type 0 where
   pub text : Keeps old.output.contents new.output.contents
   pub made : (IsTrue new.output.flushed × (new.is_open ≡ old.is_open)) ⊎ (new.is_open ≡ false)
 
--- what comes behind such an answer: a record that ended, or into which a write failed, is flushed
+-- what comes behind such an answer: a record that ended, or into which a write failed, is flushed,
+-- and any other stays as it is
 abbrev pub IsBehindAnswer : {E : Type 0} → Result Recorded E → Standing → Standing → Type 0
 IsBehindAnswer (Ok (Ended why)) old new = IsFlushed old new
 IsBehindAnswer (Ok Written) old new = new ≡ old
