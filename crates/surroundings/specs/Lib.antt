@@ -1,3 +1,5 @@
 pub mod Elapsed
 pub mod Faults
+pub mod Probes
+pub mod Signals
 pub mod Zones

@@ -3,6 +3,7 @@
 ghost use Rattle.std.specs.Prelude.{◌≡◌};
 ghost use Rattle.commands.specs.Inputs.{input_status};
 ghost use Rattle.probing.specs.Statuses.{probe_status};
+ghost use Rattle.surroundings.specs.Probes.{IsProbed, IsProbeStatus};
 
 use crate::last_line::{out_of_memory, stream_failed};
 use commands::{InputFault, explain};
@@ -33,14 +34,20 @@ fn refuse_input(rt: &impl Eprint, fault: &InputFault) -> u8
 }
 
 /// Asks a gatekeeper whether it is there. That it is is told on standard output, else why not on
-/// standard error.
-pub fn probe_gatekeeper<R: Net + Clock + Print + Eprint>(
-    rt: &R,
-    alloc: Global,
-    probe: Probe,
-) -> u8 {
+/// standard error. The exit status is 0 only if the answer confirms it.
+pub fn probe_gatekeeper<R: Net + Clock + Print + Eprint>(rt: &R, alloc: Global, probe: Probe) -> u8
+    ensures { IsProbed result }
+{
     let mut words = String::new(alloc);
-    match ask_gatekeeper(rt, alloc, probe, &mut words) {
+    let answer = ask_gatekeeper(rt, alloc, probe, &mut words);
+    tell_answer(rt, words.as_str(), answer)
+}
+
+/// Tells the words of an answer, or why there is none. Returns the exit status.
+fn tell_answer<R: Print + Eprint>(rt: &R, words: &str, answer: Result<bool, ProbeFault>) -> u8
+    ensures { IsProbeStatus answer result }
+{
+    match answer {
         Ok(true) => match print!(rt; "{words}") {
             Ok(()) => 0,
             Err(_) => stream_failed(rt),

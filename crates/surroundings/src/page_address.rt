@@ -24,7 +24,8 @@ pub fn bind_page<R: Net<Listener = TcpListener, Stream = TcpStream> + Log>(
     };
     match bind_status(rt, address) {
         Ok(listener) => {
-            tell_page(rt, address);
+            // (for port 0 the system has chosen one)
+            tell_page(rt, listener.address().unwrap_or(address));
             Ok(Some(listener))
         }
         Err(fault) => {

@@ -1,6 +1,6 @@
 //! The file of a record, and what stands in it before the first step.
 
-ghost use Rattle.std.specs.Prelude.{◌≡◌, Err, IfErr, IfOk, OnErr, length, nat_le};
+ghost use Rattle.std.specs.Prelude.{◌≡◌, Err, IfErr, IfOk, IsTrue, OnErr, length, nat_le};
 ghost use Rattle.recording.specs.Zones.{zone_lines};
 ghost use Rattle.surroundings.specs.Faults.{IsBeginFault, begin_fault};
 
@@ -58,7 +58,7 @@ fn write_time<R: Clock, W: Write>(rt: &R, out: &mut W) -> io::Result<()> {
     }
 }
 
-/// Begins a record of a zone. What is told of the zone stands in the output then.
+/// Begins a record of a zone. What is told of the zone is flushed then.
 fn begun<R: Clock, W: Write + Drop>(
     rt: &R,
     alloc: Global,
@@ -69,6 +69,7 @@ fn begun<R: Clock, W: Write + Drop>(
     ensures bound { IfOk result (λ writer. writer.most ≡ most) }
     ensures open { IfOk result (λ writer. writer.is_open
         ≡ nat_le (length (zone_lines zone.now)) most) }
+    ensures flushed { IfOk result (λ writer. IsTrue writer.output.flushed) }
 {
     write_time(rt, &mut out)?;
     let mut record = RecordWriter::begin(alloc, out, zone, most)?;
@@ -89,7 +90,8 @@ fn refused<R: Log>(rt: &R, name: &str, kind: ErrorKind) -> RunningFault
     }
 }
 
-/// Makes the file of a record and begins it. If that fails, the log tells why.
+/// Makes the file of a record and begins it: what is told of the zone is flushed. If that fails,
+/// the log tells why.
 pub fn begin_record<R: Files<File = File> + Clock + Log>(
     rt: &R,
     alloc: Global,
@@ -98,6 +100,7 @@ pub fn begin_record<R: Files<File = File> + Clock + Log>(
     ensures bound { IfOk result (λ writer. writer.most ≡ planned.now.recording.most) }
     ensures open { IfOk result (λ writer. writer.is_open
         ≡ nat_le (length (zone_lines planned.now.zone)) planned.now.recording.most) }
+    ensures flushed { IfOk result (λ writer. IsTrue writer.output.flushed) }
     ensures fault { IfErr result IsBeginFault }
 {
     let name = planned.recording.file;

@@ -1,6 +1,10 @@
 //! Signals that ask the program to end. It is started with SIGTERM and SIGINT blocked, as
 //! `./gatekeeper serve` starts it; a signal that came then waits, and the system tells so.
 
+ghost use Rattle.std.specs.Prelude.{◌≡◌, ◌↔◌, IsTrue};
+ghost use Rattle.std.specs.Option.{option_copied};
+ghost use Rattle.surroundings.specs.Signals.{AsksToEnd, IsAsked, waiting_in, waiting_of};
+
 use crate::elapsed::milliseconds_since;
 use std::alloc::Global;
 use std::fs;
@@ -18,17 +22,46 @@ const ASKING: u64 = 1 << 1 | 1 << 14;
 /// How long it is from one look at the signals to the next, in milliseconds.
 const PAUSE: u64 = 100;
 
-/// Whether one of these signals waits, by what the system tells of the program.
-fn is_asked(status: &str) -> bool {
+/// Which signals wait for the program, in digits to the base 16, if a line tells it.
+fn waiting_in(line: &str) -> Option<&str>
+    ensures { option_copied result ≡ waiting_in line.now }
+{
+    match line.strip_prefix("ShdPnd:") {
+        Some(digits) => Some(digits.trim()),
+        None => None,
+    }
+}
+
+/// The same of the first line that tells it.
+fn waiting(status: &str) -> Option<&str>
+    ensures { option_copied result ≡ waiting_of status.now }
+{
     for line in status.lines() {
-        if let Some(signals) = line.strip_prefix("ShdPnd:") {
-            return match u64::from_str_radix(signals.trim(), 16) {
-                Ok(signals) => signals & ASKING != 0,
-                Err(_) => false,
-            };
+        if let Some(digits) = waiting_in(line) {
+            return Some(digits);
         }
     }
-    false
+    None
+}
+
+/// Whether a signal that asks the program to end is among these.
+fn asks(digits: &str) -> bool
+    ensures { IsTrue result ↔ AsksToEnd digits.now }
+{
+    match u64::from_str_radix(digits, 16) {
+        Ok(signals) => signals & ASKING != 0,
+        Err(_) => false,
+    }
+}
+
+/// Whether one of these signals waits, by what the system tells of the program.
+fn is_asked(status: &str) -> bool
+    ensures { IsTrue result ↔ IsAsked status.now }
+{
+    match waiting(status) {
+        Some(digits) => asks(digits),
+        None => false,
+    }
 }
 
 /// A look at the signals now and then.
