@@ -70,13 +70,13 @@ fn serve_attended<
         r.changes) }
     ensures fault { IfErr result (IsAttendedFault (is_some planned.entry)) }
 {
-    ask_for_buffer(rt, socket, service.buffer);
     let page = watcher_of(rt, listener, about);
     let recorder = match planned {
         Some(planned) => Some(recorder_of(rt, alloc, &planned)?),
         None => None,
     };
     let attendants = attendants_of(alloc, page, recorder)?;
+    ask_for_buffer(rt, socket, service.buffer);
     tell_zone(rt, &about.name, about.address, service.receivers);
     serve_socket(rt, alloc, zone, socket, service, stop, attendants)
 }
