@@ -1,8 +1,8 @@
 -- Two lists of rows make the same map if and only if each has what the other has.
-use Rattle.std.proofs.Common.{◌≡◌, ◌<◌, ◌&&◌, ◌↔◌, Bool, true, false}
-use Rattle.std.proofs.Common.{List, length, get_or, refl, sym}
-use Rattle.std.proofs.Common.{◌∙◌, ap, Some, None, ℕ}
-use Rattle.std.specs.Prelude.{All, IsTrue, Option, slice_get}
+use Rattle.std.proofs.Common.{◌≡◌, ◌&&◌, ◌↔◌, Bool, false}
+use Rattle.std.proofs.Common.{List, get_or, refl, sym}
+use Rattle.std.proofs.Common.{◌∙◌, ap, Some, None}
+use Rattle.std.specs.Prelude.{All, IsTrue, Option}
 use Rattle.std.specs.Cmp.{IsTotalOrder}
 use Rattle.std.specs.declared.cmp.Ordering.{Ordering}
 use Rattle.std.specs.FinMap as fin

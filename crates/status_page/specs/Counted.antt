@@ -6,13 +6,9 @@ use Rattle.zone_view.specs.Labels.{answer_label, deed_label, reject_label, reply
 use Rattle.zone_view.specs.Labels.{request_label}
 use Rattle.zone_view.specs.declared.count.Count.{Count}
 use Rattle.zone_view.specs.declared.count.Count.TheVariants as count
-use Rattle.zone_view.specs.declared.kinds.Answer.{Answer}
 use Rattle.zone_view.specs.declared.kinds.Answer.TheVariants as answer
-use Rattle.zone_view.specs.declared.kinds.ReplyKind.{ReplyKind}
 use Rattle.zone_view.specs.declared.kinds.ReplyKind.TheVariants as reply
-use Rattle.zone_view.specs.declared.kinds.RequestKind.{RequestKind}
 use Rattle.zone_view.specs.declared.kinds.RequestKind.TheVariants as request
-use Rattle.zone_view.specs.declared.kinds.TurnDeed.{TurnDeed}
 use Rattle.zone_view.specs.declared.kinds.TurnDeed.TheVariants as deed
 use Rattle.zone_view.specs.declared.reject.Reject.{Reject}
 use Rattle.zone_view.specs.declared.reject.Reject.TheVariants as reject

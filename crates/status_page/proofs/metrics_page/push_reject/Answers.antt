@@ -1,4 +1,3 @@
-use Rattle.std.proofs.Common.{◌∷◌}
 use Rattle.std.specs.String.{string_bytes}
 use Rattle.status_page.specs.Metrics.{reject_sample, reject_sample_parts}
 use Rattle.status_page.proofs.Written.{glued}

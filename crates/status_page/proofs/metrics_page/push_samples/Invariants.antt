@@ -1,4 +1,4 @@
-use Rattle.std.proofs.Common.{◌≡◌, ◌++◌, drop, codes}
+use Rattle.std.proofs.Common.{◌≡◌, ◌++◌, drop}
 use Rattle.std.specs.String.{string_bytes}
 use Rattle.status_page.specs.Metrics.{samples}
 use Rattle.status_page.proofs.metrics_page.push_samples.Given as goal

@@ -1,6 +1,6 @@
 use Rattle.std.proofs.Common.{◌≡◌, ◌∙◌, sym, ap, None, Some, option_and_then}
 use Rattle.value_texts.specs.Parts.{front_part, rest_part}
-use Rattle.status_page.specs.Queries.{parts_of, query_of, with_part, with_parts}
+use Rattle.status_page.specs.Queries.{parts_of, with_part, with_parts}
 use Rattle.status_page.proofs.Parted.{first_part_first}
 use Rattle.status_page.proofs.query.query_of.Goals as goal
 

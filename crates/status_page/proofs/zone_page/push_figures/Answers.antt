@@ -1,4 +1,3 @@
-use Rattle.std.proofs.Common.{◌∷◌}
 use Rattle.std.specs.String.{string_bytes}
 use Rattle.status_page.specs.JsonZone.{figure_parts, figures_json}
 use Rattle.status_page.proofs.Written.{glued}
