@@ -40,7 +40,7 @@ set window 7
 set silence 8
 set delay 9
 set retries 10
- set  asks 011 
+ set  asks 011\x20
 set ask_wait 12
 set pool_turn 13
 set least_grant 14
@@ -69,9 +69,10 @@ fn a_zone_without_pools_has_one_of_its_limit(rt: HostRuntime) -> Result<(), Fail
         ip: [10, 0, 0, 1],
         port: 1719,
     };
+    let is_pool = matches!(script.pools.as_slice(), [PoolSpec::Fixed { limit: 1 }]);
     assert!(rt; parts.identifier.as_slice() == [103, 233].as_slice());
     assert!(rt; parts.address == address);
-    assert!(rt; matches!(script.pools.as_slice(), [PoolSpec::Fixed { limit: 1 }]));
+    assert!(rt; is_pool);
     assert!(rt; parts.networks.as_slice() == [None].as_slice());
     Ok(())
 }
@@ -82,9 +83,9 @@ at 0012 from 255.0.0.05:65535 0aBf
 turn 9007199254740991
 
 at 9007199254740991 from 0.0.0.0:0 18
-  turn   00 
+  turn   00\x20
 replace 9007199254740991 18446744073709551615 fixed 0
-  replace  0012 007  paced 2500 4294967295 
+  replace  0012 007  paced 2500 4294967295\x20
 replace 0 018446744073709551615 step 1000000000000 64
 ";
 

@@ -36,17 +36,13 @@ const PRINTED: &[u8] =
 6 served lent 720 > 10.0.0.5:1719 3400064007D0
 ";
 
-/// The pools that are described, of which each was asked for this much.
-fn pools_of(
-    alloc: Global,
-    specs: &[PoolSpec],
-    asked: u64,
-) -> Result<Vec<StandardPool>, AllocError> {
+/// The pools that are described, of which each has lent this much.
+fn pools_of(alloc: Global, specs: &[PoolSpec], lent: u32) -> Result<Vec<StandardPool>, AllocError> {
     let mut pools = Vec::new(alloc);
     for spec in specs {
         let mut pool = StandardPool::new(*spec);
-        if asked > 0 {
-            let _: Lend = pool.lend(asked);
+        if lent > 0 {
+            let _: Lend = pool.lend(u64::from(lent));
         }
         pools.push(pool)?;
     }
