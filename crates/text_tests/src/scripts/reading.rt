@@ -12,7 +12,7 @@ fn one_octet_past_the_limit_is_read(rt: HostRuntime) -> Result<(), Fail> {
         (1_048_577, ScriptFault::TooLong, 0),
         (1_048_580, ScriptFault::TooLong, 3),
     ] {
-        let script = vec![in rt.alloc(); b'\n'; size]?;
+        let script = vec![in rt.alloc(); b' '; size]?;
         let mut input = Input::new(script.as_slice());
         assert!(rt;
             read_script(rt.alloc(), &mut input).err() == Some(fault),
