@@ -10,6 +10,24 @@ fn look(alloc: Global, path: &str, query: &str) -> Result<Asked, AllocError> {
     asked_by(alloc, Method::Look, path, query)
 }
 
+/// A query without parameters.
+fn plain() -> Query {
+    Query {
+        endpoint: None,
+        call: None,
+        most: 100,
+    }
+}
+
+#[test]
+fn without_parameters_there_are_100_rows(rt: HostRuntime) -> Result<(), Fail> {
+    let alloc = rt.alloc();
+    assert!(rt; look(alloc, "/", "")? == Asked::Home(plain()));
+    assert!(rt; look(alloc, "/endpoints.json", "")? == Asked::Endpoints(plain()));
+    assert!(rt; look(alloc, "/calls.json", "")? == Asked::Calls(plain()));
+    Ok(())
+}
+
 #[test]
 fn an_empty_path_has_no_page(rt: HostRuntime) -> Result<(), Fail> {
     assert!(rt; look(rt.alloc(), "", "")? == Asked::NoPage);

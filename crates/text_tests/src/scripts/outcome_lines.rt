@@ -42,6 +42,8 @@ fn lines_of_outcomes_are_written_as_they_were_read(rt: HostRuntime) -> Result<()
         "25 done retry 7 dropped 1280",
         "26 done retry 7 lent 4294967295 dropped 18446744073709551615",
         "27 served wait dropped 0 > 10.0.0.255:1719 0480AF",
+        "28 served",
+        "29 kept",
     ] {
         let again = written_again(rt.alloc(), line)?;
         assert!(rt; again.as_slice() == line.as_bytes());
