@@ -1,6 +1,6 @@
-//! Tests of texts: scripts, values, keys of settings and outcomes; settings; and the status page.
-//! They use public calls and stand above the libraries, so that these needn't be proved once more
-//! for them.
+//! Tests of texts, as far as the cases of tests/ can't show the same: scripts and outcomes; keys of
+//! settings; and the status page. They use public calls and stand above the libraries, so that these
+//! needn't be proved once more for them.
 #![tactic(auto)]
 
 #[cfg(test)]

@@ -30,7 +30,7 @@ pub(crate) fn address(last: u8, port: u16) -> Address {
 }
 
 /// A row of the endpoint with this identifier. It has one alias, an h323-ID of one quote.
-pub(crate) fn endpoint_row(identifier: EndpointId) -> EndpointRow {
+fn endpoint_row(identifier: EndpointId) -> EndpointRow {
     let quote = H323Id::new(&[34]).unwrap();
     EndpointRow {
         identifier,

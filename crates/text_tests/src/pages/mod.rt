@@ -1,5 +1,5 @@
-//! Tests of the status page: escapes, what requests ask for, lists over a zone in memory, and the
-//! texts of the pages.
+//! Tests of the status page that no server can show: escapes, what requests ask for, lists over a
+//! zone in memory, and the texts of its pages.
 
 mod asking;
 mod escaping;

@@ -1,9 +1,9 @@
 //! The texts of the pages.
 
-use crate::pages::memory_zone::{address, call_row, endpoint_row, identifier, small_zone};
+use crate::pages::memory_zone::{address, call_row, identifier, small_zone};
 use status_page::{
-    About, CallList, Content, EndpointList, Overview, Query, Status, calls_after, calls_json,
-    endpoints_after, endpoints_json, home, metrics, zone_json,
+    About, CallList, Content, Overview, Query, Status, calls_after, calls_json, endpoints_after,
+    home, metrics, zone_json,
 };
 use std::alloc::{AllocError, Global};
 use std::test::Fail;
@@ -17,13 +17,6 @@ fn about() -> Result<About, Fail> {
     })
 }
 
-fn endpoint_list(alloc: Global, is_more: bool) -> Result<EndpointList, Fail> {
-    let mut rows = Vec::new(alloc);
-    let row = Box::new(alloc, endpoint_row(identifier("0001")?)).map_err(AllocError::from)?;
-    rows.push(row).map_err(AllocError::from)?;
-    Ok(EndpointList { rows, is_more })
-}
-
 fn call_list(alloc: Global, is_more: bool) -> Result<CallList, Fail> {
     let mut rows = Vec::new(alloc);
     let first = call_row(1, identifier("0001")?, Some(identifier("<2>")?));
@@ -33,28 +26,6 @@ fn call_list(alloc: Global, is_more: bool) -> Result<CallList, Fail> {
     let row = Box::new(alloc, second).map_err(AllocError::from)?;
     rows.push(row).map_err(AllocError::from)?;
     Ok(CallList { rows, is_more })
-}
-
-#[test]
-fn endpoints_in_json(rt: HostRuntime) -> Result<(), Fail> {
-    let alloc = rt.alloc();
-    let row = "{\"identifier\":\"0001\",\"call_signal\":\"10.0.0.7:1720\",\
-        \"ras\":\"10.0.0.7:1719\",\"aliases\":[{\"h323_id\":\"\\\"\"}],\"alias_count\":1,\
-        \"calls\":2,\"deadline\":60000,\"heard\":1500}";
-    let response = endpoints_json(alloc, &endpoint_list(alloc, false)?)?;
-    let text = format!(in alloc; "{{\"endpoints\":[{row}],\"next\":null}}\n")?;
-    assert!(rt; response.text.as_str() == text.as_str());
-    assert!(rt; response.content == Content::Json);
-    let response = endpoints_json(alloc, &endpoint_list(alloc, true)?)?;
-    let text = format!(in alloc; "{{\"endpoints\":[{row}],\"next\":\"0001\"}}\n")?;
-    assert!(rt; response.text.as_str() == text.as_str());
-    let none = EndpointList {
-        rows: Vec::new(alloc),
-        is_more: false,
-    };
-    let response = endpoints_json(alloc, &none)?;
-    assert!(rt; response.text.as_str() == "{\"endpoints\":[],\"next\":null}\n");
-    Ok(())
 }
 
 #[test]

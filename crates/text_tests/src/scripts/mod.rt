@@ -1,10 +1,8 @@
-//! Tests of scripts, texts of values, keys of settings, and outcomes.
+//! Tests of scripts and outcomes: what is read and written, wrong pools, and streams that fail.
 
-mod keys;
 mod outcome_lines;
 mod outcomes;
 mod printing;
 mod reading;
 mod replacing;
 mod running;
-mod texts;

@@ -1,29 +1,10 @@
-//! Scripts that are run, and streams that fail.
+//! Scripts that are run with wrong pools, and streams that fail.
 
 use pools::{FixedPool, Lend, Pool, StepPool};
 use script::{Input, Output, RunFault, ScriptFault, read_script, run_script};
 use std::alloc::Global;
 use std::io;
 use std::test::Fail;
-
-#[test]
-fn a_script_is_run(rt: HostRuntime) -> Result<(), Fail> {
-    let mut text = Vec::new(rt.alloc());
-    text.extend_from_slice(
-        b"zone gk 10.0.0.1:1719\nat 0 from 10.0.0.5:1719\nat 0 from 10.0.0.5:1719 ",
-    )?;
-    text.resize(text.len() + 2 * 4097, b'0')?;
-    text.extend_from_slice(b"\nat 0 from 10.0.0.5:1719 80\nturn 999\nturn 1000\nturn 0\n")?;
-    let script = read_script(rt.alloc(), &mut Input::new(text.as_slice()))?;
-    let mut out = Output::new(Vec::new(rt.alloc()));
-    let mut pools = Vec::new(rt.alloc());
-    pools.push(FixedPool::new(100_000))?;
-    run_script(rt.alloc(), script, pools, Vec::new(rt.alloc()), &mut out)?;
-    let lines = b"1 ignored unreadable\n2 ignored too-long\n3 ignored not-served\n4 idle\n\
-        5 done pool-turn\n6 idle\n";
-    assert!(rt; out.into_writer().as_slice() == lines.as_slice());
-    Ok(())
-}
 
 /// What a run of one event with these pools returns, and how many octets are written.
 fn answer_with<P: Pool>(alloc: Global, pools: Vec<P>) -> Option<(Result<(), RunFault>, usize)> {
