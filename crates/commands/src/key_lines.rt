@@ -86,8 +86,8 @@ fn is_named(line: &str, table: &str, path: &str) -> bool
 
 /// The line, from 1, on which the key of this path stands, behind `before` other lines on which it
 /// stands; None if none is found. A key that is quoted, or is set inside of a table that is
-/// written on one line, isn't found; a line of a text of several lines may be taken for one that
-/// sets a key.
+/// written on one line, isn't found, or a key that is known is found in its place, if it has this
+/// path; a line of a text of several lines may be taken for one that sets a key.
 pub fn line_of(text: &str, path: &str, before: usize) -> Option<usize>
     ensures { result ≡ line_of text.now path.now before }
 {
