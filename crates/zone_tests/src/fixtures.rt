@@ -1,7 +1,7 @@
 //! The zone of the worked examples, and what comes to it.
 
 use facts::ensure_of;
-use pools::{FixedPool, Pool};
+use pools::{FixedPool, NonZeroUnits, Pool, PoolSpec, StandardPool};
 use ras_core::{ConfigParts, Datagram, Event, Moment, Note, Outcome, Zone};
 use ras_module::{Address, Octets, Source};
 use std::alloc::Global;
@@ -47,6 +47,15 @@ pub fn zone_over<P: Pool>(
     }
 }
 
+/// A pool of this limit that lends whole steps, or a burst between two turns; 0 is for neither.
+pub fn pool_of(limit: u64, step: u32, burst: u32) -> StandardPool {
+    StandardPool::new(match (NonZeroUnits::new(step), NonZeroUnits::new(burst)) {
+        (Some(step), _) => PoolSpec::Step { limit, step },
+        (None, Some(burst)) => PoolSpec::Paced { limit, burst },
+        (None, None) => PoolSpec::Fixed { limit },
+    })
+}
+
 pub fn event(alloc: Global, bytes: &[u8], milliseconds: u64) -> Result<Event, Fail> {
     event_from(alloc, ENDPOINT, bytes, milliseconds)
 }
@@ -84,21 +93,13 @@ pub fn all_hold_of(row: &str, facts: &[(bool, &str)]) -> Result<(), Fail> {
     Ok(())
 }
 
-// A zone that is dropped at each of many exits makes a test costly to prove, so what is asked of a
-// zone stands in functions that borrow it.
-
-/// Sends the datagram to the zone, which has to answer it with these octets and nothing else.
-pub fn ask(
-    alloc: Global,
-    zone: &mut Zone<FixedPool>,
-    row: &str,
-    bytes: &[u8],
-    reply: &[u8],
-) -> Result<(), Fail> {
-    let outcome = zone.step(event(alloc, bytes, 0)?)?;
-    ensure_of(
-        row,
-        outcome == sent(alloc, reply)?,
-        "it is served with this reply alone",
-    )
+/// Fails with the name of a run, that of a row of it, and the first of these facts that doesn't
+/// hold.
+pub fn all_hold_in(run: &str, row: &str, facts: &[(bool, &str)]) -> Result<(), Fail> {
+    for (holds, fact) in facts {
+        if !*holds {
+            return Err(Fail::new(format_args!("{run}: {row}: it doesn't hold that {fact}")));
+        }
+    }
+    Ok(())
 }
