@@ -6,6 +6,7 @@ use ras_core::{ConfigParts, Datagram, Event, Moment, Note, Outcome, Zone};
 use ras_module::{Address, Octets, Source};
 use std::alloc::Global;
 use std::test::Fail;
+use vectors::requests::{ARQ, RRQ_101, RRQ_102};
 pub use worked_zone::{CALL_LIMIT, ENDPOINT, LIMIT, POOL};
 
 /// The units of the worked call that opens first.
@@ -71,6 +72,15 @@ pub fn event_from(
     Ok(Event::Datagram(source, bytes, moment))
 }
 
+/// Two endpoints register in the worked zone, and the first one calls the second one.
+pub fn open_call(alloc: Global, zone: &mut Zone<FixedPool>) -> Result<(), Fail> {
+    drop(zone.step(event(alloc, &RRQ_101, 0)?)?);
+    drop(zone.step(event_from(alloc, source(6), &RRQ_102, 0)?)?);
+    drop(zone.step(event(alloc, &ARQ, 0)?)?);
+    Ok(())
+}
+
+/// A request of 10.0.0.5 is served with this reply and nothing else.
 pub fn sent(alloc: Global, bytes: &[u8]) -> Result<Outcome, Fail> {
     Ok(Outcome {
         answer: None,

@@ -1,19 +1,18 @@
 //! The check of one recorded step after the other, and of one whose pool lent, as the least grant
 //! has it.
 
-use crate::fixtures::{CALL_LIMIT, ENDPOINT, event, zone};
+use crate::fixtures::{CALL_LIMIT, event, open_call, sent, zone};
 use crate::messages::ACF_720;
 use crate::replays::recorded::record_call;
 use books::Book;
 use facts::{all_hold, ensure};
 use pools::{FixedPool, Lend};
-use ras_core::{Change, Datagram, Outcome, Snapshot, Zone};
-use ras_module::Octets;
+use ras_core::{Change, Outcome, Snapshot, Zone};
 use std::alloc::Global;
 use std::test::Fail;
 use step_check::{accepts, same};
 use vectors::replies::ARJ;
-use vectors::requests::{ARQ, ARQ_OF_A_SECOND_CALL, RRQ_101, RRQ_102};
+use vectors::requests::ARQ_OF_A_SECOND_CALL;
 use worked_zone::zone_of;
 
 /// Offers each entry of the book of a call in its order, which is accepted, and one that comes
@@ -62,45 +61,27 @@ fn recorded_steps_are_accepted_in_their_order(rt: HostRuntime) -> Result<(), Fai
 /// 1,280.
 const LEFT: u64 = 720;
 
-fn reply_of(alloc: Global, bytes: &[u8]) -> Result<Option<Datagram>, Fail> {
-    Ok(Some(Datagram {
-        to: ENDPOINT,
-        bytes: Octets::from_vec(bytes.to_vec(alloc)?),
-    }))
-}
-
-/// Whether these octets are sent to the endpoint.
-fn is_sent(outcome: &Outcome, bytes: &[u8]) -> bool {
-    match &outcome.output {
-        Some(sent) => sent.to == ENDPOINT && sent.bytes.as_slice() == bytes,
-        None => false,
-    }
-}
-
-/// Offers the step with the reply that was recorded, which is accepted, and otherwise in vain: with
-/// the other one, and as if no pool was asked. The snapshot is then the state of the zone.
+/// Offers the step as it was recorded, which is accepted, and otherwise in vain: with another reply,
+/// and as if no pool was asked. The snapshot is then the state of the zone.
 fn accept_as_recorded(
     alloc: Global,
     snapshot: &mut Snapshot,
     zone: &Zone<FixedPool>,
     event: &Change,
-    outcome: &mut Outcome,
+    outcome: &Outcome,
     replies: (&[u8], &[u8]),
 ) -> Result<(), Fail> {
-    let (recorded, other) = replies;
-    let lent = Some(Lend::Lent(LEFT));
-    let is_lent = outcome.answer == lent;
-    let is_recorded = is_sent(outcome, recorded);
-    outcome.output = reply_of(alloc, other)?;
-    let takes_other = accepts(snapshot, event, outcome)?;
-    outcome.output = reply_of(alloc, recorded)?;
-    outcome.answer = None;
-    let takes_unasked = accepts(snapshot, event, outcome)?;
-    outcome.answer = lent;
+    let (reply, other) = replies;
+    let unasked = sent(alloc, reply)?;
+    let mut recorded = sent(alloc, reply)?;
+    recorded.answer = Some(Lend::Lent(LEFT));
+    let mut otherwise = sent(alloc, other)?;
+    otherwise.answer = Some(Lend::Lent(LEFT));
+    let takes_other = accepts(snapshot, event, &otherwise)?;
+    let takes_unasked = accepts(snapshot, event, &unasked)?;
     let is_accepted = accepts(snapshot, event, outcome)?;
     all_hold(&[
-        (is_lent, "the pool lent what is left"),
-        (is_recorded, "the reply is the one recorded"),
+        (*outcome == recorded, "the pool lent, and the reply is sent"),
         (!takes_other, "the other reply isn't accepted"),
         (!takes_unasked, "a step that asks no pool isn't accepted"),
         (is_accepted, "the step is accepted as it was recorded"),
@@ -117,15 +98,12 @@ fn accept_second_call(
     zone: &mut Zone<FixedPool>,
     replies: (&[u8], &[u8]),
 ) -> Result<(), Fail> {
-    let requests: [&[u8]; 3] = [&RRQ_101, &RRQ_102, &ARQ];
-    for request in requests {
-        zone.step(event(alloc, request, 0)?)?;
-    }
+    open_call(alloc, zone)?;
     let mut snapshot = zone.snapshot()?;
     let request = event(alloc, &ARQ_OF_A_SECOND_CALL, 1)?;
-    let mut outcome = zone.step(request.copy()?)?;
+    let outcome = zone.step(request.copy()?)?;
     let event = Change::Event(request);
-    accept_as_recorded(alloc, &mut snapshot, zone, &event, &mut outcome, replies)
+    accept_as_recorded(alloc, &mut snapshot, zone, &event, &outcome, replies)
 }
 
 /// Does so in a zone of 2,000 units with this least grant.

@@ -140,19 +140,30 @@ pub fn world(alloc: Global, workers: usize, places: usize) -> Result<World<Fixed
     }
 }
 
-/// Does these acts in a world of its own, of two workers, which leaves such a run.
+/// Does these acts in this world, which leave such a run.
+fn go_through(
+    alloc: Global,
+    world: &mut World<FixedPool>,
+    rows: [&[Row]; 2],
+    entries: &[(usize, usize)],
+    in_use: u64,
+) -> Result<(), Fail> {
+    for some in rows {
+        try_acts(alloc, world, some)?;
+    }
+    find_run(world, entries, in_use)
+}
+
+/// Does so in a world of its own, of two workers.
 pub fn try_world(
     alloc: Global,
     places: usize,
-    rows: &[Row],
+    rows: [&[Row]; 2],
     entries: &[(usize, usize)],
     in_use: u64,
 ) -> Result<(), Fail> {
     let mut world = world(alloc, 2, places)?;
-    let ended = match try_acts(alloc, &mut world, rows) {
-        Ok(()) => find_run(&world, entries, in_use),
-        Err(fail) => Err(fail),
-    };
+    let ended = go_through(alloc, &mut world, rows, entries, in_use);
     drop(world);
     ended
 }

@@ -15,7 +15,7 @@ use vectors::requests::{
 };
 
 /// AdmissionReject of the first call, requestDenied.
-const ARJ_OF_THE_FIRST_CALL: [u8; 4] = [0x2C, 0x00, 0x02, 0x20];
+const FIRST_ARJ: [u8; 4] = [0x2C, 0x00, 0x02, 0x20];
 
 const SERVED: Comes = Comes::Applied(Note::Served, None);
 
@@ -52,9 +52,9 @@ const SECOND_IS_FIRST: [Row; 8] = [
     ("0 sends", 0, Act::Take, REJECT),
 ];
 
-/// Two endpoints register, each by a worker. Then two calls come that the pool can't carry
-/// together, of which the first one is first under the zone's lock.
-const FIRST_CALL: [Row; 16] = [
+/// Two endpoints register, each by a worker. Then each worker holds a call, which the pool can't
+/// carry together.
+const BOTH_CALL: [Row; 10] = [
     ("0001", 0, Act::Hear(0, 5, &RRQ_101), Comes::Received),
     ("0001", 0, Act::Apply, SERVED),
     ("0001", 0, Act::Post, Comes::Posted),
@@ -64,44 +64,41 @@ const FIRST_CALL: [Row; 16] = [
     ("0001", 0, Act::Take, Comes::Took(5, &RCF_0001)),
     ("0002", 1, Act::Take, Comes::Took(6, &RCF_0002)),
     ("call", 0, Act::Hear(1, 5, &ARQ), Comes::Received),
-    ("second", 1, Act::Hear(1, 5, &SECOND_ARQ), Comes::Received),
-    ("call", 0, Act::Apply, LENT),
-    ("second", 1, Act::Apply, REFUSED),
-    ("call", 0, Act::Post, Comes::Posted),
-    ("call", 0, Act::Take, Comes::Took(5, &ACF_1280)),
-    ("second", 1, Act::Post, Comes::Posted),
-    ("second", 1, Act::Take, Comes::Took(5, &ARJ)),
+    ("other", 1, Act::Hear(1, 5, &SECOND_ARQ), Comes::Received),
 ];
 
-/// The second call is first.
-const SECOND_CALL: [Row; 16] = [
-    ("0001", 0, Act::Hear(0, 5, &RRQ_101), Comes::Received),
-    ("0001", 0, Act::Apply, SERVED),
-    ("0001", 0, Act::Post, Comes::Posted),
-    ("0002", 1, Act::Hear(0, 6, &RRQ_102), Comes::Received),
-    ("0002", 1, Act::Apply, SERVED),
-    ("0002", 1, Act::Post, Comes::Posted),
-    ("0001", 0, Act::Take, Comes::Took(5, &RCF_0001)),
-    ("0002", 1, Act::Take, Comes::Took(6, &RCF_0002)),
-    ("call", 0, Act::Hear(1, 5, &ARQ), Comes::Received),
-    ("second", 1, Act::Hear(1, 5, &SECOND_ARQ), Comes::Received),
-    ("second", 1, Act::Apply, LENT),
+/// The first call is first under the zone's lock.
+const FIRST_CALL: [Row; 6] = [
+    ("call", 0, Act::Apply, LENT),
+    ("other", 1, Act::Apply, REFUSED),
+    ("call", 0, Act::Post, Comes::Posted),
+    ("call", 0, Act::Take, Comes::Took(5, &ACF_1280)),
+    ("other", 1, Act::Post, Comes::Posted),
+    ("other", 1, Act::Take, Comes::Took(5, &ARJ)),
+];
+
+/// The other one is.
+const SECOND_CALL: [Row; 6] = [
+    ("other", 1, Act::Apply, LENT),
     ("call", 0, Act::Apply, REFUSED),
     ("call", 0, Act::Post, Comes::Posted),
-    ("call", 0, Act::Take, Comes::Took(5, &ARJ_OF_THE_FIRST_CALL)),
-    ("second", 1, Act::Post, Comes::Posted),
-    ("second", 1, Act::Take, Comes::Took(5, &SECOND_ACF_1280)),
+    ("call", 0, Act::Take, Comes::Took(5, &FIRST_ARJ)),
+    ("other", 1, Act::Post, Comes::Posted),
+    ("other", 1, Act::Take, Comes::Took(5, &SECOND_ACF_1280)),
 ];
+
+/// The seats of the entries, with the calls of each, if the first or the second call is first.
+const FIRST: [(usize, usize); 4] = [(0, 0), (1, 0), (0, 1), (1, 1)];
+
+const SECOND: [(usize, usize); 4] = [(0, 0), (1, 0), (1, 1), (0, 1)];
 
 #[test]
 fn the_order_under_the_lock_decides(rt: HostRuntime) -> Result<(), Fail> {
     let alloc = rt.alloc();
-    try_world(alloc, 4, &FIRST_IS_FIRST, &[(0, 0), (1, 0)], 0)?;
-    try_world(alloc, 4, &SECOND_IS_FIRST, &[(1, 0), (0, 0)], 0)?;
-    let first = [(0, 0), (1, 0), (0, 1), (1, 1)];
-    try_world(alloc, 4, &FIRST_CALL, &first, CALL)?;
-    let second = [(0, 0), (1, 0), (1, 1), (0, 1)];
-    try_world(alloc, 4, &SECOND_CALL, &second, CALL)
+    try_world(alloc, 4, [&FIRST_IS_FIRST, &[]], &[(0, 0), (1, 0)], 0)?;
+    try_world(alloc, 4, [&SECOND_IS_FIRST, &[]], &[(1, 0), (0, 0)], 0)?;
+    try_world(alloc, 4, [&BOTH_CALL, &FIRST_CALL], &FIRST, CALL)?;
+    try_world(alloc, 4, [&BOTH_CALL, &SECOND_CALL], &SECOND, CALL)
 }
 
 /// A reply is posted, and the next one is dropped while that waits in the ring of one place. It is

@@ -36,7 +36,7 @@ const REFUSED: [Row; 14] = [
 
 #[test]
 fn acts_are_refused_by_number(rt: HostRuntime) -> Result<(), Fail> {
-    try_world(rt.alloc(), 1, &REFUSED, &[(0, 0)], 0)
+    try_world(rt.alloc(), 1, [&REFUSED, &[]], &[(0, 0)], 0)
 }
 
 /// A world of this many workers and places is out of range, and the zone comes back.

@@ -1,6 +1,6 @@
 //! A pool that is replaced in a world.
 
-use crate::fixtures::{CALL, POOL, event, event_from, source, zone};
+use crate::fixtures::{CALL, POOL, open_call, zone};
 use crate::worlds::acts::{Act, Comes, Row, find_run, try_acts};
 use facts::all_hold;
 use history::World;
@@ -8,18 +8,10 @@ use pools::{FixedPool, Pool, ReplaceFault};
 use ras_core::{Change, Moment, Note, Zone};
 use std::alloc::Global;
 use std::test::Fail;
-use vectors::requests::{ARQ, GRQ, RRQ_101, RRQ_102};
+use vectors::requests::GRQ;
 
 /// The units of the fresh pools.
 const FRESH: u64 = 2_000;
-
-/// Two endpoints register in the zone, and a call of theirs gets its units.
-fn open_call(alloc: Global, zone: &mut Zone<FixedPool>) -> Result<(), Fail> {
-    drop(zone.step(event(alloc, &RRQ_101, 0)?)?);
-    drop(zone.step(event_from(alloc, source(6), &RRQ_102, 0)?)?);
-    drop(zone.step(event(alloc, &ARQ, 0)?)?);
-    Ok(())
-}
 
 /// A pool of this limit is offered in the place of that one, and refused for this reason. It comes
 /// back with nothing lent.

@@ -1,24 +1,16 @@
 //! A pool of a zone is replaced while a call lives. The requests before and behind it, and their
 //! replies, stand in the scripts of replaced pools.
 
-use crate::fixtures::{CALL, CALL_LIMIT, POOL, REST, all_hold_of, event, event_from, source, zone};
+use crate::fixtures::{CALL, CALL_LIMIT, POOL, REST, all_hold_of, event, open_call, zone};
 use facts::all_hold;
 use pools::{FixedPool, Lend, Pool, ReplaceFault};
 use ras_core::{Moment, Note, Outcome, Zone};
 use std::alloc::Global;
 use std::test::Fail;
-use vectors::requests::{ARQ, ARQ_OF_A_SECOND_CALL, BRQ, RRQ_101, RRQ_102};
+use vectors::requests::{ARQ_OF_A_SECOND_CALL, BRQ};
 
 /// The units of the fresh pool.
 const FRESH: u64 = CALL_LIMIT;
-
-/// Registers two endpoints, and opens a call of theirs.
-fn open_call(alloc: Global, zone: &mut Zone<FixedPool>) -> Result<(), Fail> {
-    drop(zone.step(event(alloc, &RRQ_101, 0)?)?);
-    drop(zone.step(event_from(alloc, source(6), &RRQ_102, 0)?)?);
-    drop(zone.step(event(alloc, &ARQ, 0)?)?);
-    Ok(())
-}
 
 /// A pool with this limit, of which a unit is lent or none, is offered in the place of that one. It
 /// is refused for this reason, which is told beforehand unless the pool has to be asked, and shows
