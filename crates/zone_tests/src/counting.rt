@@ -117,16 +117,14 @@ impl<P: Pool> Pool for CountingPool<P> {
         self.met.asked.fetch_add(asked, SeqCst);
         self.met.asked_last.store(asked, SeqCst);
         let answer = self.pool.lend(asked);
-        if let Lend::Lent(units) = answer {
-            self.met.lent.fetch_add(units, SeqCst);
-        }
+        self.met.lent.store(self.pool.lent(), SeqCst);
         answer
     }
 
     fn take_back(&mut self, n: u64) {
         self.met.returns.fetch_add(1, SeqCst);
-        self.met.lent.fetch_sub(n, SeqCst);
         self.pool.take_back(n);
+        self.met.lent.store(self.pool.lent(), SeqCst);
     }
 
     fn turn(&mut self) {

@@ -1,14 +1,12 @@
 //! The numbers of faults, and the messages of those of pools.
 
-use facts::ensure_of;
 use history::WorldFault;
 use pools::{PoolFault, ReplaceFault};
 use ras_core::{ConfigFault, NewFault, StepFault};
 use std::test::Fail;
 
 #[test]
-fn faults_have_their_numbers(rt: HostRuntime) -> Result<(), Fail> {
-    let _ = rt;
+fn faults_have_their_numbers(rt: HostRuntime) {
     let numbers = [
         ("a key", ConfigFault::OutOfRange("zone.limit").number(), 1),
         ("no default pool", ConfigFault::NoDefaultPool.number(), 2),
@@ -20,9 +18,8 @@ fn faults_have_their_numbers(rt: HostRuntime) -> Result<(), Fail> {
         ("a closed world", WorldFault::Closed.number(), 2),
     ];
     for (row, found, number) in numbers {
-        ensure_of(row, found == number, "the fault has its number")?;
+        assert!(rt; found == number, "{row}");
     }
-    Ok(())
 }
 
 #[test]

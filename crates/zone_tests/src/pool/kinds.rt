@@ -6,7 +6,7 @@ use crate::pool::deeds::Deed::{Ask, AskLeast, TakeBack, Turn};
 use crate::pool::deeds::{Boxed, Row, figures, shown, try_deeds};
 use facts::{all_hold, ensure};
 use pools::Lend::{Lent, Refused, Wait};
-use pools::{NonZeroUnits, Pool, PoolSet, PoolSpec, PoolSpecs, StandardPool};
+use pools::{NonZeroUnits, PoolSet, PoolSpec, PoolSpecs, StandardPool};
 use std::alloc::Global;
 use std::test::Fail;
 
