@@ -79,9 +79,12 @@ fn give_back<P: Pool>(set: &mut PoolSet<P>, i: usize, n: u64) -> bool {
     true
 }
 
-/// Does one deed. Whether this comes of it.
+/// Does one deed. Whether this comes of it. A pool's last request changes by a further one alone.
 fn is_done<P: Pool>(set: &mut PoolSet<P>, row: &Row) -> bool {
     let (i, deed, lent, refusals) = *row;
+    let Some(((_, before), _, _)) = shown(set, i) else {
+        return false;
+    };
     let (is_so, last) = match deed {
         Deed::Ask(asked, answer) => (
             ask_least(set, i, asked, 0) == Some((answer, true)),
@@ -91,17 +94,16 @@ fn is_done<P: Pool>(set: &mut PoolSet<P>, row: &Row) -> bool {
             ask_least(set, i, asked, least) == Some((answer, stays)),
             Some((asked, answer)),
         ),
-        Deed::TakeBack(n) => (give_back(set, i, n), None),
+        Deed::TakeBack(n) => (give_back(set, i, n), before),
         Deed::Turn => {
             set.turn();
-            (true, None)
+            (true, before)
         }
     };
     let Some(((figures, found), _, _)) = shown(set, i) else {
         return false;
     };
-    let is_last = last.is_none() || found == last;
-    is_so && is_last && figures.lent == lent && figures.refusals == refusals
+    is_so && found == last && figures.lent == lent && figures.refusals == refusals
 }
 
 /// Does these deeds.

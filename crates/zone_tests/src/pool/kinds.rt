@@ -53,7 +53,7 @@ const LEAST: [Row; 3] = [
 ];
 
 /// A loan that went back counts against the burst.
-const LEAST_OF_A_BURST: [Row; 2] = [
+const BURST: [Row; 2] = [
     (0, AskLeast(1_000, 1_001, Lent(1_000), false), 0, 0),
     (0, Ask(1_000, Lent(280)), 280, 0),
 ];
@@ -105,24 +105,11 @@ fn pools_lend_as_their_kind_does(rt: HostRuntime) -> Result<(), Fail> {
         ("paced", 2_500, 0, 1_280, &PACED, (1, 4, 1)),
         ("turned", 5_000, 0, 1_280, &TURNED, (1, 3, 1)),
         ("least", 100, 0, 0, &LEAST, (0, 3, 0)),
-        (
-            "least of a burst",
-            2_500,
-            0,
-            1_280,
-            &LEAST_OF_A_BURST,
-            (0, 2, 0),
-        ),
+        ("burst", 2_500, 0, 1_280, &BURST, (0, 2, 0)),
     ];
     for (row, limit, step, burst, deeds, counts) in cases {
-        try_pool(
-            rt.alloc(),
-            pool_of(limit, step, burst),
-            row,
-            limit,
-            deeds,
-            counts,
-        )?;
+        let pool = pool_of(limit, step, burst);
+        try_pool(rt.alloc(), pool, row, limit, deeds, counts)?;
     }
     Ok(())
 }

@@ -9,19 +9,10 @@ use crate::pool::deeds::{
 use facts::all_hold;
 use pools::Lend::{Lent, Refused, Wait};
 use pools::{Figures, FixedPool, Pool, PoolSet, StandardPool};
+use ras_core::figures_of;
 use std::alloc::Global;
 use std::sync::Arc;
 use std::test::Fail;
-
-fn shown_of<P: Pool>(pool: &P) -> Shown {
-    let figures = Figures {
-        limit: pool.limit(),
-        lent: pool.lent(),
-        refusals: pool.refusals(),
-        waits: pool.waits(),
-    };
-    (figures, pool.last())
-}
 
 /// Replaces a pool of a set: the number of the fault, or 0, and the pool that comes back.
 fn replace<P: Pool>(set: &mut PoolSet<P>, i: usize, fresh: P) -> (u8, P) {
@@ -88,7 +79,7 @@ fn offer_to(
 ) -> Result<(), Fail> {
     try_deeds(set, offer.row, &LENT)?;
     let (fault, back) = replace(set, offer.place, fresh);
-    let is_back = shown_of(&back) == offer.back;
+    let is_back = (figures_of(&back), back.last()) == offer.back;
     drop(back);
     let stands = shown(set, 0) == Some((offer.stands, offer.requests, 0));
     all_hold_of(
