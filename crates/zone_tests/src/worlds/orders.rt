@@ -27,31 +27,6 @@ const CONFIRM: Comes = Comes::Took(5, &GCF);
 
 const REJECT: Comes = Comes::Took(5, &GRJ);
 
-/// Worker 0 is first under the zone's lock, and worker 1 posts first. Each has its own reply in its
-/// ring.
-const FIRST_IS_FIRST: [Row; 8] = [
-    ("1 hears", 1, Act::Hear(1, 5, &GRQ_OF_XX), Comes::Received),
-    ("0 hears", 0, Act::Hear(0, 5, &GRQ), Comes::Received),
-    ("0 applies", 0, Act::Apply, SERVED),
-    ("1 applies", 1, Act::Apply, SERVED),
-    ("1 posts", 1, Act::Post, Comes::Posted),
-    ("0 posts", 0, Act::Post, Comes::Posted),
-    ("0 sends", 0, Act::Take, CONFIRM),
-    ("1 sends", 1, Act::Take, REJECT),
-];
-
-/// The other way round.
-const SECOND_IS_FIRST: [Row; 8] = [
-    ("0 hears", 0, Act::Hear(1, 5, &GRQ_OF_XX), Comes::Received),
-    ("1 hears", 1, Act::Hear(0, 5, &GRQ), Comes::Received),
-    ("1 applies", 1, Act::Apply, SERVED),
-    ("0 applies", 0, Act::Apply, SERVED),
-    ("0 posts", 0, Act::Post, Comes::Posted),
-    ("1 posts", 1, Act::Post, Comes::Posted),
-    ("1 sends", 1, Act::Take, CONFIRM),
-    ("0 sends", 0, Act::Take, REJECT),
-];
-
 /// Two endpoints register, each by a worker. Then each worker holds a call, which the pool can't
 /// carry together.
 const BOTH_CALL: [Row; 10] = [
@@ -67,24 +42,25 @@ const BOTH_CALL: [Row; 10] = [
     ("other", 1, Act::Hear(1, 5, &SECOND_ARQ), Comes::Received),
 ];
 
-/// The first call is first under the zone's lock.
+/// The first call is first under the zone's lock, and the other worker posts first. Each has its
+/// own reply in its ring.
 const FIRST_CALL: [Row; 6] = [
     ("call", 0, Act::Apply, LENT),
     ("other", 1, Act::Apply, REFUSED),
+    ("other", 1, Act::Post, Comes::Posted),
     ("call", 0, Act::Post, Comes::Posted),
     ("call", 0, Act::Take, Comes::Took(5, &ACF_1280)),
-    ("other", 1, Act::Post, Comes::Posted),
     ("other", 1, Act::Take, Comes::Took(5, &ARJ)),
 ];
 
-/// The other one is.
+/// The other way round.
 const SECOND_CALL: [Row; 6] = [
     ("other", 1, Act::Apply, LENT),
     ("call", 0, Act::Apply, REFUSED),
     ("call", 0, Act::Post, Comes::Posted),
-    ("call", 0, Act::Take, Comes::Took(5, &FIRST_ARJ)),
     ("other", 1, Act::Post, Comes::Posted),
     ("other", 1, Act::Take, Comes::Took(5, &SECOND_ACF_1280)),
+    ("call", 0, Act::Take, Comes::Took(5, &FIRST_ARJ)),
 ];
 
 /// The seats of the entries, with the calls of each, if the first or the second call is first.
@@ -95,8 +71,6 @@ const SECOND: [(usize, usize); 4] = [(0, 0), (1, 0), (1, 1), (0, 1)];
 #[test]
 fn the_order_under_the_lock_decides(rt: HostRuntime) -> Result<(), Fail> {
     let alloc = rt.alloc();
-    try_world(alloc, 4, [&FIRST_IS_FIRST, &[]], &[(0, 0), (1, 0)], 0)?;
-    try_world(alloc, 4, [&SECOND_IS_FIRST, &[]], &[(1, 0), (0, 0)], 0)?;
     try_world(alloc, 4, [&BOTH_CALL, &FIRST_CALL], &FIRST, CALL)?;
     try_world(alloc, 4, [&BOTH_CALL, &SECOND_CALL], &SECOND, CALL)
 }
