@@ -4,7 +4,7 @@ use crate::fixtures::{CALL, CALL_LIMIT, REST};
 use crate::messages::{DRQ_AGAIN, DRQ_OF_0002};
 use crate::zone::runs::Kind::{Kept, Served};
 use crate::zone::runs::{LENT, Line, Run, behind_a_call, try_runs};
-use crate::zone::standing::{AS_THEY_CAME, FIRST, ONE, SECOND, TWO};
+use crate::zone::standing::{AS_THEY_CAME, FIRST, Holder, Leg, ONE, SECOND, TWO};
 use pools::Lend;
 use std::test::Fail;
 use vectors::requests::{
@@ -55,27 +55,36 @@ const USES_UP: [Line<'static>; 2] = [
     ("more", 0, 5, &BRQ, Served, None, CALL_LIMIT, 2),
 ];
 
+/// The endpoints as they were heard at last, and as they came.
+const HEARD: [Holder; 2] = [
+    (FIRST, 5, ONE, 61_000, 2_000),
+    (SECOND, 6, TWO, 61_000, 2_000),
+];
+
+const AGAIN: [Holder; 2] = [(FIRST, 5, ONE, 60_000, 10_000), (SECOND, 6, TWO, 60_000, 0)];
+
+/// The legs that are left.
+const LEFT: [Leg; 1] = [(0x11, CALL_LIMIT, SECOND, 6)];
+
+const ONE_CALL: [Leg; 1] = [(0x11, CALL, FIRST, 6)];
+
+const TWO_CALLS: [Leg; 2] = [(0x11, CALL, FIRST, 6), (0x22, REST, FIRST, 6)];
+
+/// A zone that has no more than one call may have.
+const TIGHT: [(Key, u64); 1] = [(Key::Limit, CALL_LIMIT)];
+
 #[test]
 fn calls_use_what_they_are_lent_until_their_last_leg_goes(rt: HostRuntime) -> Result<(), Fail> {
-    let heard = [
-        (FIRST, 5, ONE, 61_000, 2_000),
-        (SECOND, 6, TWO, 61_000, 2_000),
-    ];
-    let again = [(FIRST, 5, ONE, 60_000, 10_000), (SECOND, 6, TWO, 60_000, 0)];
-    let tight = [(Key::Limit, CALL_LIMIT)];
-    let left = [(0x11, CALL_LIMIT, SECOND, 6)];
-    let first = [(0x11, CALL, FIRST, 6)];
-    let both = [(0x11, CALL, FIRST, 6), (0x22, REST, FIRST, 6)];
-    let grows = behind_a_call("a call grows", &[], &GROWS, &heard, &left);
+    let grows = behind_a_call("a call grows", &[], &GROWS, &HEARD, &LEFT);
     let runs = [
         Run {
             opening: &[],
             ..grows
         },
-        behind_a_call("a call is refused", &[], &REFUSES, &AS_THEY_CAME, &first),
-        behind_a_call("a request again", &[], &COMES_AGAIN, &again, &first),
+        behind_a_call("a call is refused", &[], &REFUSES, &AS_THEY_CAME, &ONE_CALL),
+        behind_a_call("a request again", &[], &COMES_AGAIN, &AGAIN, &ONE_CALL),
         behind_a_call("a call ends", &[], &ENDS, &AS_THEY_CAME, &[]),
-        behind_a_call("a zone is full", &tight, &USES_UP, &AS_THEY_CAME, &both),
+        behind_a_call("a full zone", &TIGHT, &USES_UP, &AS_THEY_CAME, &TWO_CALLS),
     ];
     try_runs(rt.alloc(), &runs)
 }

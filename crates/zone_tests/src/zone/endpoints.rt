@@ -56,21 +56,27 @@ const WITH_THE_FREE_ALIAS: [Holder; 3] = [
     (THIRD, 7, ONE, 120_000, 60_000),
 ];
 
+/// Both endpoints, registered for an hour.
+const STAY: [Holder; 2] = [(FIRST, 5, ONE, HOUR, 0), (SECOND, 6, TWO, HOUR, 0)];
+
+/// A zone that keeps replies for an hour, and asks nobody in that time; and one that asks, and
+/// registers for an hour.
+const LONG: [(Key, u64); 3] = [
+    (Key::PoolTurn, DAY),
+    (Key::Window, HOUR),
+    (Key::Silence, HOUR),
+];
+
+const ASKING: [(Key, u64); 3] = [
+    (Key::PoolTurn, DAY),
+    (Key::Window, HOUR),
+    (Key::TimeToLive, 3_600),
+];
+
 #[test]
 fn nothing_is_in_use_behind_endpoints_that_went_or_are_silent(rt: HostRuntime) -> Result<(), Fail> {
-    let long = [
-        (Key::PoolTurn, DAY),
-        (Key::Window, HOUR),
-        (Key::Silence, HOUR),
-    ];
-    let hour = [
-        (Key::PoolTurn, DAY),
-        (Key::Window, HOUR),
-        (Key::TimeToLive, 3_600),
-    ];
-    let stays = [(FIRST, 5, ONE, HOUR, 0), (SECOND, 6, TWO, HOUR, 0)];
     let come_and_go = behind_a_call("they come and go", &[], &COME_AND_GO, &ANEW, &[]);
-    let over = behind_a_call("one is over", &long, &OVER, &WITH_THE_FREE_ALIAS, &[]);
+    let over = behind_a_call("one is over", &LONG, &OVER, &WITH_THE_FREE_ALIAS, &[]);
     let runs = [
         Run {
             opening: &[],
@@ -80,7 +86,7 @@ fn nothing_is_in_use_behind_endpoints_that_went_or_are_silent(rt: HostRuntime) -
             opening: &[],
             ..over
         },
-        behind_a_call("one is silent", &hour, &SILENT, &stays, &[]),
+        behind_a_call("one is silent", &ASKING, &SILENT, &STAY, &[]),
     ];
     try_runs(rt.alloc(), &runs)
 }

@@ -55,6 +55,26 @@ const BURST: [Line<'static>; 3] = [
     ("third call", 0, 5, &ARQ_OF_100, Served, WAIT, SMALL, 2),
 ];
 
+/// The limit of each zone, and its least grant.
+const DENYING: [(Key, u64); 2] = [(Key::Limit, TIGHT), (Key::LeastGrant, LEFT + 280)];
+
+const ADMITTING: [(Key, u64); 2] = [(Key::Limit, TIGHT), (Key::LeastGrant, LEFT)];
+
+const KEEPING: [(Key, u64); 2] = [(Key::Limit, RAISED), (Key::LeastGrant, RAISED + 100)];
+
+const RAISING: [(Key, u64); 2] = [(Key::Limit, RAISED), (Key::LeastGrant, RAISED)];
+
+const PACING: [(Key, u64); 2] = [(Key::Limit, LIMIT), (Key::LeastGrant, 1_000)];
+
+/// The legs that stand at the end.
+const ONE_CALL: [Leg; 1] = [(0x11, CALL, FIRST, 6)];
+
+const TWO_CALLS: [Leg; 2] = [(0x11, CALL, FIRST, 6), (0x22, LEFT, FIRST, 6)];
+
+const RAISED_CALL: [Leg; 1] = [(0x11, RAISED, FIRST, 6)];
+
+const SMALL_CALL: [Leg; 1] = [(0x11, SMALL, FIRST, 6)];
+
 /// A run of a zone whose endpoints stay as they came.
 fn run<'a>(
     name: &'a str,
@@ -67,21 +87,12 @@ fn run<'a>(
 
 #[test]
 fn a_loan_of_less_than_the_least_grant_goes_back(rt: HostRuntime) -> Result<(), Fail> {
-    let denied = [(Key::Limit, TIGHT), (Key::LeastGrant, LEFT + 280)];
-    let admitted = [(Key::Limit, TIGHT), (Key::LeastGrant, LEFT)];
-    let stays = [(Key::Limit, RAISED), (Key::LeastGrant, RAISED + 100)];
-    let grows = [(Key::Limit, RAISED), (Key::LeastGrant, RAISED)];
-    let burst = [(Key::Limit, LIMIT), (Key::LeastGrant, 1_000)];
-    let first = [(0x11, CALL, FIRST, 6)];
-    let both = [(0x11, CALL, FIRST, 6), (0x22, LEFT, FIRST, 6)];
-    let raised = [(0x11, RAISED, FIRST, 6)];
-    let small = [(0x11, SMALL, FIRST, 6)];
-    let used_up = run("a burst is used up", &burst, &BURST, &small);
+    let used_up = run("a burst is used up", &PACING, &BURST, &SMALL_CALL);
     let runs = [
-        run("a call is denied", &denied, &DENIED, &first),
-        run("a call is admitted", &admitted, &ADMITTED, &both),
-        run("a call isn't raised", &stays, &STAYS, &first),
-        run("a call is raised", &grows, &GROWS, &raised),
+        run("a call is denied", &DENYING, &DENIED, &ONE_CALL),
+        run("a call is admitted", &ADMITTING, &ADMITTED, &TWO_CALLS),
+        run("a call isn't raised", &KEEPING, &STAYS, &ONE_CALL),
+        run("a call is raised", &RAISING, &GROWS, &RAISED_CALL),
         Run {
             burst: 1_280,
             opening: &REGISTERED,

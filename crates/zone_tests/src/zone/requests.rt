@@ -6,7 +6,7 @@ use crate::fixtures::{CALL, CALL_LIMIT, REST};
 use crate::messages::{KEEP_ALIVE_0001, LESS_BRQ, SAME_CALL_ARQ};
 use crate::zone::runs::Kind::{Ignored, Kept, Served};
 use crate::zone::runs::{LENT, Line, Run, behind_a_call, try_runs};
-use crate::zone::standing::{FIRST, ONE, SECOND, TWO};
+use crate::zone::standing::{FIRST, Holder, Leg, ONE, SECOND, TWO};
 use pools::Lend;
 use std::test::Fail;
 use vectors::requests::{
@@ -43,28 +43,41 @@ const BUSY: [Line<'static>; 2] = [
     ("admission", 0, 5, &ARQ, Ignored, None, 0, 1),
 ];
 
+const SECOND_ALONE: [Holder; 1] = [(SECOND, 6, TWO, 60_000, 0)];
+
+const FIRST_ALONE: [Holder; 1] = [(FIRST, 5, ONE, 60_000, 0)];
+
+const LEG: [Leg; 1] = [(0x11, CALL, SECOND, 6)];
+
 #[test]
 fn a_request_for_bandwidth_asks_its_pool_once(rt: HostRuntime) -> Result<(), Fail> {
-    let ignored: [Line<'_>; 4] = [
+    let each = behind_a_call("each request", &[], &EACH, &SECOND_ALONE, &LEG);
+    let busy = behind_a_call("busy", &[(Key::Kept, 1)], &BUSY, &FIRST_ALONE, &[]);
+    let runs = [
+        Run {
+            opening: &[],
+            ..each
+        },
+        Run {
+            opening: &[],
+            ..busy
+        },
+    ];
+    try_runs(rt.alloc(), &runs)
+}
+
+#[test]
+fn what_is_ignored_asks_no_pool(rt: HostRuntime) -> Result<(), Fail> {
+    let lines: [Line<'_>; 4] = [
         ("too long", 0, 5, &[0; 4_097], Ignored, None, 0, 0),
         ("unreadable", 0, 5, &GRQ[..19], Ignored, None, 0, 0),
         ("not served", 0, 5, &[0x48], Ignored, None, 0, 0),
         ("a sign of nobody", 0, 5, &IRR, Ignored, None, 0, 0),
     ];
-    let second = [(SECOND, 6, TWO, 60_000, 0)];
-    let first = [(FIRST, 5, ONE, 60_000, 0)];
-    let leg = [(0x11, CALL, SECOND, 6)];
-    let one = [(Key::Kept, 1)];
-    for run in [
-        behind_a_call("each request", &[], &EACH, &second, &leg),
-        behind_a_call("what is ignored", &[], &ignored, &[], &[]),
-        behind_a_call("a busy zone", &one, &BUSY, &first, &[]),
-    ] {
-        let alone = Run {
-            opening: &[],
-            ..run
-        };
-        try_runs(rt.alloc(), &[alone])?;
-    }
-    Ok(())
+    let run = behind_a_call("what is ignored", &[], &lines, &[], &[]);
+    let alone = Run {
+        opening: &[],
+        ..run
+    };
+    try_runs(rt.alloc(), &[alone])
 }

@@ -3,7 +3,7 @@
 //!
 //! Behind each step the second pool was asked once by each step that tells its answer, and by no
 //! other; what came back to it came in one call; and each pool had its turn once by each step that
-//! tells of it. What is sent, `replay` shows octet for octet.
+//! tells of it. What is sent, the scripts of examples/ and tests/zone/ show octet for octet.
 
 use crate::counting::{CountingPool, Counts, Met, NOTHING};
 use crate::fixtures::{CALL, POOL, all_hold_in, event_from, parts, pool_of, source, zone_over};

@@ -3,7 +3,7 @@
 use crate::fixtures::{CALL, POOL};
 use crate::zone::runs::Kind::{Idle, Kept, PoolTurn, Retry, Served};
 use crate::zone::runs::{Line, Run, behind_a_call, try_runs};
-use crate::zone::standing::{AS_THEY_CAME, FIRST, ONE, SECOND, TWO};
+use crate::zone::standing::{AS_THEY_CAME, FIRST, Holder, Leg, ONE, SECOND, TWO};
 use pools::Lend;
 use std::test::Fail;
 use vectors::requests::ARQ_OF_A_SECOND_CALL as SECOND_ARQ;
@@ -36,15 +36,21 @@ const THRICE: [Line<'static>; 9] = [
     ("behind it", 2_000, 0, &[], Idle, None, POOL, 2),
 ];
 
+/// When the pools have their turn.
+const LATE: [(Key, u64); 1] = [(Key::PoolTurn, 1_400)];
+
+const EARLY: [(Key, u64); 1] = [(Key::PoolTurn, 1_200)];
+
+/// The endpoints, of which the first one was heard as it asked for a second call.
+const HEARD: [Holder; 2] = [(FIRST, 5, ONE, 60_000, 1_000), (SECOND, 6, TWO, 60_000, 0)];
+
+const LEGS: [Leg; 2] = [(0x11, CALL, FIRST, 6), (0x22, POOL - CALL, FIRST, 6)];
+
 // The pools lend 1,280 units between two turns.
 #[test]
 fn a_request_that_waits_asks_its_pool_once_each_time(rt: HostRuntime) -> Result<(), Fail> {
-    let late = [(Key::PoolTurn, 1_400)];
-    let early = [(Key::PoolTurn, 1_200)];
-    let heard = [(FIRST, 5, ONE, 60_000, 1_000), (SECOND, 6, TWO, 60_000, 0)];
-    let legs = [(0x11, CALL, FIRST, 6), (0x22, POOL - CALL, FIRST, 6)];
-    let once = behind_a_call("once", &late, &ONCE, &heard, &legs);
-    let thrice = behind_a_call("three times", &early, &THRICE, &AS_THEY_CAME, &legs);
+    let once = behind_a_call("once", &LATE, &ONCE, &HEARD, &LEGS);
+    let thrice = behind_a_call("three times", &EARLY, &THRICE, &AS_THEY_CAME, &LEGS);
     let runs = [
         Run {
             burst: 1_280,
