@@ -72,10 +72,11 @@ how many datagrams and turns of the timers there were; how many replies were sen
 were dropped, since too many of them waited; how many steps were refused for want of memory;
 and how many receives and sends failed.
 
-Exit status: 0 done, 1 the settings were refused, 2 wrong words on the command line, 3 out of
-memory, 4 an address can't be bound (`bind failed`), the record can't be begun (`record failed`),
-the settings can't be read, or each receiver gave up after too many failed receives (each behind a
-line of the log with the cause), or a standard stream failed.";
+Exit status: 0 done, with --receives however the receivers ended, 1 the settings were refused, 2
+wrong words on the command line, 3 out of memory, 4 an address can't be bound (`bind failed`), the
+record can't be begun (`record failed`), the settings can't be read, or each receiver gave up after
+too many failed receives (each behind a line of the log with the cause), or a standard stream
+failed.";
 
 /// The arguments that ask for a record.
 fn record_options<'a>(alloc: Global) -> Result<(Arg<'a>, Arg<'a>), AllocError> {

@@ -1,7 +1,7 @@
 -- Lines that write datagrams, and what is said of them.
 use Rattle.std.specs.Prelude.{ℕ, ◌+◌, ◌==◌, ◌||◌, not, List, [], ◌∷◌, ◌++◌, Bool, length, codes}
-use Rattle.std.specs.Prelude.{filter, Option, Some, None, nat_eq, if◌then◌else◌}
-use Rattle.std.specs.List.{list_all, slice_split}
+use Rattle.std.specs.Prelude.{drop, filter, Option, Some, None, nat_eq, if◌then◌else◌}
+use Rattle.std.specs.List.{list_all, position_or_len, slice_split}
 use Rattle.std.specs.Result.{result_ok}
 use Rattle.std.specs.Str.{bytes_eq}
 use Rattle.hex.specs.Hex.{decode_of}
@@ -20,17 +20,22 @@ digits_in text = filter (λ c. not (is_between c)) text
 abbrev pub octets_in : List ℕ → Option (List ℕ)
 octets_in text = result_ok (decode_of (digits_in text))
 
--- what stands behind two words, each with a space behind it
-abbrev pub behind_two : List ℕ → List ℕ
-behind_two text = rest_part 32 (rest_part 32 text)
+-- a text from its first octet on that is no space, where its first word begins
+abbrev pub at_word : List ℕ → List ℕ
+at_word text = drop (position_or_len (λ c. not (c == 32)) text) text
 
--- The part of a line that writes octets: in `at MS from ADDRESS HEX`, and in `.. > ADDRESS HEX`,
--- it stands behind the address; else it is the line.
+-- what stands behind the first word of a text, and the space that ends it
+abbrev pub behind_word : List ℕ → List ℕ
+behind_word text = rest_part 32 (at_word text)
+
+-- The part of a line that writes octets: in `at MS from ADDRESS HEX` it stands behind four words,
+-- and in `.. > ADDRESS HEX` behind the address; else it is the line.
 abbrev pub octets_part : List ℕ → List ℕ
 octets_part line =
-    if bytes_eq (front_part 32 line) (codes "at") then behind_two (rest_part 32 (rest_part 32 line))
+    if bytes_eq (front_part 32 (at_word line)) (codes "at")
+    then behind_word (behind_word (behind_word (behind_word line)))
     else if nat_eq (length (rest_part 62 line)) 0 then line
-    else behind_two (rest_part 62 line)
+    else behind_word (rest_part 62 line)
 
 abbrev pub with_octets : List ℕ → Option (List ℕ) → List ℕ
 with_octets text None = text ++ codes "no datagram"

@@ -3,8 +3,8 @@
 ghost use Rattle.std.specs.Prelude.{◌≡◌, IfOk, OnOk};
 ghost use Rattle.std.specs.List.{list_all};
 ghost use Rattle.std.specs.String.{string_bytes};
-ghost use Rattle.explaining.specs.Lines.{explained, is_between, octets_part, with_line};
-ghost use Rattle.explaining.specs.Lines.{behind_two, octets_in, with_octets};
+ghost use Rattle.explaining.specs.Lines.{at_word, behind_word, explained, is_between, octets_in};
+ghost use Rattle.explaining.specs.Lines.{octets_part, with_line, with_octets};
 
 use crate::message::push_message;
 use crate::octets::{is_between, octets_in};
@@ -12,12 +12,21 @@ use crate::parts::push_number;
 use std::alloc::{AllocError, Global};
 use value_texts::{is_word, parted};
 
-/// What stands behind two words, each with a space behind it.
-fn behind_two(text: &[u8]) -> &[u8]
-    ensures { result.now ≡ behind_two text.now }
+/// A text from its first octet on that is no space.
+fn at_word(text: &[u8]) -> &[u8]
+    ensures { result.now ≡ at_word text.now }
 {
-    let (_, rest) = parted(text, b' ');
-    let (_, rest) = parted(rest, b' ');
+    match text.iter().position(|c| *c != b' ') {
+        Some(place) => &text[place..],
+        None => &[],
+    }
+}
+
+/// What stands behind the first word of a text, and the space that ends it.
+fn behind_word(text: &[u8]) -> &[u8]
+    ensures { result.now ≡ behind_word text.now }
+{
+    let (_, rest) = parted(at_word(text), b' ');
     rest
 }
 
@@ -25,16 +34,15 @@ fn behind_two(text: &[u8]) -> &[u8]
 fn octets_part(line: &[u8]) -> &[u8]
     ensures { result.now ≡ octets_part line.now }
 {
-    let (first, rest) = parted(line, b' ');
+    let (first, rest) = parted(at_word(line), b' ');
     if is_word(first, "at") {
-        let (_, rest) = parted(rest, b' ');
-        return behind_two(rest);
+        return behind_word(behind_word(behind_word(rest)));
     }
     let (_, sent) = parted(line, b'>');
     if sent.is_empty() {
         return line;
     }
-    behind_two(sent)
+    behind_word(sent)
 }
 
 fn is_blank(line: &[u8]) -> bool
