@@ -1,6 +1,6 @@
 -- What a worker does with an event: one step under the lock, and its reply to the sender.
 use Rattle.std.specs.Prelude.{◌≡◌, ◌≤◌, ◌<◌, ◌++◌, ◌∷◌, ◌⊎◌, ◌↔◌, ℕ, List, [], Option, None}
-use Rattle.std.specs.Prelude.{Bool, Err, IsFalse, IsTrue, Ok, Some, false, take, true}
+use Rattle.std.specs.Prelude.{Bool, Err, IsFalse, IsTrue, Ok, Some, false, slice_get, take, true}
 use Rattle.ras_module.specs.declared.address.Address.{Address}
 use Rattle.zone_events.specs.declared.change.Change.TheVariants as change
 use Rattle.zone_events.specs.declared.event.Event.{Event}
@@ -234,3 +234,8 @@ IsTurnOfLoop opened gives tells buffer most before after goes_on old new =
     (IsTrue goes_on × IsNothing gives most before after old new)
     ⊎ (IsFalse goes_on × IsEnd gives most before after old new)
     ⊎ IsDatagramServed opened gives tells buffer before after goes_on old new
+
+-- the first octet of the datagram of an event, if it has one: by it the step is counted
+abbrev pub first_octet : Event → Option ℕ
+first_octet (event.Datagram source octets moment) = slice_get octets 0
+first_octet (event.Turn moment) = None

@@ -1,6 +1,9 @@
 //! How the history is kept short while a server runs.
 
-ghost use Rattle.std.specs.Prelude.{◌≡◌, ◌<◌, [], OnOk, vec_capacity, vec_len};
+ghost use Rattle.std.specs.Prelude.{◌≡◌, ◌<◌, [], IsFalse, IsTrue, OnErr, OnOk, vec_capacity};
+ghost use Rattle.std.specs.Prelude.{vec_len};
+ghost use Rattle.udp_server.specs.LatestChapters.{AreLatest, IsChapterDue, IsKeptBehind};
+ghost use Rattle.udp_server.specs.LatestChapters.{IsNoChapterDue};
 
 use crate::gate::Gate;
 use crate::plan::Plan;
@@ -25,7 +28,10 @@ pub(crate) struct Chapters {
 
 impl Chapters {
     /// No chapter has ended.
-    pub(crate) fn new(alloc: Global) -> Chapters {
+    pub(crate) fn new(alloc: Global) -> Chapters
+        ensures latest { result.latest.items ≡ [] }
+        ensures first { result.first ≡ 0 }
+    {
         Chapters {
             latest: Vec::new(alloc),
             first: 0,
@@ -35,13 +41,22 @@ impl Chapters {
 
     /// Ends a chapter if one is due by the plan: a step was the entry at this place. If no chapter
     /// is kept, none is made: the entries are let go, once the lock is free.
+    ///
+    /// promise server-keeps-its-latest-chapters: The chapters that are kept change only behind a
+    /// step at which one is due: then one of what stood behind the lock comes behind them, and the
+    /// oldest one goes if they were as many as the plan says (`IsChapterDue`, `AreLatest`).
     pub(crate) fn end_if_due<P: Pool, D: Hall, T: Ledger, U: Ledger, V: Ledger, R: Wait, G: Gate>(
         &mut self,
         shared: &Shared<'_, P, D, T, U, V, R, G>,
         place: usize,
-    ) -> Result<(), AllocError> {
-        let entries = place.saturating_sub(self.first).saturating_add(1);
-        if shared.plan.chapter == 0 || entries < shared.plan.chapter {
+    ) -> Result<(), AllocError>
+        ensures latest { AreLatest D.opened shared.now.plan.latest
+            self.old.latest.items self.new.latest.items }
+        ensures none_due { IsNoChapterDue shared.now.plan.chapter self.old.first place
+            → (self.new.first ≡ self.old.first) × (self.new.latest.items ≡ self.old.latest.items) }
+        ensures err { OnErr result (self.new.latest.items ≡ self.old.latest.items) }
+    {
+        if !self.is_due(shared.plan, place) {
             return Ok(());
         }
         if shared.plan.latest == 0 {
@@ -57,11 +72,21 @@ impl Chapters {
         Ok(())
     }
 
+    /// Whether a chapter is due by the plan behind a step whose entry is at this place.
+    fn is_due(&self, plan: Plan, place: usize) -> bool
+        ensures due { IsTrue result → IsChapterDue plan.chapter self.now.first place }
+        ensures none { IsFalse result → IsNoChapterDue plan.chapter self.now.first place }
+    {
+        plan.chapter != 0 && place.saturating_sub(self.first) >= plan.chapter - 1
+    }
+
     /// Lets the entries so far go, once the lock is free.
     fn let_go<P: Pool, D: Hall, T: Ledger, U: Ledger, V: Ledger, R: Wait, G: Gate>(
         &mut self,
         shared: &Shared<'_, P, D, T, U, V, R, G>,
-    ) {
+    )
+        ensures { self.new.latest ≡ self.old.latest }
+    {
         let room = mem::replace(&mut self.room, Vec::new(shared.alloc));
         let Discarded {
             base: _,
@@ -74,8 +99,9 @@ impl Chapters {
 
     /// Makes room for a chapter, if it is to be kept beside those that are there.
     fn make_room(&mut self, plan: Plan) -> Result<(), AllocError>
-        ensures { OnOk result (vec_len self.new.latest < plan.latest
+        ensures room { OnOk result (vec_len self.new.latest < plan.latest
             → vec_len self.new.latest < vec_capacity self.new.latest) }
+        ensures same { self.new.latest.items ≡ self.old.latest.items }
     {
         if self.latest.len() < plan.latest {
             self.latest.reserve(1)?;
@@ -88,6 +114,7 @@ impl Chapters {
         requires some { 0 < plan.latest }
         requires room { vec_len self.old.latest < plan.latest
             → vec_len self.old.latest < vec_capacity self.old.latest }
+        ensures { IsKeptBehind plan.latest chapter self.old.latest.items self.new.latest.items }
     {
         if self.latest.len() >= plan.latest {
             let _ = self.latest.remove(0);
@@ -96,7 +123,9 @@ impl Chapters {
     }
 
     /// The latest chapters, in order.
-    pub(crate) fn into_latest(self) -> Vec<Chapter> {
+    pub(crate) fn into_latest(self) -> Vec<Chapter>
+        ensures { result ≡ self.latest }
+    {
         self.latest
     }
 }

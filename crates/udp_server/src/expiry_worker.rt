@@ -86,7 +86,7 @@ pub(crate) fn expire<
 /// worker goes on.
 ///
 /// promise tick-tries-orders-then-turns: At a tick a worker tries each order that is due, and makes
-/// turns behind that, recorded or not as the plan says (`IsWholeTick`, `AreCarriedOut`).
+/// turns behind that, one by one or in rounds as the plan says (`IsWholeTick`, `AreCarriedOut`).
 fn tick<P: Pool, D: Hall, T: Ledger, U: Ledger, V: Ledger, R: Wait, G: Gate, C: Moments>(
     shared: &Shared<'_, P, D, T, U, V, R, G>,
     worker: &mut Worker<D, T, U, V, C>,

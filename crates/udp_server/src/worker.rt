@@ -8,7 +8,7 @@ ghost use Rattle.ras_machine.specs.Steps.{HasFewOctets};
 ghost use Rattle.udp_server.specs.Ends.{fault_count, most_count};
 ghost use Rattle.udp_server.specs.Orders.{IsPoolKept, IsPoolReplaced, refused_after_fault};
 ghost use Rattle.udp_server.specs.Rooms.{IsRoom};
-ghost use Rattle.udp_server.specs.Working.{CameOf, IsHandedOn, standing};
+ghost use Rattle.udp_server.specs.Working.{CameOf, IsHandedOn, first_octet, standing};
 
 use crate::board::Board;
 use crate::gate::{Gate, Stage};
@@ -64,7 +64,9 @@ impl<P: Pool, D: Hall, T: Ledger, U: Ledger, V: Ledger, R, G> Shared<'_, P, D, T
 }
 
 /// The first octet of the datagram of an event, if it has one.
-pub(crate) fn first_octet(event: &Event) -> Option<u8> {
+pub(crate) fn first_octet(event: &Event) -> Option<u8>
+    ensures { result ≡ first_octet event.now }
+{
     match event {
         Event::Datagram(_, octets, _) => octets.as_slice().first().copied(),
         Event::Turn(_) => None,

@@ -1,3 +1,4 @@
 pub mod Buffers
+pub mod Causes
 pub mod Ends
 pub mod Limits

@@ -3,6 +3,7 @@
 ghost use Rattle.std.specs.Prelude.{◌≡◌};
 ghost use Rattle.std.specs.Int.{cast_signed, from_le_bytes, w32};
 ghost use Rattle.udp_socket.specs.Buffers.{half_of};
+ghost use Rattle.udp_socket.specs.Causes.{cause_text, fault_of};
 ghost use Rattle.udp_socket.specs.Limits.{receives_left};
 
 use crate::addresses::{ras_address, system_address};
@@ -43,7 +44,9 @@ pub enum BindFault {
 }
 
 impl BindFault {
-    fn of(kind: ErrorKind) -> BindFault {
+    fn of(kind: ErrorKind) -> BindFault
+        ensures { result ≡ fault_of kind }
+    {
         match kind {
             ErrorKind::AddrInUse => BindFault::InUse,
             ErrorKind::AddrNotAvailable => BindFault::NotHere,
@@ -53,7 +56,9 @@ impl BindFault {
     }
 
     /// The cause, as a person is told it.
-    pub fn cause(&self) -> &'static str {
+    pub fn cause(&self) -> &'static str
+        ensures { result.now ≡ cause_text self.now }
+    {
         match self {
             BindFault::InUse => "another program uses this address",
             BindFault::NotHere => "this machine has no such address",
