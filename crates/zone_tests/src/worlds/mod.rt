@@ -1,7 +1,8 @@
 //! Tests of worlds: orders in which workers act, full rings, and refusals. Two calls come that
 //! their pool can't carry together.
 
-mod acts;
+mod calls;
+mod fixtures;
 mod orders;
 mod refusals;
 mod replacing;
