@@ -1,4 +1,5 @@
 pub mod Elapsed
+pub mod Endings
 pub mod Faults
 pub mod Probes
 pub mod Signals

@@ -3,6 +3,7 @@
 ghost use Rattle.std.specs.Prelude.{◌≡◌};
 ghost use Rattle.commands.specs.Inputs.{input_status};
 ghost use Rattle.probing.specs.Statuses.{probe_status};
+ghost use Rattle.surroundings.specs.Endings.{AreExplained, ended_status};
 ghost use Rattle.surroundings.specs.Probes.{IsProbed, IsProbeStatus};
 
 use crate::last_line::{out_of_memory, stream_failed};
@@ -10,7 +11,7 @@ use commands::{InputFault, explain};
 use probing::{Probe, ProbeFault, ask_gatekeeper};
 use script::Output;
 use std::alloc::Global;
-use std::io::{self, BufWriter};
+use std::io::{self, BufWriter, Read, Write};
 use std::net::Net;
 use std::rt::Clock;
 
@@ -19,18 +20,33 @@ pub fn explain_input<R: Input + Print + Eprint>(rt: &R, alloc: Global) -> u8 {
     let Ok(buffer) = BufWriter::new(alloc, io::writer(rt)) else {
         return out_of_memory(rt);
     };
-    let mut out = Output::new(buffer);
-    match explain(alloc, rt.reader(), &mut out) {
-        Ok(()) => 0,
-        Err(fault) => refuse_input(rt, &fault),
-    }
+    explain_datagrams(rt, alloc, rt.reader(), &mut Output::new(buffer))
 }
 
-fn refuse_input(rt: &impl Eprint, fault: &InputFault) -> u8
-    ensures { result ≡ input_status fault.now }
+/// Writes what the datagrams of an input are. Returns the exit status.
+fn explain_datagrams<E: Eprint, I: Read + Drop, W: Write + Drop>(
+    rt: &E,
+    alloc: Global,
+    input: I,
+    out: &mut Output<W>,
+) -> u8
+    ensures { AreExplained (I.remaining input) out.old out.new result }
 {
-    let _ = eprintln!(rt; "{fault}");
-    fault.status()
+    let answer = explain(alloc, input, out);
+    tell_explanation(rt, answer)
+}
+
+/// Tells in one line on standard error why datagrams aren't explained, if they aren't.
+fn tell_explanation(rt: &impl Eprint, answer: Result<(), InputFault>) -> u8
+    ensures { result ≡ ended_status input_status answer }
+{
+    match answer {
+        Ok(()) => 0,
+        Err(fault) => {
+            let _ = eprintln!(rt; "{fault}");
+            fault.status()
+        }
+    }
 }
 
 /// Asks a gatekeeper whether it is there. That it is is told on standard output, else why not on

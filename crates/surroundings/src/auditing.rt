@@ -2,6 +2,7 @@
 
 ghost use Rattle.std.specs.Prelude.{◌≡◌};
 ghost use Rattle.commands.specs.Audits.{record_status};
+ghost use Rattle.surroundings.specs.Endings.{IsAudited, ended_status};
 
 use crate::last_line::{out_of_memory, stream_failed};
 use crate::notices::tell_unreadable;
@@ -11,7 +12,7 @@ use log::Log;
 use record_audit::AuditFault;
 use script::Output;
 use std::alloc::Global;
-use std::io::{self, BufWriter, Read};
+use std::io::{self, BufWriter, Read, Write};
 use std::rt::Files;
 
 /// Under which name the log tells of records.
@@ -23,40 +24,52 @@ pub fn audit_source<R: Input + Files + Print + Eprint + Log>(
     alloc: Global,
     file: Option<&str>,
 ) -> u8 {
-    let Some(name) = file else {
-        return audit_input(rt, alloc, rt.reader(), file);
-    };
-    match open_file(rt, TARGET, name) {
-        Some(input) => audit_input(rt, alloc, input, file),
-        None => stream_failed(rt),
-    }
-}
-
-/// Audits the record that an input is, and prints what that comes to.
-fn audit_input<R: Print + Eprint + Log, I: Read + Drop>(
-    rt: &R,
-    alloc: Global,
-    input: I,
-    file: Option<&str>,
-) -> u8 {
     let Ok(buffer) = BufWriter::new(alloc, io::writer(rt)) else {
         return out_of_memory(rt);
     };
     let mut out = Output::new(buffer);
-    match audit(alloc, &mut script::Input::new(input), &mut out) {
-        Ok(()) => 0,
-        Err(fault) => refuse_record(rt, file, &fault),
+    let Some(name) = file else {
+        return audit_input(
+            rt,
+            alloc,
+            &mut script::Input::new(rt.reader()),
+            file,
+            &mut out,
+        );
+    };
+    match open_file(rt, TARGET, name) {
+        Some(input) => audit_input(rt, alloc, &mut script::Input::new(input), file, &mut out),
+        None => stream_failed(rt),
     }
 }
 
-/// Tells in one line on standard error why the audit of a record isn't told; before it the log says
-/// which file can't be read, if that is the cause.
-fn refuse_record<R: Eprint + Log>(rt: &R, file: Option<&str>, fault: &RecordFault) -> u8
-    ensures { result ≡ record_status fault.now }
+/// Audits the record that an input is, and writes what that comes to. Returns the exit status.
+fn audit_input<E: Eprint + Log, R: Read + Drop, W: Write + Drop>(
+    rt: &E,
+    alloc: Global,
+    input: &mut script::Input<R>,
+    file: Option<&str>,
+    out: &mut Output<W>,
+) -> u8
+    ensures { IsAudited input.old out.old out.new result }
 {
-    if let (Some(name), RecordFault::Audit(AuditFault::Stream)) = (file, fault) {
-        tell_unreadable(rt, TARGET, name, "a read of it failed");
+    let answer = audit(alloc, input, out);
+    tell_audit(rt, file, answer)
+}
+
+/// Tells in one line on standard error why the audit of a record isn't told, if it isn't; before it
+/// the log says which file can't be read, if that is the cause.
+fn tell_audit<E: Eprint + Log>(rt: &E, file: Option<&str>, answer: Result<(), RecordFault>) -> u8
+    ensures { result ≡ ended_status record_status answer }
+{
+    match answer {
+        Ok(()) => 0,
+        Err(fault) => {
+            if let (Some(name), RecordFault::Audit(AuditFault::Stream)) = (file, fault) {
+                tell_unreadable(rt, TARGET, name, "a read of it failed");
+            }
+            let _ = eprintln!(rt; "{fault}");
+            fault.status()
+        }
     }
-    let _ = eprintln!(rt; "{fault}");
-    fault.status()
 }

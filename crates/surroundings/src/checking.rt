@@ -2,15 +2,16 @@
 
 ghost use Rattle.std.specs.Prelude.{◌≡◌};
 ghost use Rattle.commands.specs.Inputs.{input_status};
+ghost use Rattle.surroundings.specs.Endings.{AreSettingsChecked, ended_status};
 
 use crate::last_line::{out_of_memory, stream_failed};
 use crate::notices::tell_place;
 use crate::source::{SETTINGS, Source, open_file};
-use commands::{InputFault, check_settings};
+use commands::{InputFault, PassedOver, check_settings};
 use log::Log;
 use script::Output;
 use std::alloc::Global;
-use std::io::{self, BufWriter, Read};
+use std::io::{self, BufWriter, Read, Write};
 use std::rt::Files;
 
 /// Checks the settings of a file, or those on standard input.
@@ -20,42 +21,57 @@ pub fn check_source<R: Input + Files + Print + Eprint + Log>(
     file: Option<&str>,
 ) -> u8 {
     let source = Source { file };
-    let Some(name) = file else {
-        return check_input(rt, alloc, rt.reader(), source);
-    };
-    match open_file(rt, SETTINGS, name) {
-        Some(input) => check_input(rt, alloc, input, source),
-        None => stream_failed(rt),
-    }
-}
-
-/// Checks settings, and prints them, with a warning for each key that is passed over.
-fn check_input<R: Print + Eprint + Log, I: Read + Drop>(
-    rt: &R,
-    alloc: Global,
-    input: I,
-    source: Source<'_>,
-) -> u8 {
     let Ok(buffer) = BufWriter::new(alloc, io::writer(rt)) else {
         return out_of_memory(rt);
     };
     let mut out = Output::new(buffer);
-    match check_settings(alloc, input, &mut out) {
-        Ok(passed_over) => {
-            for key in &passed_over {
-                let _ = eprintln!(rt; "warning: {source}{key}");
-            }
-            0
-        }
-        Err(fault) => refuse_settings(rt, source, &fault),
+    let Some(name) = file else {
+        return check_input(rt, alloc, rt.reader(), source, &mut out);
+    };
+    match open_file(rt, SETTINGS, name) {
+        Some(input) => check_input(rt, alloc, input, source, &mut out),
+        None => stream_failed(rt),
     }
 }
 
-/// Tells in one line on standard error why settings aren't read, behind what the log tells of it.
-fn refuse_settings<R: Eprint + Log>(rt: &R, source: Source<'_>, fault: &InputFault) -> u8
-    ensures { result ≡ input_status fault.now }
+/// Checks the settings that an input is, and writes them, with a warning for each key that is
+/// passed over. Returns the exit status.
+fn check_input<E: Eprint + Log, I: Read + Drop, W: Write + Drop>(
+    rt: &E,
+    alloc: Global,
+    input: I,
+    source: Source<'_>,
+    out: &mut Output<W>,
+) -> u8
+    ensures { AreSettingsChecked (I.remaining input) out.old out.new result }
 {
-    tell_place(rt, source, fault);
-    let _ = eprintln!(rt; "{fault}");
-    fault.status()
+    match check_settings(alloc, input, out) {
+        Ok(passed_over) => {
+            warn_of_keys(rt, source, &passed_over);
+            tell_check(rt, source, Ok(()))
+        }
+        Err(fault) => tell_check(rt, source, Err(fault)),
+    }
+}
+
+/// Warns on standard error of each key that is passed over.
+fn warn_of_keys(rt: &impl Eprint, source: Source<'_>, passed_over: &[PassedOver]) {
+    for key in passed_over {
+        let _ = eprintln!(rt; "warning: {source}{key}");
+    }
+}
+
+/// Tells in one line on standard error why settings aren't read, if they aren't, behind what the
+/// log tells of it.
+fn tell_check<E: Eprint + Log>(rt: &E, source: Source<'_>, answer: Result<(), InputFault>) -> u8
+    ensures { result ≡ ended_status input_status answer }
+{
+    match answer {
+        Ok(()) => 0,
+        Err(fault) => {
+            tell_place(rt, source, &fault);
+            let _ = eprintln!(rt; "{fault}");
+            fault.status()
+        }
+    }
 }

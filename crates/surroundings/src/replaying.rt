@@ -2,12 +2,13 @@
 
 ghost use Rattle.std.specs.Prelude.{◌≡◌};
 ghost use Rattle.commands.specs.Replays.{status_of};
+ghost use Rattle.surroundings.specs.Endings.{IsReplayed, ended_status};
 
 use crate::last_line::out_of_memory;
 use commands::{ReplayFault, replay};
 use script::Output;
 use std::alloc::Global;
-use std::io::{self, BufWriter};
+use std::io::{self, BufWriter, Read, Write};
 
 /// Replays the script on standard input to standard output.
 pub fn replay_input<R: Input + Print + Eprint>(rt: &R, alloc: Global) -> u8 {
@@ -15,17 +16,31 @@ pub fn replay_input<R: Input + Print + Eprint>(rt: &R, alloc: Global) -> u8 {
     let Ok(buffer) = BufWriter::new(alloc, io::writer(rt)) else {
         return out_of_memory(rt);
     };
-    let mut out = Output::new(buffer);
-    match replay(alloc, &mut input, &mut out) {
-        Ok(()) => 0,
-        Err(fault) => refuse_script(rt, &fault),
-    }
+    replay_script(rt, alloc, &mut input, &mut Output::new(buffer))
 }
 
-/// Tells in one line on standard error why a script isn't replayed to its end.
-fn refuse_script(rt: &impl Eprint, fault: &ReplayFault) -> u8
-    ensures { result ≡ status_of fault.now }
+/// Replays the script that an input is. Returns the exit status.
+fn replay_script<E: Eprint, R: Read + Drop, W: Write + Drop>(
+    rt: &E,
+    alloc: Global,
+    input: &mut script::Input<R>,
+    out: &mut Output<W>,
+) -> u8
+    ensures { IsReplayed input.old input.new out.old out.new result }
 {
-    let _ = eprintln!(rt; "{fault}");
-    fault.status()
+    let answer = replay(alloc, input, out);
+    tell_replay(rt, answer)
+}
+
+/// Tells in one line on standard error why a script isn't replayed to its end, if it isn't.
+fn tell_replay(rt: &impl Eprint, answer: Result<(), ReplayFault>) -> u8
+    ensures { result ≡ ended_status status_of answer }
+{
+    match answer {
+        Ok(()) => 0,
+        Err(fault) => {
+            let _ = eprintln!(rt; "{fault}");
+            fault.status()
+        }
+    }
 }
