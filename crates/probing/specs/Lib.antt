@@ -1,4 +1,5 @@
 pub mod Requests
 pub mod Replies
 pub mod Told
+pub mod Sockets
 pub mod Statuses

@@ -1,7 +1,9 @@
 //! Asking over a socket.
 
-ghost use Rattle.std.specs.Prelude.{◌≡◌, IfOk};
+ghost use Rattle.std.specs.Prelude.{◌≡◌, IfOk, Some};
+ghost use Rattle.std.specs.Duration.{as_nanos};
 ghost use Rattle.std.specs.String.{string_bytes};
+ghost use Rattle.probing.specs.Sockets.{address_of, microseconds_between, microseconds_of};
 ghost use Rattle.probing.specs.Statuses.{probe_status, silence_of};
 ghost use Rattle.probing.specs.Told.{IsAnswerTold};
 
@@ -82,7 +84,10 @@ impl From<AllocError> for ProbeFault {
     }
 }
 
-fn system_address(address: Address) -> SocketAddr {
+/// The address as the system has it.
+fn system_address(address: Address) -> SocketAddr
+    ensures { address_of result ≡ Some address }
+{
     let [a, b, c, d] = address.ip;
     SocketAddr::new(IpAddr::V4(Ipv4Addr::new(a, b, c, d)), address.port)
 }
@@ -104,7 +109,14 @@ fn connect(socket: &UdpSocket, probe: Probe) -> io::Result<()> {
 
 /// The address to which the gatekeeper is to answer.
 fn own_address(socket: &UdpSocket) -> Option<Address> {
-    match socket.local_addr().ok()? {
+    ipv4_address(socket.local_addr().ok()?)
+}
+
+/// An address of the system's; None if it isn't one of IPv4.
+fn ipv4_address(address: SocketAddr) -> Option<Address>
+    ensures { result ≡ address_of address }
+{
+    match address {
         SocketAddr::V4(address) => Some(Address {
             ip: address.ip().octets(),
             port: address.port(),
@@ -115,12 +127,24 @@ fn own_address(socket: &UdpSocket) -> Option<Address> {
 
 /// The whole microseconds since this moment; 0 if the clock can't be read.
 fn microseconds_since<R: Clock>(rt: &R, start: Option<Instant>) -> u64 {
-    match (start, Instant::now(rt).ok()) {
-        (Some(start), Some(now)) => {
-            u64::try_from(now.duration_since(start).as_micros()).unwrap_or(u64::MAX)
-        }
+    microseconds_between(start, Instant::now(rt).ok())
+}
+
+/// The microseconds from this moment to that one; 0 if the clock couldn't be read at one of them.
+fn microseconds_between(start: Option<Instant>, now: Option<Instant>) -> u64
+    ensures { result ≡ microseconds_between start now }
+{
+    match (start, now) {
+        (Some(start), Some(now)) => microseconds_in(now.duration_since(start)),
         _ => 0,
     }
+}
+
+/// The whole microseconds of this duration; `u64::MAX` if they are more.
+fn microseconds_in(passed: Duration) -> u64
+    ensures { result ≡ microseconds_of (as_nanos passed) }
+{
+    u64::try_from(passed.as_micros()).unwrap_or(u64::MAX)
 }
 
 /// Asks a gatekeeper whether it is there, and writes a line that tells how its answer reads. Says
