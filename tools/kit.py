@@ -91,6 +91,8 @@ def build(name, jobs):
     for crate in crates():
         if crate.name == name:
             os.chdir(crate.folder)
+            # (a fresh clone has no folder for what is made, and nothing else makes it for a program)
+            os.makedirs("out", exist_ok=True)
             # (over a folder that keeps what was proved, the prover parts a large program into many
             # checks, each of which loads all that stands below)
             tool.KEPT = []
