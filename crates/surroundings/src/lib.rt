@@ -2,7 +2,8 @@
 //! is done here, and what has to be there before one serves is made.
 //!
 //! proved: the zone is the set one (`set_zone`); a failed start is told as what failed
-//! (`bind_page`, `planned_record`)
+//! (`bind_page`, `planned_record`); a command ends with the status of what it came to
+//! (`replay_script`)
 //! tested: the built program, signals
 #![tactic(auto)]
 
