@@ -19,8 +19,8 @@ pub record IsKeptBehind {A : Type 0} (most : ℕ) (chapter : A) (old new : List 
   pub beside : length old < most → new ≡ old ++ chapter ∷ []
   pub in_place : most ≤ length old → new ≡ drop 1 old ++ chapter ∷ []
 
--- The chapters that are kept are as before; or one more ended, which has what stood behind the lock,
--- and was put behind them.
+-- The chapters that are kept are as before; or one more ended, which has what stood behind the
+-- lock, and was put behind them.
 abbrev pub AreLatest : State → ℕ → List ChapterValue → List ChapterValue → Type 0
 AreLatest opened most old new =
     (new ≡ old)
