@@ -1,5 +1,5 @@
-//! Tests of records: what was recorded of a zone is audited, as it is and altered, and so is each
-//! record that is written.
+//! Tests of records: what was recorded of a zone is audited, whole, cut off and in pieces, and so
+//! is each record that is written.
 #![tactic(auto)]
 
 #[cfg(test)]

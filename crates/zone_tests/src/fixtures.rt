@@ -1,11 +1,12 @@
 //! The zone of the worked examples, and what comes to it.
 
 use facts::ensure_of;
-use pools::{FixedPool, Pool};
+use pools::{FixedPool, NonZeroUnits, Pool, PoolSpec, StandardPool};
 use ras_core::{ConfigParts, Datagram, Event, Moment, Note, Outcome, Zone};
 use ras_module::{Address, Octets, Source};
 use std::alloc::Global;
 use std::test::Fail;
+use vectors::requests::{ARQ, RRQ_101, RRQ_102};
 pub use worked_zone::{CALL_LIMIT, ENDPOINT, LIMIT, POOL};
 
 /// The units of the worked call that opens first.
@@ -47,6 +48,15 @@ pub fn zone_over<P: Pool>(
     }
 }
 
+/// A pool of this limit that lends whole steps, or a burst between two turns; 0 is for neither.
+pub fn pool_of(limit: u64, step: u32, burst: u32) -> StandardPool {
+    StandardPool::new(match (NonZeroUnits::new(step), NonZeroUnits::new(burst)) {
+        (Some(step), _) => PoolSpec::Step { limit, step },
+        (None, Some(burst)) => PoolSpec::Paced { limit, burst },
+        (None, None) => PoolSpec::Fixed { limit },
+    })
+}
+
 pub fn event(alloc: Global, bytes: &[u8], milliseconds: u64) -> Result<Event, Fail> {
     event_from(alloc, ENDPOINT, bytes, milliseconds)
 }
@@ -62,6 +72,15 @@ pub fn event_from(
     Ok(Event::Datagram(source, bytes, moment))
 }
 
+/// Two endpoints register in the worked zone, and the first one calls the second one.
+pub fn open_call(alloc: Global, zone: &mut Zone<FixedPool>) -> Result<(), Fail> {
+    drop(zone.step(event(alloc, &RRQ_101, 0)?)?);
+    drop(zone.step(event_from(alloc, source(6), &RRQ_102, 0)?)?);
+    drop(zone.step(event(alloc, &ARQ, 0)?)?);
+    Ok(())
+}
+
+/// A request of 10.0.0.5 is served with this reply and nothing else.
 pub fn sent(alloc: Global, bytes: &[u8]) -> Result<Outcome, Fail> {
     Ok(Outcome {
         answer: None,
@@ -84,21 +103,13 @@ pub fn all_hold_of(row: &str, facts: &[(bool, &str)]) -> Result<(), Fail> {
     Ok(())
 }
 
-// A zone that is dropped at each of many exits makes a test costly to prove, so what is asked of a
-// zone stands in functions that borrow it.
-
-/// Sends the datagram to the zone, which has to answer it with these octets and nothing else.
-pub fn ask(
-    alloc: Global,
-    zone: &mut Zone<FixedPool>,
-    row: &str,
-    bytes: &[u8],
-    reply: &[u8],
-) -> Result<(), Fail> {
-    let outcome = zone.step(event(alloc, bytes, 0)?)?;
-    ensure_of(
-        row,
-        outcome == sent(alloc, reply)?,
-        "it is served with this reply alone",
-    )
+/// Fails with the name of a run, that of a row of it, and the first of these facts that doesn't
+/// hold.
+pub fn all_hold_in(run: &str, row: &str, facts: &[(bool, &str)]) -> Result<(), Fail> {
+    for (holds, fact) in facts {
+        if !*holds {
+            return Err(Fail::new(format_args!("{run}: {row}: it doesn't hold that {fact}")));
+        }
+    }
+    Ok(())
 }

@@ -1,10 +1,9 @@
-//! A record of a zone, and its audit.
+//! A record of a zone.
 
 use crate::shared::datagram;
 use pools::FixedPool;
 use ras_core::{Event, Moment, Zone};
-use record_audit::{AuditFault, audit_record};
-use script::{Input, ScriptEvent, write_event, write_outcome};
+use script::{ScriptEvent, write_event, write_outcome};
 use std::alloc::Global;
 use std::test::Fail;
 use vectors::requests::{ARQ, DRQ, GRQ, RRQ_101, RRQ_102};
@@ -54,12 +53,4 @@ pub fn record(alloc: Global) -> Result<Vec<u8>, Fail> {
     drop(zone);
     made?;
     Ok(text)
-}
-
-/// How many steps the audit of a text comes to.
-pub fn audited(alloc: Global, text: &[u8]) -> Result<u64, AuditFault> {
-    match audit_record(alloc, &mut Input::new(text)) {
-        Ok(audited) => Ok(audited.steps),
-        Err(fault) => Err(fault),
-    }
 }

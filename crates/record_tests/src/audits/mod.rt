@@ -1,5 +1,4 @@
-//! Tests of records: what was recorded of a zone is audited, as it is and altered.
+//! Tests of audits: of a record up to where it is cut off, in pieces, and of a read that fails.
 
-mod altered;
 mod cut_off;
 mod fixtures;

@@ -1,11 +1,8 @@
 //! Tests of pools and of sets of pools, with pools of its own. There are worked examples, pools
 //! behind boxes, and what no contract says of them.
 
+mod deeds;
 mod kinds;
-mod least;
-mod marked;
 mod own_pool;
 mod replacing;
 mod sets;
-mod specs;
-mod standard;

@@ -1,36 +1,18 @@
 //! Pools that give way to others while they have something lent.
 
-use crate::fixtures::all_hold_of;
-use crate::pool::marked::{MarkedPool, Seen};
-use crate::pool::sets::{Boxed, ask, counted, marked, shown};
+use crate::counting::{CountingPool, Counts, Met, NOTHING};
+use crate::fixtures::{all_hold_of, pool_of};
+use crate::pool::deeds::Deed::Ask;
+use crate::pool::deeds::{
+    Boxed, Row, Shown, counting, counts_of, figures, have_met, lending, shown, try_deeds,
+};
 use facts::all_hold;
-use pools::{Figures, FixedPool, Lend, PacedPool, Pool, PoolSet, ReplaceFault, StepPool};
+use pools::Lend::{Lent, Refused, Wait};
+use pools::{Figures, FixedPool, Pool, PoolSet, StandardPool};
+use ras_core::figures_of;
 use std::alloc::Global;
 use std::sync::Arc;
-use std::sync::atomic::Ordering;
 use std::test::Fail;
-
-/// The figures of a pool, and its last request with the answer.
-type Shown = (Figures, Option<(u64, Lend)>);
-
-fn figures(limit: u64, lent: u64, refusals: u64) -> Figures {
-    Figures {
-        limit,
-        lent,
-        refusals,
-        waits: 0,
-    }
-}
-
-fn shown_of<P: Pool>(pool: &P) -> Shown {
-    let figures = Figures {
-        limit: pool.limit(),
-        lent: pool.lent(),
-        refusals: pool.refusals(),
-        waits: pool.waits(),
-    };
-    (figures, pool.last())
-}
 
 /// Replaces a pool of a set: the number of the fault, or 0, and the pool that comes back.
 fn replace<P: Pool>(set: &mut PoolSet<P>, i: usize, fresh: P) -> (u8, P) {
@@ -40,316 +22,266 @@ fn replace<P: Pool>(set: &mut PoolSet<P>, i: usize, fresh: P) -> (u8, P) {
     }
 }
 
-/// A pool of 2,500 units, in a list of its own.
-fn one_pool(alloc: Global) -> Result<Vec<Boxed>, Fail> {
-    let mut pools: Vec<Boxed> = Vec::new(alloc);
-    pools.push(Box::new(alloc, FixedPool::new(2500))?)?;
-    Ok(pools)
-}
-
-/// What became of a pool that has lent 1,280 units, and of the one that was to replace it.
+/// A pool that is offered in the place of that one, and the number of its fault, or 0. What comes
+/// back, what stands there then and how often the set asked it, and what becomes of the next
+/// requests.
 #[derive(Clone, Copy)]
-struct Replaced {
+struct Offer {
+    row: &'static str,
+    place: usize,
     fault: u8,
     back: Shown,
     stands: Shown,
-    counts: (u64, u64),
+    requests: u64,
+    next: [Row; 2],
 }
 
-/// Lends 1,280 units from the first pool of a set, and replaces pool i.
-fn lend_and_replace<P: Pool>(pools: Vec<P>, i: usize, fresh: P) -> Option<(PoolSet<P>, Replaced)> {
-    let Ok(mut set) = PoolSet::new(pools) else {
-        return None;
-    };
-    let _lent = ask(&mut set, 0, 1280)?;
-    let _refused = ask(&mut set, 0, 1300)?;
-    let (fault, back) = replace(&mut set, i, fresh);
-    let replaced = Replaced {
-        fault,
-        back: shown_of(&back),
-        stands: shown(&set, 0)?,
-        counts: counted(&set, 0)?,
-    };
-    Some((set, replaced))
-}
-
-/// Two more answers of the first pool of a set, after it was replaced.
-fn replace_and_ask<P: Pool>(
-    pools: Vec<P>,
-    fresh: P,
-    asked: u64,
-    more: u64,
-) -> Option<(Replaced, Lend, Lend)> {
-    let (mut set, replaced) = lend_and_replace(pools, 0, fresh)?;
-    let first = ask(&mut set, 0, asked)?;
-    let second = ask(&mut set, 0, more)?;
-    Some((replaced, first, second))
-}
-
-#[test]
-fn fresh_pool_takes_over_the_loans(rt: HostRuntime) -> Result<(), Fail> {
-    let alloc = rt.alloc();
-    let fresh: Boxed = Box::new(alloc, FixedPool::new(2000))?;
-    let Some((replaced, first, second)) = replace_and_ask(one_pool(alloc)?, fresh, 720, 1) else {
-        return Err(Fail::from("the pool is asked"));
-    };
-    let back = (figures(2500, 0, 1), Some((1300, Lend::Refused)));
-    let stands = (figures(2000, 1280, 0), Some((1280, Lend::Lent(1280))));
-    all_hold(&[
-        (replaced.fault == 0, "the pool is replaced"),
-        (replaced.back == back, "it comes back with nothing lent"),
-        (
-            replaced.stands == stands,
-            "the fresh pool has lent what it had",
-        ),
-        (replaced.counts == (1, 0), "the fresh pool was asked once"),
-        (first == Lend::Lent(720), "it lends what is left"),
-        (second == Lend::Refused, "it refuses more"),
-    ])
-}
-
-/// Replaces the first pool of a set by one that has lent all then, and answers so.
-fn replace_by_spent(pools: Vec<Boxed>, fresh: Boxed, answer: Lend) -> Result<(), Fail> {
-    let Some((replaced, first, _)) = replace_and_ask(pools, fresh, 1, 1) else {
-        return Err(Fail::from("the pool is asked"));
-    };
-    all_hold(&[
-        (replaced.fault == 0, "the pool is replaced"),
-        (first == answer, "the fresh pool has lent all"),
-    ])
-}
-
-#[test]
-fn fresh_pool_may_have_lent_all_then(rt: HostRuntime) -> Result<(), Fail> {
-    let alloc = rt.alloc();
-    let full: Boxed = Box::new(alloc, FixedPool::new(1280))?;
-    replace_by_spent(one_pool(alloc)?, full, Lend::Refused)?;
-    let spent: Boxed = Box::new(alloc, PacedPool::new(2500, 1280))?;
-    replace_by_spent(one_pool(alloc)?, spent, Lend::Wait)
-}
-
-/// What became of the two pools. The set is dropped.
-fn replace_alone<P: Pool>(pools: Vec<P>, i: usize, fresh: P) -> Option<Replaced> {
-    let (_set, replaced) = lend_and_replace(pools, i, fresh)?;
-    Some(replaced)
-}
-
-/// A pool of 10 units that has lent one.
-fn lending(alloc: Global) -> Result<Boxed, Fail> {
-    let mut pool = FixedPool::new(10);
-    if pool.lend(1) != Lend::Lent(1) {
-        return Err(Fail::from("a pool of 10 units lends 1"));
-    }
-    Ok(Box::new(alloc, pool)?)
-}
-
-/// Offers a pool in the place of that one, which is refused for the fault of this number and shows
-/// this.
-fn offer(
-    row: &str,
-    pools: Vec<Boxed>,
-    i: usize,
-    fresh: Boxed,
-    fault: u8,
-    back: Shown,
-) -> Result<(), Fail> {
-    let Some(replaced) = replace_alone(pools, i, fresh) else {
-        return Err(Fail::from("the pool is asked"));
-    };
-    let stands = (figures(2500, 1280, 1), Some((1300, Lend::Refused)));
-    all_hold_of(
+/// A fresh pool of this limit takes over the loans of the one of 2,500 units.
+fn taken(row: &'static str, limit: u64, next: [Row; 2]) -> Offer {
+    Offer {
         row,
-        &[
-            (replaced.fault == fault, "it is refused for its fault"),
-            (replaced.back == back, "it comes back"),
-            (replaced.stands == stands, "the other pool stands"),
-            (replaced.counts == (2, 0), "the other pool wasn't called"),
+        place: 0,
+        fault: 0,
+        back: (figures(2_500, 0, 1), Some((1_300, Refused))),
+        stands: (figures(limit, 1_280, 0), Some((1_280, Lent(1_280)))),
+        requests: 1,
+        next,
+    }
+}
+
+/// A fresh pool is refused. The one of 2,500 units stands and wasn't called.
+fn refused(row: &'static str, place: usize, fault: u8, back: Shown) -> Offer {
+    Offer {
+        row,
+        place,
+        fault,
+        back,
+        stands: (figures(2_500, 1_280, 1), Some((1_300, Refused))),
+        requests: 2,
+        next: [
+            (0, Ask(1_220, Lent(1_220)), 2_500, 1),
+            (0, Ask(1, Refused), 2_500, 2),
         ],
-    )
+    }
+}
+
+/// A pool lends 1,280 units, and refuses 1,300.
+const LENT: [Row; 2] = [
+    (0, Ask(1_280, Lent(1_280)), 1_280, 0),
+    (0, Ask(1_300, Refused), 1_280, 1),
+];
+
+/// Lends from the one pool of a set, and offers it the fresh one.
+fn offer_to(
+    set: &mut PoolSet<StandardPool>,
+    fresh: StandardPool,
+    offer: &Offer,
+) -> Result<(), Fail> {
+    try_deeds(set, offer.row, &LENT)?;
+    let (fault, back) = replace(set, offer.place, fresh);
+    let is_back = (figures_of(&back), back.last()) == offer.back;
+    drop(back);
+    let stands = shown(set, 0) == Some((offer.stands, offer.requests, 0));
+    all_hold_of(
+        offer.row,
+        &[
+            (
+                fault == offer.fault,
+                "it is taken, or refused for its fault",
+            ),
+            (is_back, "the pool that doesn't stand there comes back"),
+            (stands, "the other one stands there"),
+        ],
+    )?;
+    try_deeds(set, offer.row, &offer.next)
+}
+
+/// Offers the pool to a set of one pool of 2,500 units.
+fn try_offer(alloc: Global, fresh: StandardPool, offer: &Offer) -> Result<(), Fail> {
+    let mut pools = Vec::new(alloc);
+    pools.push(pool_of(2_500, 0, 0))?;
+    let Ok(mut set) = PoolSet::new(pools) else {
+        return Err(Fail::from("one idle pool makes a set"));
+    };
+    let ended = offer_to(&mut set, fresh, offer);
+    drop(set);
+    ended
 }
 
 #[test]
-fn refused_pool_comes_back_with_what_it_had_lent(rt: HostRuntime) -> Result<(), Fail> {
-    let alloc = rt.alloc();
-    let short = (figures(1279, 0, 1), Some((1280, Lend::Refused)));
-    let steps = (figures(2500, 0, 0), Some((1280, Lend::Lent(1000))));
-    let whole = (figures(2000, 0, 0), None);
-    let one = (figures(10, 1, 0), Some((1, Lend::Lent(1))));
-    let fresh: Boxed = Box::new(alloc, FixedPool::new(1279))?;
-    offer("a unit too small", one_pool(alloc)?, 0, fresh, 4, short)?;
-    let fresh: Boxed = Box::new(alloc, StepPool::new(2500, 1000))?;
-    offer("steps", one_pool(alloc)?, 0, fresh, 4, steps)?;
-    let fresh: Boxed = Box::new(alloc, FixedPool::new(2000))?;
-    offer("no such pool", one_pool(alloc)?, 1, fresh, 2, whole)?;
-    let fresh = lending(alloc)?;
-    offer("a loan", one_pool(alloc)?, 0, fresh, 3, one)?;
-    let fresh = lending(alloc)?;
-    offer("a loan, no such pool", one_pool(alloc)?, 1, fresh, 2, one)
-}
-
-/// Lends a number of units that no request names from the first pool of a set, and replaces it.
-fn lend_much_and_replace<P: Pool>(pools: Vec<P>, fresh: P) -> Option<(u8, Shown, (u64, u64))> {
-    let Ok(mut set) = PoolSet::new(pools) else {
-        return None;
-    };
-    for _ in 0..3 {
-        let _lent = ask(&mut set, 0, 3_000_000_000)?;
+fn a_fresh_pool_takes_over_the_loans(rt: HostRuntime) -> Result<(), Fail> {
+    let rest = [
+        (0, Ask(720, Lent(720)), 2_000, 0),
+        (0, Ask(1, Refused), 2_000, 1),
+    ];
+    let none = [
+        (0, Ask(1, Refused), 1_280, 1),
+        (0, Ask(1, Refused), 1_280, 2),
+    ];
+    let wait = [(0, Ask(1, Wait), 1_280, 0), (0, Ask(1, Wait), 1_280, 0)];
+    for (offer, burst) in [
+        (taken("a smaller pool", 2_000, rest), 0),
+        (taken("a pool of just enough", 1_280, none), 0),
+        (taken("a burst of just enough", 2_500, wait), 1_280),
+    ] {
+        let (Figures { limit, .. }, _) = offer.stands;
+        try_offer(rt.alloc(), pool_of(limit, 0, burst), &offer)?;
     }
-    let (fault, _) = replace(&mut set, 0, fresh);
-    Some((fault, shown(&set, 0)?, counted(&set, 0)?))
+    Ok(())
 }
 
-/// Replaces a pool that has lent 9,000,000,000 units by one that tells of itself.
-fn lend_in_parts(alloc: Global, seen: &Arc<Seen>) -> Result<(), Fail> {
-    let fresh = MarkedPool::with_limit(10_000_000_000, 1, Arc::clone(seen)?);
+#[test]
+fn a_refused_pool_comes_back_with_what_it_had_lent(rt: HostRuntime) -> Result<(), Fail> {
+    let short = (figures(1_279, 0, 1), Some((1_280, Refused)));
+    let steps = (figures(2_500, 0, 0), Some((1_280, Lent(1_000))));
+    let whole = (figures(2_000, 0, 0), None);
+    for (offer, step) in [
+        (refused("a unit too small", 0, 4, short), 0),
+        (refused("steps", 0, 4, steps), 1_000),
+        (refused("no such pool", 1, 2, whole), 0),
+    ] {
+        let (Figures { limit, .. }, _) = offer.back;
+        try_offer(rt.alloc(), pool_of(limit, step, 0), &offer)?;
+    }
+    let one = (figures(10, 1, 0), Some((1, Lent(1))));
+    for offer in [
+        refused("a loan", 0, 3, one),
+        refused("a loan, no such pool", 1, 2, one),
+    ] {
+        try_offer(rt.alloc(), StandardPool::Fixed(lending()?), &offer)?;
+    }
+    Ok(())
+}
+
+/// A pool lends more units than a request can name.
+const MUCH: [Row; 3] = [
+    (0, Ask(3_000_000_000, Lent(3_000_000_000)), 3_000_000_000, 0),
+    (0, Ask(3_000_000_000, Lent(3_000_000_000)), 6_000_000_000, 0),
+    (0, Ask(3_000_000_000, Lent(3_000_000_000)), 9_000_000_000, 0),
+];
+
+/// Replaces a pool that has lent so much.
+fn replace_much<P: Pool>(set: &mut PoolSet<P>, fresh: P) -> Result<(), Fail> {
+    try_deeds(set, "much is lent", &MUCH)?;
+    let (fault, old) = replace(set, 0, fresh);
+    drop(old);
+    let last = Some((410_065_410, Lent(410_065_410)));
+    let stands = (figures(10_000_000_000, 9_000_000_000, 0), last);
+    all_hold(&[
+        (fault == 0, "the pool is replaced"),
+        (
+            shown(set, 0) == Some((stands, 3, 0)),
+            "the fresh pool has lent it in three loans",
+        ),
+    ])
+}
+
+/// Does so in a set of these pools.
+fn replace_much_in<P: Pool>(pools: Vec<P>, fresh: P) -> Result<(), Fail> {
+    let Ok(mut set) = PoolSet::new(pools) else {
+        return Err(Fail::from("one idle pool makes a set"));
+    };
+    let ended = replace_much(&mut set, fresh);
+    drop(set);
+    ended
+}
+
+/// Does so in a set of one pool, with one that counts there.
+fn lend_in_parts(alloc: Global, met: &Arc<Met>) -> Result<(), Fail> {
+    let fresh = CountingPool::new(FixedPool::new(10_000_000_000), met)?;
     let fresh: Boxed = Box::new(alloc, fresh)?;
     let mut pools: Vec<Boxed> = Vec::new(alloc);
     pools.push(Box::new(alloc, FixedPool::new(10_000_000_000))?)?;
-    let replaced = lend_much_and_replace(pools, fresh);
-    let last = Some((410_065_410, Lend::Lent(410_065_410)));
-    let stands = (figures(10_000_000_000, 9_000_000_000, 0), last);
-    let asked = seen.asked.load(Ordering::SeqCst);
-    let asked_last = seen.asked_last.load(Ordering::SeqCst);
-    all_hold(&[
-        (
-            replaced == Some((0, stands, (3, 0))),
-            "the pool is replaced",
-        ),
-        (
-            seen.lends.load(Ordering::SeqCst) == 3,
-            "the fresh pool was asked three times",
-        ),
-        (asked == 9_000_000_000, "it was asked for all units"),
-        (
-            asked_last == 410_065_410,
-            "it was asked for the rest at last",
-        ),
-    ])
+    replace_much_in(pools, fresh)
 }
 
 // 9,000,000,000 units take two loans of the most that a request names, and one of the rest.
 #[test]
 fn many_units_are_lent_in_parts(rt: HostRuntime) -> Result<(), Fail> {
-    let seen = Arc::new(rt.alloc(), Seen::new())?;
-    let ended = lend_in_parts(rt.alloc(), &seen);
-    drop(seen);
-    ended
-}
-
-/// Replaces the first pool of a set that nothing was asked of.
-fn replace_unasked<P: Pool>(pools: Vec<P>, fresh: P) -> Option<(u8, Shown, (u64, u64))> {
-    let Ok(mut set) = PoolSet::new(pools) else {
-        return None;
+    let met = Arc::new(rt.alloc(), Met::new())?;
+    let ended = lend_in_parts(rt.alloc(), &met);
+    let counts = met.counts();
+    drop(met);
+    ended?;
+    let expected = Counts {
+        lends: 3,
+        asked: 9_000_000_000,
+        asked_last: 410_065_410,
+        returns: 1,
+        drops: 1,
+        ..NOTHING
     };
-    let (fault, _) = replace(&mut set, 0, fresh);
-    Some((fault, shown(&set, 0)?, counted(&set, 0)?))
+    all_hold(&[(
+        counts == expected,
+        "the fresh pool was asked for all units, and for the rest at last",
+    )])
 }
 
-/// Replaces a pool that has nothing lent by one that tells of itself.
-fn replace_idle(alloc: Global, seen: &Arc<Seen>) -> Result<(), Fail> {
-    let pools = marked(alloc, seen, 1)?;
-    let fresh: Boxed = Box::new(alloc, MarkedPool::new(2, Arc::clone(seen)?))?;
-    let replaced = replace_unasked(pools, fresh);
-    let stands = (figures(100, 0, 0), None);
+/// Of four pools, the third one takes the place of the first one in a set of two, of which nothing
+/// is lent. Then the second one lends, and the fourth one takes its place. The first pool that
+/// comes back is given one turn, and the second one two.
+fn replace_both<P: Pool>(set: &mut PoolSet<P>, third: P, fourth: P) -> Result<(), Fail> {
+    let (fault, mut first) = replace(set, 0, third);
+    first.turn();
+    drop(first);
+    let is_unasked = shown(set, 0) == Some(((figures(100, 0, 0), None), 0, 0));
+    let lent = try_deeds(set, "the second pool", &[(1, Ask(70, Lent(70)), 70, 0)]);
+    let (second_fault, mut second) = replace(set, 1, fourth);
+    let is_idle = second.lent() == 0;
+    second.turn();
+    second.turn();
+    drop(second);
+    lent?;
     all_hold(&[
-        (
-            replaced == Some((0, stands, (0, 0))),
-            "the pool is replaced",
-        ),
-        (seen.lends.load(Ordering::SeqCst) == 0, "no pool is asked"),
-        (
-            seen.take_backs.load(Ordering::SeqCst) == 0,
-            "no units come back",
-        ),
-        (
-            seen.turns.load(Ordering::SeqCst) == 0,
-            "no pool has its turn",
-        ),
+        (fault == 0 && second_fault == 0, "both pools are replaced"),
+        (is_unasked, "a pool isn't asked if nothing is lent"),
+        (is_idle, "the second pool comes back with nothing lent"),
     ])
 }
 
-#[test]
-fn fresh_pool_is_not_asked_if_nothing_is_lent(rt: HostRuntime) -> Result<(), Fail> {
-    let seen = Arc::new(rt.alloc(), Seen::new())?;
-    let ended = replace_idle(rt.alloc(), &seen);
-    drop(seen);
-    ended
-}
-
-/// Lends from the second of two pools, replaces it, and closes the set.
-fn replace_and_close<P: Pool>(pools: Vec<P>, fresh: P) -> Option<(P, Vec<P>)> {
+/// Does so with four pools that count there, and closes the set.
+fn replace_counted<P: Pool>(pools: Vec<P>, mets: &[Arc<Met>]) -> Result<(), Fail> {
+    let mut pools = pools;
+    let (Some(fourth), Some(third)) = (pools.pop(), pools.pop()) else {
+        return Err(Fail::from("there are four pools"));
+    };
     let Ok(mut set) = PoolSet::new(pools) else {
-        return None;
+        return Err(Fail::from("two idle pools make a set"));
     };
-    let _lent = ask(&mut set, 1, 70)?;
-    let Ok(old) = set.replace(1, fresh) else {
-        return None;
-    };
-    Some((old, set.close()))
-}
-
-/// Replaces the second of two pools by a third one, and gives the one that comes back its turn.
-fn turn_old(alloc: Global, seen: &Arc<Seen>) -> Result<(), Fail> {
-    let mut pools = marked(alloc, seen, 3)?;
-    let Some(fresh) = pools.pop() else {
-        return Err(Fail::from("there is a third pool"));
-    };
-    let Some((mut old, back)) = replace_and_close(pools, fresh) else {
-        return Err(Fail::from("the pool is replaced"));
-    };
-    old.turn();
-    let is_second = seen.turned_last.load(Ordering::SeqCst) == 2;
-    let is_idle = old.lent() == 0;
-    let early_drops = seen.drops.load(Ordering::SeqCst);
-    drop(old);
-    drop(back);
-    all_hold(&[
-        (is_second, "the second pool comes back"),
-        (is_idle, "it has nothing lent"),
-        // at replace and at close, each of the one pool that has something lent
-        (
-            seen.take_backs.load(Ordering::SeqCst) == 2,
-            "each loan goes back in one call",
-        ),
-        (early_drops == 0, "no pool is dropped by the set"),
-        (
-            seen.drops.load(Ordering::SeqCst) == 3,
-            "all pools are dropped then",
-        ),
-        (
-            seen.lent_at_drop.load(Ordering::SeqCst) == 0,
-            "they have nothing lent then",
-        ),
-    ])
-}
-
-#[test]
-fn old_box_comes_back(rt: HostRuntime) -> Result<(), Fail> {
-    let seen = Arc::new(rt.alloc(), Seen::new())?;
-    let ended = turn_old(rt.alloc(), &seen);
-    drop(seen);
-    ended
-}
-
-#[test]
-fn faults_have_numbers_and_messages(rt: HostRuntime) -> Result<(), Fail> {
-    for (fault, number, message) in [
-        (ReplaceFault::Closed, 1, "no more changes are taken"),
-        (ReplaceFault::NoPool, 2, "there is no pool at this index"),
-        (
-            ReplaceFault::NotIdle,
-            3,
-            "the fresh pool is not idle: it has units lent, or has counted 2^62 refusals or waits",
-        ),
-        (
-            ReplaceFault::NotLent,
-            4,
-            "the fresh pool does not lend what the pool in the set has lent",
-        ),
-        (ReplaceFault::Memory, 5, "there is no memory"),
-    ] {
-        assert!(rt; fault.number() == number);
-        assert!(rt; format!(in rt.alloc(); "{fault}")?.as_str() == message);
+    let ended = replace_both(&mut set, third, fourth);
+    let back = set.close();
+    let mut drops: u64 = 0;
+    for met in mets {
+        drops = drops.saturating_add(met.counts().drops);
     }
-    Ok(())
+    drop(back);
+    ended?;
+    all_hold(&[(drops == 2, "no pool is dropped by the set")])
+}
+
+#[test]
+fn the_same_boxes_come_back(rt: HostRuntime) -> Result<(), Fail> {
+    let mets = counts_of(rt.alloc(), 4)?;
+    let ended = replace_counted(counting(rt.alloc(), &mets)?, &mets);
+    let idle = Counts {
+        drops: 1,
+        ..NOTHING
+    };
+    let lent = Counts {
+        lends: 1,
+        asked: 70,
+        asked_last: 70,
+        returns: 1,
+        ..idle
+    };
+    let expected = [
+        Counts { turns: 1, ..idle },
+        Counts { turns: 2, ..lent },
+        idle,
+        lent,
+    ];
+    let have_met = have_met(&mets, &expected);
+    drop(mets);
+    ended?;
+    all_hold(&[(have_met, "each pool was called as it should be")])
 }

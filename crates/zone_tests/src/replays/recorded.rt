@@ -1,59 +1,66 @@
-//! The check of one recorded step after the other.
+//! A zone in which two endpoints register, one calls the other, and the pool of that call is
+//! replaced, with the book of its steps.
 
-use crate::fixtures::zone;
-use crate::replays::fixtures::call;
-use books::Book;
-use facts::{all_hold, ensure};
+use crate::fixtures::event;
+use books::{Book, Entry};
 use pools::FixedPool;
-use ras_core::{Snapshot, Zone};
+use ras_core::{Change, Event, Moment, PoolChange, Zone, figures_of};
 use std::alloc::Global;
 use std::test::Fail;
-use step_check::{accepts, same};
+use vectors::requests::{ARQ, GRQ, RRQ_101, RRQ_102};
 
-/// Offers each entry of the book of a call in its order, which is accepted, and one that comes
-/// again, which isn't. The snapshot is then the state of the zone.
-fn accept_each(
-    alloc: Global,
-    snapshot: &mut Snapshot,
-    book: &mut Book,
-    zone: &mut Zone<FixedPool>,
-) -> Result<(), Fail> {
-    call(alloc, book, zone)?;
-    for entry in &book.entries {
-        let fits = accepts(snapshot, &entry.event, &entry.outcome)?;
-        ensure(fits, "each entry is accepted in its order")?;
+/// The zone makes a step of this event, which is added to the book.
+fn record(book: &mut Book, zone: &mut Zone<FixedPool>, event: Event) -> Result<(), Fail> {
+    book.reserve_entry()?;
+    let kept = event.copy()?;
+    let outcome = zone.step(event)?;
+    let call = book.entries.len();
+    book.add_reserved(Entry {
+        seat: 0,
+        call,
+        event: Change::Event(kept),
+        outcome,
+    });
+    Ok(())
+}
+
+/// A pool of 2,000 units takes the place of the one from which the call has its bandwidth, which is
+/// added to the book.
+fn replace(book: &mut Book, zone: &mut Zone<FixedPool>) -> Result<(), Fail> {
+    book.reserve_entry()?;
+    let fresh = FixedPool::new(2_000);
+    let change = PoolChange {
+        pool: 0,
+        offered: figures_of(&fresh),
+        moment: Moment::new(6).ok_or("a moment")?,
+    };
+    let Ok((outcome, old)) = zone.replace(0, fresh, change.moment) else {
+        return Err(Fail::from("a pool that is replaced"));
+    };
+    drop(old);
+    let call = book.entries.len();
+    book.add_reserved(Entry {
+        seat: 0,
+        call,
+        event: Change::PoolChange(change),
+        outcome,
+    });
+    Ok(())
+}
+
+/// Two endpoints register, the first one calls the second, its request comes again, a turn finds
+/// nothing that is due, and the pool is replaced.
+pub fn record_call(alloc: Global, book: &mut Book, zone: &mut Zone<FixedPool>) -> Result<(), Fail> {
+    let requests: [(u64, &[u8]); 5] = [
+        (0, &GRQ),
+        (1, &RRQ_101),
+        (2, &RRQ_102),
+        (3, &ARQ),
+        (4, &ARQ),
+    ];
+    for (milliseconds, request) in requests {
+        record(book, zone, event(alloc, request, milliseconds)?)?;
     }
-    let first = book.entries.first().ok_or("an entry")?;
-    let again = accepts(snapshot, &first.event, &first.outcome)?;
-    all_hold(&[
-        (!again, "an entry that comes twice isn't accepted"),
-        (
-            same(snapshot, zone),
-            "the snapshot is the state of the zone",
-        ),
-    ])
-}
-
-/// Does so with a call that begins at this zone.
-fn accept_from(alloc: Global, zone: &mut Zone<FixedPool>) -> Result<(), Fail> {
-    let mut book = Book::new(alloc, zone.snapshot()?);
-    let ended = accept_book(alloc, &mut book, zone);
-    drop(book);
-    ended
-}
-
-/// Does so with this book, which has no entries yet.
-fn accept_book(alloc: Global, book: &mut Book, zone: &mut Zone<FixedPool>) -> Result<(), Fail> {
-    let mut snapshot = zone.snapshot()?;
-    let ended = accept_each(alloc, &mut snapshot, book, zone);
-    drop(snapshot);
-    ended
-}
-
-#[test]
-fn recorded_steps_are_accepted_in_their_order(rt: HostRuntime) -> Result<(), Fail> {
-    let mut zone = zone(rt.alloc())?;
-    let ended = accept_from(rt.alloc(), &mut zone);
-    drop(zone);
-    ended
+    record(book, zone, Event::Turn(Moment::new(5).ok_or("a moment")?))?;
+    replace(book, zone)
 }

@@ -1,8 +1,7 @@
 //! Tests of worlds: orders in which workers act, full rings, and refusals. Two calls come that
 //! their pool can't carry together.
 
-mod calls;
-mod fixtures;
+mod acts;
 mod orders;
 mod refusals;
 mod replacing;

@@ -1,139 +1,118 @@
 //! What comes of orders in which workers act.
 
-use crate::worlds::fixtures::{
-    Looked, apply, event, expect_all, find_run, make_step, post, receive, serve, take, turn, world,
-};
-use books::Entry;
-use facts::expect;
-use history::{Acted, World, WorldStep};
-use pools::FixedPool;
+use crate::fixtures::CALL;
+use crate::messages::SECOND_ACF_1280;
+use crate::worlds::acts::{Act, Comes, Row, find_run, try_acts, try_world, world};
+use facts::all_hold;
+use history::World;
+use pools::{FixedPool, Lend};
 use ras_core::Note;
 use std::alloc::Global;
-use vectors::replies::{GCF, GRJ};
-use vectors::requests::{GRQ, GRQ_OF_XX};
-use zone_events::Event;
+use std::test::Fail;
+use vectors::replies::{ACF_1280, ARJ, GCF, GRJ, RCF_0001, RCF_0002};
+use vectors::requests::{
+    ARQ, ARQ_OF_A_SECOND_CALL as SECOND_ARQ, GRQ, GRQ_OF_XX, RRQ_101, RRQ_102,
+};
 
-/// Whether the seats of the entries are these, each with its first call.
-fn are_first_calls(entries: &[Entry], first: usize, second: usize) -> bool {
-    match entries {
-        [one, two] => one.seat == first && two.seat == second && one.call == 0 && two.call == 0,
-        _ => false,
-    }
+/// AdmissionReject of the first call, requestDenied.
+const FIRST_ARJ: [u8; 4] = [0x2C, 0x00, 0x02, 0x20];
+
+const SERVED: Comes = Comes::Applied(Note::Served, None);
+
+const LENT: Comes = Comes::Applied(Note::Served, Some(Lend::Lent(CALL)));
+
+const REFUSED: Comes = Comes::Applied(Note::Served, Some(Lend::Refused));
+
+const CONFIRM: Comes = Comes::Took(5, &GCF);
+
+const REJECT: Comes = Comes::Took(5, &GRJ);
+
+/// Two endpoints register, each by a worker. Then each worker holds a call, which the pool can't
+/// carry together.
+const BOTH_CALL: [Row; 10] = [
+    ("0001", 0, Act::Hear(0, 5, &RRQ_101), Comes::Received),
+    ("0001", 0, Act::Apply, SERVED),
+    ("0001", 0, Act::Post, Comes::Posted),
+    ("0002", 1, Act::Hear(0, 6, &RRQ_102), Comes::Received),
+    ("0002", 1, Act::Apply, SERVED),
+    ("0002", 1, Act::Post, Comes::Posted),
+    ("0001", 0, Act::Take, Comes::Took(5, &RCF_0001)),
+    ("0002", 1, Act::Take, Comes::Took(6, &RCF_0002)),
+    ("call", 0, Act::Hear(1, 5, &ARQ), Comes::Received),
+    ("other", 1, Act::Hear(1, 5, &SECOND_ARQ), Comes::Received),
+];
+
+/// The first call is first under the zone's lock, and the other worker posts first. Each has its
+/// own reply in its ring.
+const FIRST_CALL: [Row; 6] = [
+    ("call", 0, Act::Apply, LENT),
+    ("other", 1, Act::Apply, REFUSED),
+    ("other", 1, Act::Post, Comes::Posted),
+    ("call", 0, Act::Post, Comes::Posted),
+    ("call", 0, Act::Take, Comes::Took(5, &ACF_1280)),
+    ("other", 1, Act::Take, Comes::Took(5, &ARJ)),
+];
+
+/// The other way round.
+const SECOND_CALL: [Row; 6] = [
+    ("other", 1, Act::Apply, LENT),
+    ("call", 0, Act::Apply, REFUSED),
+    ("call", 0, Act::Post, Comes::Posted),
+    ("other", 1, Act::Post, Comes::Posted),
+    ("other", 1, Act::Take, Comes::Took(5, &SECOND_ACF_1280)),
+    ("call", 0, Act::Take, Comes::Took(5, &FIRST_ARJ)),
+];
+
+/// The seats of the entries, with the calls of each, if the first or the second call is first.
+const FIRST: [(usize, usize); 4] = [(0, 0), (1, 0), (0, 1), (1, 1)];
+
+const SECOND: [(usize, usize); 4] = [(0, 0), (1, 0), (1, 1), (0, 1)];
+
+#[test]
+fn the_order_under_the_lock_decides(rt: HostRuntime) -> Result<(), Fail> {
+    let alloc = rt.alloc();
+    try_world(alloc, 4, &BOTH_CALL, &FIRST_CALL, &FIRST, CALL)?;
+    try_world(alloc, 4, &BOTH_CALL, &SECOND_CALL, &SECOND, CALL)
 }
 
-/// Two workers are served, of which this one is first under the zone's lock, and the other one
-/// posts first. Each has its own reply in its ring.
-fn serve_both(alloc: Global, world: &mut World<FixedPool>, first: usize) -> Looked {
-    let second = if first == 0 { 1 } else { 0 };
-    receive(world, second, event(alloc, &GRQ_OF_XX, 1)?)?;
-    serve(world, first, event(alloc, &GRQ, 0)?)?;
-    make_step(world, second)?;
-    post(world, second)?;
-    post(world, first)?;
-    take(world, first, &GCF)?;
-    take(world, second, &GRJ)?;
-    expect(
-        are_first_calls(&world.book().entries, first, second),
-        "the book has the first step of each worker, in the order of the lock",
-    )
-}
+/// A reply is posted, and the next one is dropped while that waits in the ring of one place. It is
+/// kept, and finds its place when its request comes again and the ring is empty. A turn has no
+/// output.
+const RING_OF_ONE: [Row; 14] = [
+    ("first", 0, Act::Hear(0, 5, &GRQ), Comes::Received),
+    ("first", 0, Act::Apply, SERVED),
+    ("first", 0, Act::Post, Comes::Posted),
+    ("second", 0, Act::Hear(1, 5, &GRQ_OF_XX), Comes::Received),
+    ("second", 0, Act::Apply, SERVED),
+    ("second", 0, Act::Post, Comes::Dropped),
+    ("first", 0, Act::Take, CONFIRM),
+    ("repeat", 0, Act::Hear(2, 5, &GRQ_OF_XX), Comes::Received),
+    ("repeat", 0, Act::Apply, Comes::Applied(Note::Kept, None)),
+    ("repeat", 0, Act::Post, Comes::Posted),
+    ("repeat", 0, Act::Take, REJECT),
+    ("turn", 0, Act::Turn(3), Comes::Received),
+    ("turn", 0, Act::Apply, Comes::Applied(Note::Idle, None)),
+    ("turn", 0, Act::Post, Comes::Nothing),
+];
 
-/// The same in a world of its own.
-fn serve_in_order(alloc: Global, first: usize) -> Looked {
-    let mut world = world(alloc, 2, 4)?;
-    let served = serve_both(alloc, &mut world, first);
-    drop(world);
-    served
+/// Does so by one worker.
+fn fill_ring(alloc: Global, world: &mut World<FixedPool>) -> Result<(), Fail> {
+    try_acts(alloc, world, &RING_OF_ONE)?;
+    find_run(world, &[(0, 0), (0, 1), (0, 2), (0, 3)], 0)
 }
 
 #[test]
-fn two_workers_are_served_in_either_order(rt: HostRuntime) -> Looked {
-    let alloc = rt.alloc();
-    serve_in_order(alloc, 0)?;
-    serve_in_order(alloc, 1)
-}
-
-/// What the worker does with the outcome that it holds: whether it is dropped, and whether there is
-/// nothing to send.
-fn hand_on(world: &mut World<FixedPool>, w: usize) -> (bool, bool) {
-    let posted = world.act(WorldStep::Post(w));
-    (
-        matches!(&posted, Ok(Acted::Dropped)),
-        matches!(&posted, Ok(Acted::Nothing)),
-    )
-}
-
-/// A reply is posted, and the next one is dropped while that waits in the ring.
-fn drop_second(alloc: Global, world: &mut World<FixedPool>) -> Looked {
-    serve(world, 0, event(alloc, &GRQ, 0)?)?;
-    post(world, 0)?;
-    serve(world, 0, event(alloc, &GRQ_OF_XX, 1)?)?;
-    let (is_dropped, _) = hand_on(world, 0);
-    expect(is_dropped, "a reply is dropped if its ring is full")?;
-    take(world, 0, &GCF)
-}
-
-/// Whether the zone sends a kept reply for the event that the worker holds.
-fn sends_kept(world: &mut World<FixedPool>, w: usize) -> bool {
-    match apply(world, w) {
-        Ok(Acted::Applied(outcome)) => outcome.note == Note::Kept,
-        _ => false,
-    }
-}
-
-/// The worker receives a repeat, and its kept reply is sent again.
-fn repeat(world: &mut World<FixedPool>, w: usize, event: Event) -> Looked {
-    receive(world, w, event)?;
-    expect(sends_kept(world, w), "a repeat gets its kept reply")
-}
-
-/// The reply that was dropped is kept, and finds its place when its request comes again and the
-/// ring is empty. The book is then a run of three steps.
-fn post_again(alloc: Global, world: &mut World<FixedPool>) -> Looked {
-    repeat(world, 0, event(alloc, &GRQ_OF_XX, 2)?)?;
-    post(world, 0)?;
-    take(world, 0, &GRJ)?;
-    expect(world.book().entries.len() == 3, "three steps were made")?;
-    find_run(world)
-}
-
-/// A turn has no output.
-fn turn_silently(world: &mut World<FixedPool>) -> Looked {
-    serve(world, 0, turn(3)?)?;
-    let (_, is_nothing) = hand_on(world, 0);
-    expect(is_nothing, "nothing is sent of an idle turn")
-}
-
-/// Whether the entries are of this seat, with the calls 0, 1, 2 and so on.
-fn are_counted(entries: &[Entry], seat: usize) -> bool {
-    for (i, entry) in entries.iter().enumerate() {
-        if entry.seat != seat || entry.call != i {
-            return false;
-        }
-    }
-    true
-}
-
-/// All of this by one worker, whose ring has one place.
-fn go_through(alloc: Global, world: &mut World<FixedPool>) -> Looked {
-    drop_second(alloc, world)?;
-    post_again(alloc, world)?;
-    turn_silently(world)
-}
-
-#[test]
-fn a_ring_of_one_drops_the_second_reply(rt: HostRuntime) -> Looked {
-    let alloc = rt.alloc();
-    let mut world = world(alloc, 1, 1)?;
-    let gone = go_through(alloc, &mut world);
+fn a_ring_of_one_drops_the_second_reply(rt: HostRuntime) -> Result<(), Fail> {
+    let mut world = world(rt.alloc(), 1, 1)?;
+    let filled = fill_ring(rt.alloc(), &mut world);
     let (zone, book) = world.close();
     let steps = zone.steps();
-    let is_counted = book.entries.len() == 4 && are_counted(&book.entries, 0);
+    let entries = book.entries.len();
     drop(zone);
     drop(book);
-    gone?;
-    expect_all(&[
+    filled?;
+    all_hold(&[
         (steps == 4, "a closed world leaves its zone, of four steps"),
-        (is_counted, "it leaves a book of the four steps of one seat"),
+        (entries == 4, "it leaves a book of four steps"),
     ])
 }

@@ -1,147 +1,90 @@
-//! Calls of a zone, from admission to disengaging.
+//! Calls of a zone, from admission to disengaging: the bandwidth in use behind each step.
 
-use crate::fixtures::{CALL, CALL_LIMIT, POOL, REST, all_hold_of, event_from, source, zone};
-use admission::Call;
-use facts::{all_hold, ensure};
-use pools::{FixedPool, Lend, Pool};
-use ras_core::Zone;
-use ras_module::CallKey;
-use std::alloc::Global;
+use crate::fixtures::{CALL, CALL_LIMIT, REST};
+use crate::messages::{DRQ_AGAIN, DRQ_OF_0002};
+use crate::zone::runs::Kind::{Kept, Served};
+use crate::zone::runs::{LENT, Line, Run, behind_a_call, try_runs};
+use crate::zone::standing::{AS_THEY_CAME, FIRST, Holder, Leg, ONE, SECOND, TWO};
+use pools::Lend;
 use std::test::Fail;
-use vectors::replies::{ACF_900, ACF_1280, ARJ, BCF, DCF, URJ};
-use vectors::requests::{ARQ, ARQ_ANSWER, ARQ_OF_A_SECOND_CALL, BRQ, DRQ, RRQ_101, RRQ_102, URQ};
+use vectors::requests::{
+    ARQ, ARQ_ANSWER, ARQ_OF_A_SECOND_CALL as SECOND_ARQ, BRQ, DRQ, RRQ_101, RRQ_102, URQ,
+};
+use zone_config::Key;
 
-/// A request of 10.0.0.LAST, by its name, with its reply, the pool's answer, if that is asked, and
-/// the units that are in use afterwards.
-type Row<'a> = (&'a str, u8, &'a [u8], &'a [u8], Option<Lend>, u64);
+/// What the pool answers if it has too little left for a second call.
+const REFUSED: Option<(u64, Lend)> = Some((CALL, Lend::Refused));
 
-/// Sends these requests, which have to be served so.
-fn send_all(alloc: Global, zone: &mut Zone<FixedPool>, rows: &[Row<'_>]) -> Result<(), Fail> {
-    for (name, last, request, reply, answer, in_use) in rows {
-        let from = source(*last);
-        let outcome = zone.step(event_from(alloc, from, request, 2_000)?)?;
-        let is_sent = match &outcome.output {
-            Some(sent) => sent.to == from && sent.bytes.as_slice() == *reply,
-            None => false,
-        };
-        let is_answered = outcome.answer == *answer;
-        drop(outcome);
-        all_hold_of(
-            name,
-            &[
-                (is_sent, "its reply is sent to it"),
-                (is_answered, "the pool answers so, if it is asked"),
-                (
-                    zone.in_use() == *in_use,
-                    "as many units are in use as it says",
-                ),
-            ],
-        )?;
-    }
-    Ok(())
-}
+/// What is left until the first call has all that a call may have.
+const RAISED: Option<(u64, Lend)> = Some((REST, Lend::Lent(REST)));
 
-/// Registers 0001 and 0002.
-fn register_two(alloc: Global, zone: &mut Zone<FixedPool>) -> Result<(), Fail> {
-    zone.step(event_from(alloc, source(5), &RRQ_101, 1_000)?)?;
-    zone.step(event_from(alloc, source(6), &RRQ_102, 1_000)?)?;
-    ensure(
-        zone.endpoints()?.as_slice().len() == 2,
-        "0001 and 0002 are registered",
-    )
-}
-
-/// Opens a call with its units, which is told again, is joined, grows to the most that a call may
+/// A call opens with its units, which is told again, is joined, grows to the most that a call may
 /// have, keeps its first endpoint in the zone, and goes on when it leaves.
-fn live_a_call(alloc: Global, zone: &mut Zone<FixedPool>) -> Result<(), Fail> {
-    let lent = Some(Lend::Lent(CALL));
-    let more = Some(Lend::Lent(REST));
-    let rows: [Row<'_>; 6] = [
-        ("call", 5, &ARQ, &ACF_1280, lent, CALL),
-        ("repeat", 5, &ARQ, &ACF_1280, None, CALL),
-        ("second leg", 6, &ARQ_ANSWER, &ACF_900, None, CALL),
-        ("more bandwidth", 5, &BRQ, &BCF, more, CALL_LIMIT),
-        ("end of the registration", 5, &URQ, &URJ, None, CALL_LIMIT),
-        ("end of the first leg", 5, &DRQ, &DCF, None, CALL_LIMIT),
-    ];
-    register_two(alloc, zone)?;
-    send_all(alloc, zone, &rows)?;
-    let calls = zone.calls()?;
-    compare_one_left(calls.as_slice())
-}
+const GROWS: [Line<'static>; 8] = [
+    ("0001", 1_000, 5, &RRQ_101, Served, None, 0, 1),
+    ("0002", 1_000, 6, &RRQ_102, Served, None, 0, 2),
+    ("call", 2_000, 5, &ARQ, Served, LENT, CALL, 2),
+    ("repeat", 2_000, 5, &ARQ, Kept, None, CALL, 2),
+    ("second leg", 2_000, 6, &ARQ_ANSWER, Served, None, CALL, 2),
+    ("more", 2_000, 5, &BRQ, Served, RAISED, CALL_LIMIT, 2),
+    ("stays", 2_000, 5, &URQ, Served, None, CALL_LIMIT, 2),
+    ("leg ends", 2_000, 5, &DRQ, Served, None, CALL_LIMIT, 2),
+];
 
-/// Compares calls with one of all the units that a call may have, of the first pool, with the leg
-/// of 0002 alone.
-fn compare_one_left(calls: &[(CallKey, Call)]) -> Result<(), Fail> {
-    let [(key, call)] = calls else {
-        return Err(Fail::from("one call is open"));
-    };
-    let [leg] = call.legs.as_slice() else {
-        return Err(Fail::from("the call has one leg"));
-    };
-    let digits = [48, 48, 48, 50];
-    all_hold(&[
-        (key.octets == [0x11; 16], "it is the first call"),
-        (call.pool == 0, "it has its units of the first pool"),
-        (
-            u64::from(call.units) == CALL_LIMIT,
-            "it has the most units that a call may have",
-        ),
-        (
-            leg.endpoint.as_slice() == digits.as_slice(),
-            "the leg is that of 0002",
-        ),
-        (
-            leg.told.ip == [10, 0, 0, 6],
-            "0002 was told its own address",
-        ),
-    ])
-}
+/// A second call is refused, for which the pool has too little left.
+const REFUSES: [Line<'static>; 1] = [("refused", 0, 5, &SECOND_ARQ, Served, REFUSED, CALL, 2)];
 
-#[test]
-fn a_call_opens_grows_and_ends(rt: HostRuntime) -> Result<(), Fail> {
-    let mut zone = zone(rt.alloc())?;
-    let ended = live_a_call(rt.alloc(), &mut zone);
-    drop(zone);
-    ended
-}
+/// A request comes again, while its reply is kept and afterwards: it uses nothing more.
+const COMES_AGAIN: [Line<'static>; 2] = [
+    ("repeat", 9_999, 5, &ARQ, Kept, None, CALL, 2),
+    ("again", 10_000, 5, &ARQ, Served, None, CALL, 2),
+];
 
-/// Asks for a second call, for which the pool has too little left, and which is refused.
-fn ask_for_too_much(alloc: Global, zone: &mut Zone<FixedPool>) -> Result<(), Fail> {
-    let lent = Some(Lend::Lent(CALL));
-    let refused = Some(Lend::Refused);
-    let rows: [Row<'_>; 2] = [
-        ("first call", 5, &ARQ, &ACF_1280, lent, CALL),
-        ("second call", 5, &ARQ_OF_A_SECOND_CALL, &ARJ, refused, CALL),
-    ];
-    register_two(alloc, zone)?;
-    send_all(alloc, zone, &rows)?;
-    ensure(zone.calls()?.as_slice().len() == 1, "one call is open")
-}
+/// Both legs of a call end, which keeps its bandwidth while it has one.
+const ENDS: [Line<'static>; 4] = [
+    ("second leg", 0, 6, &ARQ_ANSWER, Served, None, CALL, 2),
+    ("one leg ends", 0, 5, &DRQ, Served, None, CALL, 2),
+    ("both end", 0, 6, &DRQ_OF_0002, Served, None, 0, 2),
+    ("none ends", 0, 5, &DRQ_AGAIN, Served, None, 0, 2),
+];
 
-/// Compares the pools of a zone that is closed with its pool, which refused a call, with nothing
-/// lent.
-fn compare_refusing_pool(pools: &[FixedPool]) -> Result<(), Fail> {
-    let [pool] = pools else {
-        return Err(Fail::from("one pool comes back"));
-    };
-    all_hold(&[
-        (pool.limit() == POOL, "the pool has its units"),
-        (pool.lent() == 0, "nothing is lent"),
-        (pool.refusals() == 1, "it refused once"),
-        (pool.waits() == 0, "nobody had to wait"),
-        (
-            pool.last() == Some((CALL, Lend::Refused)),
-            "it refused the second call at last",
-        ),
-    ])
-}
+/// A second call is lent what the zone has left. The first one then gets no more: its pool isn't
+/// asked.
+const USES_UP: [Line<'static>; 2] = [
+    ("rest", 0, 5, &SECOND_ARQ, Served, RAISED, CALL_LIMIT, 2),
+    ("more", 0, 5, &BRQ, Served, None, CALL_LIMIT, 2),
+];
+
+/// The endpoints as they were heard at last, and as they came.
+const HEARD: [Holder; 2] = [
+    (FIRST, 5, ONE, 61_000, 2_000),
+    (SECOND, 6, TWO, 61_000, 2_000),
+];
+
+const AGAIN: [Holder; 2] = [(FIRST, 5, ONE, 60_000, 10_000), (SECOND, 6, TWO, 60_000, 0)];
+
+/// The legs that are left.
+const LEFT: [Leg; 1] = [(0x11, CALL_LIMIT, SECOND, 6)];
+
+const ONE_CALL: [Leg; 1] = [(0x11, CALL, FIRST, 6)];
+
+const TWO_CALLS: [Leg; 2] = [(0x11, CALL, FIRST, 6), (0x22, REST, FIRST, 6)];
+
+/// A zone that has no more than one call may have.
+const TIGHT: [(Key, u64); 1] = [(Key::Limit, CALL_LIMIT)];
 
 #[test]
-fn a_refused_call_leaves_the_pool_as_it_was(rt: HostRuntime) -> Result<(), Fail> {
-    let mut zone = zone(rt.alloc())?;
-    let ended = ask_for_too_much(rt.alloc(), &mut zone);
-    let pools = zone.close();
-    ended?;
-    compare_refusing_pool(&pools)
+fn calls_use_what_they_are_lent_until_their_last_leg_goes(rt: HostRuntime) -> Result<(), Fail> {
+    let grows = behind_a_call("a call grows", &[], &GROWS, &HEARD, &LEFT);
+    let runs = [
+        Run {
+            opening: &[],
+            ..grows
+        },
+        behind_a_call("a call is refused", &[], &REFUSES, &AS_THEY_CAME, &ONE_CALL),
+        behind_a_call("a request again", &[], &COMES_AGAIN, &AGAIN, &ONE_CALL),
+        behind_a_call("a call ends", &[], &ENDS, &AS_THEY_CAME, &[]),
+        behind_a_call("a full zone", &TIGHT, &USES_UP, &AS_THEY_CAME, &TWO_CALLS),
+    ];
+    try_runs(rt.alloc(), &runs)
 }

@@ -3,7 +3,7 @@
 use crate::fixtures::{DAY, POOL, parts};
 use facts::{all_hold, ensure};
 use pools::{FixedPool, PoolSet};
-use ras_core::{Config, ConfigFault, ConfigParts, Moment, Network, Networks, NewFault, Zone};
+use ras_core::{Config, ConfigFault, ConfigParts, Network, Networks, NewFault, Zone};
 use std::alloc::Global;
 use std::test::Fail;
 
@@ -16,25 +16,29 @@ fn is_judged(parts: ConfigParts, key: &str) -> bool {
     }
 }
 
-/// The most units that a zone may have, and the most calls.
+/// The most units that a zone may have, the most calls, and the greatest least grant.
 const LIMIT_MOST: u64 = 1_000_000_000_000;
 
 const CALLS_MOST: u64 = 20_000;
 
+const GRANT: u64 = 4_294_967_295;
+
+/// A limit, how many calls, how often an endpoint is asked, the pools' turn, a least grant, and the
+/// first key of them that is out of its range, if one is.
+const CASES: [(u64, u64, u64, u64, u64, &str); 8] = [
+    (1, 1, 1, 1, 0, ""),
+    (LIMIT_MOST, CALLS_MOST, 16, DAY, GRANT, ""),
+    (LIMIT_MOST + 1, CALLS_MOST + 1, 17, DAY + 1, 0, "zone.limit"),
+    (0, 1, 1, 1, 0, "zone.limit"),
+    (1, CALLS_MOST + 1, 17, DAY + 1, 0, "zone.calls"),
+    (1, 1, 17, 0, 0, "zone.asks"),
+    (1, 1, 1, 0, GRANT + 1, "zone.pool_turn"),
+    (1, 1, 1, 1, GRANT + 1, "zone.least_grant"),
+];
+
 #[test]
 fn a_key_out_of_its_range_is_named(rt: HostRuntime) -> Result<(), Fail> {
-    let grant = u64::from(u32::MAX);
-    let cases = [
-        (1, 1, 1, 1, 0, ""),
-        (LIMIT_MOST, CALLS_MOST, 16, DAY, grant, ""),
-        (LIMIT_MOST + 1, CALLS_MOST + 1, 17, DAY + 1, 0, "zone.limit"),
-        (0, 1, 1, 1, 0, "zone.limit"),
-        (1, CALLS_MOST + 1, 17, DAY + 1, 0, "zone.calls"),
-        (1, 1, 17, 0, 0, "zone.asks"),
-        (1, 1, 1, 0, grant + 1, "zone.pool_turn"),
-        (1, 1, 1, 1, grant + 1, "zone.least_grant"),
-    ];
-    for (limit, calls, asks, pool_turn, least_grant, key) in cases {
+    for (limit, calls, asks, pool_turn, least_grant, key) in CASES {
         let mut parts = parts(rt.alloc())?;
         parts.limit = limit;
         parts.calls = calls;
@@ -46,16 +50,6 @@ fn a_key_out_of_its_range_is_named(rt: HostRuntime) -> Result<(), Fail> {
             "{limit} {calls} {asks} {pool_turn} {least_grant}"
         );
     }
-    assert!(rt; ConfigFault::OutOfRange("zone.limit").number() == 1);
-    Ok(())
-}
-
-#[test]
-fn moments_end_below_2_to_the_53(rt: HostRuntime) -> Result<(), Fail> {
-    let end = 9_007_199_254_740_992;
-    let last = Moment::new(end - 1).ok_or("the last moment")?;
-    assert!(rt; last.milliseconds() == end - 1);
-    assert!(rt; Moment::new(end).is_none());
     Ok(())
 }
 
@@ -101,14 +95,21 @@ fn a_zone_has_a_pool_for_each_network(rt: HostRuntime) -> Result<(), Fail> {
     };
     make(alloc, &[None])?;
     make(alloc, &[Some(office), None])?;
-    assert!(rt; office.holds([10, 1, 255, 1]));
-    assert!(rt; !office.holds([10, 2, 0, 1]));
     let mut parts = parts(alloc)?;
-    let mut networks = Vec::new(alloc);
-    networks.push(Some(office))?;
-    parts.networks = Networks::from_vec(networks);
+    parts.networks = Networks::from_vec([Some(office)].to_vec(alloc)?);
     let refused = Config::new(parts);
-    assert!(rt; matches!(refused, Err(ConfigFault::NoDefaultPool)));
-    assert!(rt; ConfigFault::NoDefaultPool.number() == 2);
-    Ok(())
+    all_hold(&[
+        (
+            office.holds([10, 1, 255, 1]),
+            "the network holds its last address",
+        ),
+        (
+            !office.holds([10, 2, 0, 1]),
+            "it holds none of the next one",
+        ),
+        (
+            matches!(refused, Err(ConfigFault::NoDefaultPool)),
+            "settings with no pool for all other addresses are refused",
+        ),
+    ])
 }

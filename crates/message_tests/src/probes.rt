@@ -1,4 +1,4 @@
-//! Probes.
+//! What a probe asks, and what is told of its answers.
 
 use probing::{DiscoveryReply, RejectReason, discovery_request, push_told, read_reply};
 use ras_module::Address;

@@ -1,4 +1,0 @@
-//! Tests of what is told of datagrams and of probes.
-
-mod lines;
-mod probes;
