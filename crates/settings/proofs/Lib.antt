@@ -2,3 +2,4 @@ pub mod Numbers
 pub mod InRange
 pub mod PoolLists
 pub mod Listed
+pub mod Places

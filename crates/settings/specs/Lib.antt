@@ -9,3 +9,4 @@ pub mod Pools
 pub mod Settings
 pub mod Unknown
 pub mod Listing
+pub mod Places

@@ -1,7 +1,10 @@
 //! Why a text gives no settings.
 
 ghost use Rattle.std.specs.Prelude.{◌≡◌};
+ghost use Rattle.std.specs.Fmt.{is_char_start};
+ghost use Rattle.toml.specs.Errors.{IsMemory};
 ghost use Rattle.settings.specs.Faults.{fault_number, Tells};
+ghost use Rattle.settings.specs.Places.{IsPlaced, column_behind, line_behind};
 
 use crate::setting_key::SettingKey;
 use std::alloc::{AllocError, AllocFailed};
@@ -61,12 +64,14 @@ pub struct SyntaxError {
 
 impl SyntaxError {
     /// Where the text is refused, and why.
-    pub(crate) fn new(text: &str, error: toml::de::Error) -> SyntaxError {
+    pub(crate) fn new(text: &str, error: toml::de::Error) -> SyntaxError
+        ensures { ¬ IsMemory error → IsPlaced text.now result }
+    {
         let start = match error.span() {
             Some(span) => span.start,
             None => 0,
         };
-        let before = text.as_bytes().get(..start).unwrap_or(&[]);
+        let before = &text.as_bytes()[..start.min(text.len())];
         let (line, column) = place_behind(before);
         SyntaxError {
             line,
@@ -90,18 +95,28 @@ impl fmt::Display for SyntaxError {
 }
 
 /// The line and the character in it, both from 1, that come behind these octets.
-fn place_behind(before: &[u8]) -> (usize, usize) {
+fn place_behind(before: &[u8]) -> (usize, usize)
+    ensures line { result.0 ≡ line_behind before.now }
+    ensures column { result.1 ≡ column_behind before.now }
+{
     let mut line = 1usize;
     let mut column = 1usize;
     for octet in before {
         if *octet == b'\n' {
-            line = line.saturating_add(1);
+            line += 1;
             column = 1;
-        } else if *octet & 0xC0 != 0x80 {
-            column = column.saturating_add(1);
+        } else if begins_character(*octet) {
+            column += 1;
         }
     }
     (line, column)
+}
+
+/// Whether an octet is the first one of a character, in UTF-8.
+fn begins_character(octet: u8) -> bool
+    ensures { result ≡ is_char_start octet }
+{
+    !(0x80..0xC0).contains(&octet)
 }
 
 /// Why a document gives no settings.

@@ -5,6 +5,7 @@ ghost use Rattle.std.specs.List.{list_any};
 ghost use Rattle.toml.specs.View.{table_view};
 ghost use Rattle.zone_config.specs.Networks.{is_too_long};
 ghost use Rattle.zone_config.specs.Ranges.{IsConfig};
+ghost use Rattle.settings.specs.Places.{TellsPlace};
 ghost use Rattle.settings.specs.Ranges.{HasNumbersInRange};
 ghost use Rattle.settings.specs.ServeTables.{AreInRange};
 ghost use Rattle.settings.specs.Settings.{AreSettings, config_with, IsAnswer, settings_in};
@@ -140,9 +141,12 @@ fn settings_in(alloc: Global, document: &Table) -> Result<Settings, Refusal>
 ///
 /// promise settings-files-are-read-exactly: A file is accepted if and only if it is TOML whose keys
 /// pass; else the first fault is told. Want of memory is left aside (`settings_of`).
+/// promise syntax-faults-tell-their-place: If a text is no TOML document, the fault tells the line
+/// and the character at which it is refused (`TellsPlace`).
 pub fn read_settings(alloc: Global, text: &str) -> Result<Settings, SettingsFault>
     ensures answer { IsAnswer (settings_of text.now) result }
     ensures ranges { IfOk result AreSettings }
+    ensures place { IfErr result (TellsPlace text.now) }
 {
     match toml::table_from_str(alloc, text) {
         Ok(document) => match settings_in(alloc, &document) {

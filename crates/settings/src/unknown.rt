@@ -6,6 +6,7 @@ ghost use Rattle.std.specs.List.{list_any};
 ghost use Rattle.std.specs.Str.{bytes_eq};
 ghost use Rattle.toml.specs.Data.{get_member};
 ghost use Rattle.toml.specs.View.{items_view, table_view, view};
+ghost use Rattle.settings.specs.Places.{TellsPlace};
 ghost use Rattle.settings.specs.SettingKeys.{path_of};
 ghost use Rattle.settings.specs.Unknown.{is_known, paths_of, unknown_at, unknown_in, unknown_key};
 ghost use Rattle.settings.specs.Unknown.{unknown_in_pools, unknown_of_pools, unknown_paths};
@@ -204,6 +205,7 @@ pub fn unknown_keys(alloc: Global, text: &str) -> Result<Vec<UnknownKey>, Settin
     ensures ok { IfOk result (λ unknown.
         Some (paths_of unknown.items) ≡ unknown_of text.now) }
     ensures err { IfErr result (IsUnread text.now) }
+    ensures place { IfErr result (TellsPlace text.now) }
 {
     match toml::table_from_str(alloc, text) {
         Ok(document) => match unknown_in(alloc, &document) {
