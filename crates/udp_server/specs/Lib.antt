@@ -11,4 +11,5 @@ pub mod Sending
 pub mod Served
 pub mod Ticks
 pub mod WholeTicks
+pub mod WorkerNumbers
 pub mod Working

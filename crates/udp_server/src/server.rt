@@ -6,6 +6,7 @@ ghost use Rattle.udp_server.specs.OrderNumbers.{order_numbers};
 ghost use Rattle.udp_server.specs.Orders.{AreOfOrders, numbers_back, numbers_ordered};
 ghost use Rattle.udp_server.specs.Plans.{IsPlan, beginning_of};
 ghost use Rattle.udp_server.specs.Served.{IsServed};
+ghost use Rattle.udp_server.specs.WorkerNumbers.{numbers_below};
 
 use crate::board::Board;
 use crate::datagrams::Datagrams;
@@ -244,6 +245,8 @@ fn gather<P: Pool, D: Hall, T: Ledger, U: Ledger, V: Ledger, N: Datagrams, C: Mo
     ensures receivers { IfOk result (λ made. made.0.receivers ≡ receivers) }
     ensures seats { IfOk result (λ made. map (λ worker. worker.seat) made.0.workers.items
         ++ made.0.expiry.seat ∷ [] ≡ seats.items) }
+    ensures numbers { IfOk result (λ made. map (λ worker. worker.number) made.0.workers.items
+        ++ made.0.expiry.number ∷ [] ≡ numbers_below (vec_len seats)) }
 {
     let (outlets, inlets) = rings(alloc, seats.len(), plan.ring)?;
     let mut workers = workers_of(alloc, seats, clocks, outlets)?;
@@ -258,15 +261,17 @@ fn gather<P: Pool, D: Hall, T: Ledger, U: Ledger, V: Ledger, N: Datagrams, C: Mo
     Ok((crew, inlets))
 }
 
-/// A worker for each seat, with its clock and its ring.
+/// A worker for each seat, with its clock and its ring. They are numbered from 0 on, in order.
 fn workers_of<D: Hall, T: Ledger, U: Ledger, V: Ledger, C: Moments>(
     alloc: Global,
     seats: Vec<Seat<D, T, U, V>>,
     clocks: Vec<C>,
     outlets: Vec<Outlet>,
 ) -> Result<Vec<Worker<D, T, U, V, C>>, AllocError>
-    ensures { IfOk result (λ workers. map (λ worker. worker.seat) workers.items
+    ensures seats { IfOk result (λ workers. map (λ worker. worker.seat) workers.items
         ≡ seats.items) }
+    ensures numbers { IfOk result (λ workers. map (λ worker. worker.number) workers.items
+        ≡ numbers_below (vec_len seats)) }
 {
     let mut workers = Vec::with_capacity(alloc, seats.len())?;
     let (mut clocks, mut outlets) = (clocks.into_iter(), outlets.into_iter());

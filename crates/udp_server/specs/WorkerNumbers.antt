@@ -1,0 +1,7 @@
+-- How the workers of a server are numbered.
+use Rattle.std.specs.Prelude.{◌++◌, ◌∷◌, ℕ, zero, suc, List, []}
+
+-- the numbers below n, in order
+abbrev pub numbers_below : ℕ → List ℕ
+numbers_below zero = []
+numbers_below (suc n) = numbers_below n ++ n ∷ []
