@@ -52,13 +52,22 @@ pub record IsNextSent (sends : Sends) (taken taken_then : List Datagram)
   pub next : taken_then ≡ taken ++ reply ∷ []
   pub counted : IsSendCounted sends reply failures failures_then counts counts_then
 
+-- the next reply was taken out of a ring
+abbrev pub IsTaken : Inlet → Inlet → Type 0
+IsTaken old new = (reply : Datagram) × (datagrams_taken new ≡ datagrams_taken old ++ reply ∷ [])
+
 -- A ring was looked at once: no reply was seen in it, and none was taken; or the next one was taken.
 abbrev pub IsLookedAt : Inlet → Inlet → Type 0
 IsLookedAt old new =
-    ((datagrams_seen new ≡ []) × (datagrams_taken new ≡ datagrams_taken old))
-    ⊎ ((reply : Datagram) × (datagrams_taken new ≡ datagrams_taken old ++ reply ∷ []))
+    ((datagrams_seen new ≡ []) × (datagrams_taken new ≡ datagrams_taken old)) ⊎ IsTaken old new
 
 -- each of these rings was looked at once
 abbrev pub AreLookedAt : List Inlet → List Inlet → Type 0
 AreLookedAt old new =
     (k : ℕ) (none : Inlet) → k < length old → IsLookedAt (get_or old k none) (get_or new k none)
+
+-- the next reply was taken out of at least one of these rings
+abbrev pub IsAnyTaken : List Inlet → List Inlet → Type 0
+IsAnyTaken old new =
+    (k : ℕ) × (k < length old)
+    × ((none : Inlet) → IsTaken (get_or old k none) (get_or new k none))

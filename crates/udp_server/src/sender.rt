@@ -2,8 +2,8 @@
 
 ghost use Rattle.std.specs.Prelude.{◌≡◌, ◌≤◌, ◌+◌, [], All, IsFalse, IsTrue, length};
 ghost use Rattle.reply_queues.specs.Rings.{datagrams_seen, datagrams_taken};
-ghost use Rattle.udp_server.specs.Sending.{AreLookedAt, IsLookedAt, IsNextSent, IsSendCounted};
-ghost use Rattle.udp_server.specs.Sending.{all_counted};
+ghost use Rattle.udp_server.specs.Sending.{AreLookedAt, IsAnyTaken, IsLookedAt, IsNextSent};
+ghost use Rattle.udp_server.specs.Sending.{IsSendCounted, all_counted};
 
 use crate::board::Board;
 use crate::datagrams::{Datagrams, DeviceFault};
@@ -70,6 +70,7 @@ impl<N: Datagrams> Sender<N> {
     fn has_sent(&mut self, inlets: &mut [Inlet]) -> bool
         ensures looked { IsFalse result → All (λ inlet. datagrams_seen inlet ≡ []) inlets.new }
         ensures same { IsFalse result → self.new.sent ≡ self.old.sent }
+        ensures taken { IsTrue result → IsAnyTaken inlets.old inlets.new }
         ensures each { AreLookedAt inlets.old inlets.new }
         ensures once { all_counted self.new.sent
             ≤ all_counted self.old.sent + length inlets.old }
