@@ -4,7 +4,7 @@ use Rattle.std.specs.Io.KnownBytes.{Appends}
 use Rattle.explaining.specs.Lines.{explained}
 use Rattle.script.specs.Streams.{InputState, OutputState}
 use Rattle.commands.specs.Audits.{TellsAudit, record_status}
-use Rattle.commands.specs.Checks.{AreChecked, IsWritten}
+use Rattle.commands.specs.Checks.{AreChecked, IsWritten, WritesSettings}
 use Rattle.commands.specs.Inputs.{input_status}
 use Rattle.commands.specs.Replays.{Replays, status_of}
 use Rattle.commands.specs.declared.auditing_input.RecordFault.{RecordFault}
@@ -23,11 +23,12 @@ pub record IsReplayed (left left_now : InputState) (old new : OutputState) (stat
   pub replayed : Replays left left_now old new answer
   pub ended : status ≡ ended_status status_of answer
 
--- Settings were checked, and the exit status tells what that came to.
+-- Settings were checked and written, once, and the exit status tells what that came to.
 pub record AreSettingsChecked (left : Option (List ℕ)) (old new : OutputState) (status : ℕ)
     : Type 0 where
   pub answer : Result Unit InputFault
   pub checked : IfSome left (λ octets. AreChecked octets answer)
+  pub listed : OnOk answer (WritesSettings left old.contents new.contents)
   pub written : IsWritten old new answer
   pub ended : status ≡ ended_status input_status answer
 

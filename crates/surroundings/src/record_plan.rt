@@ -1,6 +1,6 @@
 //! What is to be recorded of a zone.
 
-ghost use Rattle.std.specs.Prelude.{◌≡◌, ◌↔◌, IfErr, IfOk, IfSome, IsSome, Ok, OnErr};
+ghost use Rattle.std.specs.Prelude.{◌≡◌, ◌↔◌, IfErr, IfOk, IfSome, IsSome, Ok, OnErr, Some};
 ghost use Rattle.recording.specs.Zones.{recorded_zone};
 ghost use Rattle.surroundings.specs.Faults.{IsPlanFault};
 
@@ -29,6 +29,8 @@ pub fn planned_record<'a, R: Log>(
 ) -> Result<Option<PlannedRecord<'a>>, RunningFault>
     ensures zone { IfOk result (λ planned. IfSome planned
         (λ it. recorded_zone config.now specs ≡ Ok it.zone)) }
+    ensures recording { IfOk result (λ planned. IfSome planned
+        (λ it. recording.entry ≡ Some it.recording)) }
     ensures planned { IfOk result (λ planned. IsSome planned ↔ IsSome recording.entry) }
     ensures asked { OnErr result (IsSome recording.entry) }
     ensures fault { IfErr result (IsPlanFault (recorded_zone config.now specs)) }
