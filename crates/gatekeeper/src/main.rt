@@ -1,7 +1,8 @@
 //! The gatekeeper's program.
 //!
-//! proved: nothing is written of refused settings (`serve`); a report is its counts
-//! (`print_report`); the exit status once it has served (`served_status`)
+//! proved: nothing is written of refused settings; what is printed is one report, of a run of the
+//! set zone (`serve`); a report is its counts (`print_report`); the exit status once it has served
+//! (`served_status`)
 //! tested: the built program
 #![tactic(auto)]
 

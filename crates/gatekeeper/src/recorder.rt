@@ -1,6 +1,6 @@
 //! The record that is written while a zone is served.
 
-ghost use Rattle.std.specs.Prelude.{◌≡◌, [], IfErr};
+ghost use Rattle.std.specs.Prelude.{◌≡◌, [], IfErr, IfOk};
 ghost use Rattle.gatekeeper.specs.Recorders.{ArePut, IsFlushed, IsPutDown};
 ghost use Rattle.surroundings.specs.Faults.{IsBeginFault};
 
@@ -40,6 +40,7 @@ pub fn recorder_of<'a, R: Files<File = File> + Clock + Log>(
     alloc: Global,
     planned: &PlannedRecord<'a>,
 ) -> Result<Recorder<'a, R, RecordFile>, RunningFault>
+    ensures bound { IfOk result (λ recorder. recorder.record.most ≡ planned.now.recording.most) }
     ensures fault { IfErr result IsBeginFault }
 {
     let record = begin_record(rt, alloc, planned)?;

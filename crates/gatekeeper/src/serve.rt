@@ -1,6 +1,7 @@
 //! Serving a zone over UDP.
 
-ghost use Rattle.std.specs.Prelude.{◌≡◌, ◌≤◌, IfErr, IfOk, IfSome, IsSome, is_some};
+ghost use Rattle.std.specs.Prelude.{◌≡◌, ◌≤◌, IfErr, IfOk, IfSome, IsSome, OnOk, is_some};
+ghost use Rattle.gatekeeper.specs.Reports.{IsRunPrinted, IsServicePrinted};
 ghost use Rattle.gatekeeper.specs.Serves.{AreServed, IsAttendedFault, IsPagedFault};
 ghost use Rattle.gatekeeper.specs.Serves.{IsPrintFault, IsReportWritten, IsServeFault};
 ghost use Rattle.gatekeeper.specs.Serves.{IsServiceWritten};
@@ -18,7 +19,7 @@ use crate::service::{Service, Task};
 use commands::{ReadInput, Serving, pools_of, read_input};
 use log::Log;
 use pools::Pool;
-use ras_core::Zone;
+use ras_core::{Config, Zone};
 use ras_module::Address;
 use script::Output;
 use settings::Settings;
@@ -158,8 +159,8 @@ fn serve_pools<
         ..
     } = settings;
     let planned = planned_record(rt, &config, specs, task.record)?;
-    let parts = config.parts();
-    let (name, address) = (parts.identifier, parts.address);
+    let about = about_of(&config);
+    let address = about.address;
     let socket = match bind_zone(rt, address) {
         Ok(socket) => socket,
         Err(fault) => {
@@ -167,12 +168,24 @@ fn serve_pools<
             return Err(RunningFault::Bind);
         }
     };
-    let about = About { name, address };
     let report = serve_paged(
         rt, alloc, zone, &socket, service, task.stop, status, &about, planned,
     )?;
     warn_of_faults(rt, &report);
     Ok(report)
+}
+
+/// What a page tells of the zone that is set so: its identifier, and the address at which it is
+/// served.
+fn about_of(config: &Config) -> About
+    ensures name { result.name ≡ config.now.identifier }
+    ensures address { result.address ≡ config.now.address }
+{
+    let parts = config.parts();
+    About {
+        name: parts.identifier,
+        address: parts.address,
+    }
 }
 
 /// The same, and prints the report.
@@ -198,6 +211,7 @@ fn serve_and_print<
     out: &mut Output<W>,
 ) -> Result<(), RunningFault>
     requires { AreSettings settings }
+    ensures printed { OnOk result (IsRunPrinted settings out.old.contents out.new.contents) }
     ensures written { IsReportWritten out.old out.new result }
     ensures fault { IfErr result
         (IsPrintFault (is_some settings.status) (is_some task.entry.record)) }
@@ -233,6 +247,7 @@ fn serve_settings<
     out: &mut Output<W>,
 ) -> Result<(), RunningFault>
     requires { AreSettings settings }
+    ensures printed { OnOk result (IsRunPrinted settings out.old.contents out.new.contents) }
     ensures written { IsReportWritten out.old out.new result }
     ensures fault { IfErr result
         (IsPrintFault (is_some settings.status) (is_some task.entry.record)) }
@@ -260,6 +275,9 @@ fn serve_settings<
 ///
 /// promise refused-settings-serve-nothing: Only settings that pass are served, and without a report
 /// nothing is written (`AreServed`, `IsServiceWritten`).
+/// promise report-is-of-the-served-run: What is printed is one report, of a run of the zone that
+/// the input sets: its datagrams and turns are those of the run (`IsServicePrinted`,
+/// `IsRunPrinted`).
 pub fn serve<
     I: Read + Drop,
     R: Threads
@@ -282,6 +300,8 @@ pub fn serve<
     out: &mut Output<W>,
 ) -> Result<(), ServingFault>
     ensures settings { IfSome (I.remaining input) (λ octets. AreServed octets result) }
+    ensures printed { OnOk result
+        (IsServicePrinted (I.remaining input) out.old.contents out.new.contents) }
     ensures written { IsServiceWritten out.old out.new result }
     ensures unasked { IfErr result (λ fault.
         fault ≡ ServingFault.Running RunningFault.Record → IsSome serving.entry.record) }
