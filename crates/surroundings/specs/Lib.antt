@@ -1,3 +1,4 @@
+pub mod Beginnings
 pub mod Elapsed
 pub mod Endings
 pub mod Faults

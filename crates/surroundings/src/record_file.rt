@@ -1,7 +1,10 @@
 //! The file of a record, and what stands in it before the first step.
 
-ghost use Rattle.std.specs.Prelude.{◌≡◌, Err, IfErr, IfOk, IsTrue, OnErr, length, nat_le};
+ghost use Rattle.std.specs.Prelude.{◌≡◌, Err, IfErr, IfOk, IsTrue, OnErr, OnOk, length, nat_le};
+ghost use Rattle.std.specs.Prelude.{◌==◌, string_bytes};
+ghost use Rattle.std.specs.List.{list_any};
 ghost use Rattle.recording.specs.Zones.{zone_lines};
+ghost use Rattle.surroundings.specs.Beginnings.{IsOneLine, WritesBeginning};
 ghost use Rattle.surroundings.specs.Faults.{IsBeginFault, begin_fault};
 
 use crate::notices::{tell_no_record, tell_record, warn_of_end};
@@ -11,7 +14,7 @@ use jiff::Timestamp;
 use log::Log;
 use recording::{End, RecordWriter, RecordedZone};
 use script::Output;
-use std::alloc::Global;
+use std::alloc::{AllocError, Global};
 use std::fs::File;
 use std::io::{self, BufWriter, ErrorKind, Write};
 use std::rt::{Clock, Files};
@@ -50,12 +53,37 @@ fn time_now<R: Clock>(rt: &R) -> Result<Timestamp, jiff::Error> {
     Timestamp::from_millisecond(Timestamp::now(rt)?.as_millisecond())
 }
 
-/// Writes the first line of a record, which an audit passes over: when it begins.
-fn write_time<R: Clock, W: Write>(rt: &R, out: &mut W) -> io::Result<()> {
-    match time_now(rt) {
-        Ok(now) => writeln!(out, "# recorded from {now}"),
-        Err(_) => writeln!(out, "# recorded without a clock"),
+/// Whether a text has a line end.
+fn has_line_end(text: &[u8]) -> bool
+    ensures { result ≡ list_any (λ octet. octet == 10) text.now }
+{
+    text.iter().any(|octet| *octet == b'\n')
+}
+
+/// When a record begins, in words of one line.
+fn beginning_text<R: Clock>(rt: &R, alloc: Global) -> Result<String, AllocError>
+    ensures { IfOk result (λ text. IsOneLine (string_bytes text)) }
+{
+    if let Ok(now) = time_now(rt) {
+        let text = format!(in alloc; "from {now}")?;
+        if !has_line_end(text.as_bytes()) {
+            return Ok(text);
+        }
     }
+    String::from_str(alloc, "without a clock")
+}
+
+/// Writes the first line of a record, which an audit passes over: when it begins.
+fn write_time<R: Clock, W: Write + Drop>(
+    rt: &R,
+    alloc: Global,
+    out: &mut Output<W>,
+) -> io::Result<()>
+    ensures { OnOk result (WritesBeginning out.old.contents out.new.contents) }
+{
+    let beginning = beginning_text(rt, alloc)?;
+    let beginning = beginning.as_str();
+    writeln!(out, "# recorded {beginning}")
 }
 
 /// Begins a record of a zone. What is told of the zone is flushed then.
@@ -71,7 +99,7 @@ fn begun<R: Clock, W: Write + Drop>(
         ≡ nat_le (length (zone_lines zone.now)) most) }
     ensures flushed { IfOk result (λ writer. IsTrue writer.output.flushed) }
 {
-    write_time(rt, &mut out)?;
+    write_time(rt, alloc, &mut out)?;
     let mut record = RecordWriter::begin(alloc, out, zone, most)?;
     record.flush()?;
     Ok(record)
