@@ -1,1 +1,2 @@
+pub mod FlushedRecords
 pub mod Waiting

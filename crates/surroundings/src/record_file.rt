@@ -4,7 +4,7 @@ ghost use Rattle.std.specs.Prelude.{◌≡◌, Err, IfErr, IfOk, IsTrue, OnErr, 
 ghost use Rattle.std.specs.Prelude.{◌==◌, string_bytes};
 ghost use Rattle.std.specs.List.{list_any};
 ghost use Rattle.recording.specs.Zones.{zone_lines};
-ghost use Rattle.surroundings.specs.Beginnings.{IsOneLine, WritesBeginning};
+ghost use Rattle.surroundings.specs.Beginnings.{IsBegunBehind, IsOneLine, WritesBeginning};
 ghost use Rattle.surroundings.specs.Faults.{IsBeginFault, begin_fault};
 
 use crate::notices::{tell_no_record, tell_record, warn_of_end};
@@ -97,6 +97,7 @@ fn begun<R: Clock, W: Write + Drop>(
     ensures bound { IfOk result (λ writer. writer.most ≡ most) }
     ensures open { IfOk result (λ writer. writer.is_open
         ≡ nat_le (length (zone_lines zone.now)) most) }
+    ensures text { IfOk result (IsBegunBehind out.contents zone.now most) }
     ensures flushed { IfOk result (λ writer. IsTrue writer.output.flushed) }
 {
     write_time(rt, alloc, &mut out)?;
