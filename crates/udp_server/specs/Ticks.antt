@@ -8,7 +8,8 @@ use Rattle.zone_lock.specs.declared.turns.TurnsEnd.{TurnsEnd}
 use Rattle.zone_lock.specs.declared.turns.TurnsEnd.TheVariants as turns_end
 use Rattle.udp_server.specs.declared.worker.StepResult.{StepResult}
 use Rattle.udp_server.specs.declared.worker.StepResult.TheVariants as result
-use Rattle.udp_server.specs.Working.{CameOf, CameOfTurns, IsRefusalCounted, IsTold, Standing}
+use Rattle.udp_server.specs.Working.{CameOf, CameOfTurns, IsRecordedAs, IsRefusalCounted}
+use Rattle.udp_server.specs.Working.{IsTold, Standing}
 
 -- What a worker may do several times at one tick, a round: turns while it holds the lock, or one
 -- turn that is recorded. What came of it, and how the worker stood before and after.
@@ -59,7 +60,8 @@ IsChapterTried (result.Made place is_idle) old new = (new ≡ old) ⊎ IsRefusal
 IsChapterTried result.Refused old new = new ≡ old
 IsChapterTried result.Closed old new = new ≡ old
 
--- A round of one turn, at a moment that a clock told, and of the chapter that may be due behind it.
+-- A round of one turn, at a moment that a clock told, which is recorded, and of the chapter that
+-- may be due behind it.
 pub record IsTurnOfRound {C : Type 0} (opened : State) (tells : C → ℕ → C → Type 0)
     (came : StepResult) (old new : Standing) : Type 0 where
   pub clock : C
@@ -67,6 +69,7 @@ pub record IsTurnOfRound {C : Type 0} (opened : State) (tells : C → ℕ → C 
   pub then : Standing
   pub told : IsTold tells clock moment
   pub made : CameOf opened (event.Turn moment) came old then
+  pub recorded : IsRecordedAs true came
   pub chapter : IsChapterTried came then new
 
 -- whether more turns may be due after one of which this came

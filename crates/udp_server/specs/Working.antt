@@ -1,6 +1,7 @@
 -- What a worker does with an event: one step under the lock, and its reply to the sender.
 use Rattle.std.specs.Prelude.{◌≡◌, ◌≤◌, ◌<◌, ◌++◌, ◌∷◌, ◌⊎◌, ◌↔◌, ℕ, List, [], Option, None}
-use Rattle.std.specs.Prelude.{Bool, Err, IsFalse, IsTrue, Ok, Some, false, slice_get, take, true}
+use Rattle.std.specs.Prelude.{Bool, Err, IsFalse, IsTrue, Ok, Some, false, is_some, slice_get}
+use Rattle.std.specs.Prelude.{take, true}
 use Rattle.ras_module.specs.declared.address.Address.{Address}
 use Rattle.zone_events.specs.declared.change.Change.TheVariants as change
 use Rattle.zone_events.specs.declared.event.Event.{Event}
@@ -96,6 +97,12 @@ CameOf opened event (result.Made place is_idle) old new =
     IsServedEvent opened event place is_idle old new
 CameOf opened event result.Refused old new = IsRefusalCounted old new
 CameOf opened event result.Closed old new = (new ≡ old) × IsClosed opened
+
+-- a step that was made is an entry of the history, or isn't
+abbrev pub IsRecordedAs : Bool → StepResult → Type 0
+IsRecordedAs is_recorded (result.Made place is_idle) = is_some place ≡ is_recorded
+IsRecordedAs is_recorded result.Refused = Unit {0}
+IsRecordedAs is_recorded result.Closed = Unit {0}
 
 -- whether a worker goes on after what came of an event: it ends only if no step is made any more
 abbrev pub goes_on_after : StepResult → Bool
@@ -214,26 +221,27 @@ IsReceived gives tells buffer most before after next.Nothing old new =
 IsReceived gives tells buffer most before after next.End old new =
     IsEnd gives most before after old new
 
--- A datagram was received, and something came of its event.
-pub record IsDatagramServed (opened : State) (gives : Gives) (tells : ℕ → Type 0)
-    (buffer : List ℕ) (before after : Failures) (goes_on : Bool) (old new : Standing)
-    : Type 0 where
+-- A datagram was received, and something came of its event. Its step is recorded, or isn't.
+pub record IsDatagramServed (opened : State) (is_recorded : Bool) (gives : Gives)
+    (tells : ℕ → Type 0) (buffer : List ℕ) (before after : Failures) (goes_on : Bool)
+    (old new : Standing) : Type 0 where
   pub what : Event
   pub came : StepResult
   pub no_failure : after ≡ without_row before
   pub datagram : IsReceivedIn gives tells buffer what
   pub served : CameOf opened what came old new
+  pub recorded : IsRecordedAs is_recorded came
   pub end : goes_on ≡ goes_on_after came
 
 -- What a worker does in one turn of its loop: one receive, and what comes of that. No step was to
 -- be made, and it goes on; or nothing more is received, and it doesn't; or a datagram came, and
 -- something came of its event.
-abbrev pub IsTurnOfLoop : State → Gives → (ℕ → Type 0) → List ℕ → ℕ → Failures → Failures → Bool
-    → Standing → Standing → Type 0
-IsTurnOfLoop opened gives tells buffer most before after goes_on old new =
+abbrev pub IsTurnOfLoop : State → Bool → Gives → (ℕ → Type 0) → List ℕ → ℕ → Failures → Failures
+    → Bool → Standing → Standing → Type 0
+IsTurnOfLoop opened is_recorded gives tells buffer most before after goes_on old new =
     (IsTrue goes_on × IsNothing gives most before after old new)
     ⊎ (IsFalse goes_on × IsEnd gives most before after old new)
-    ⊎ IsDatagramServed opened gives tells buffer before after goes_on old new
+    ⊎ IsDatagramServed opened is_recorded gives tells buffer before after goes_on old new
 
 -- the first octet of the datagram of an event, if it has one: by it the step is counted
 abbrev pub first_octet : Event → Option ℕ

@@ -1,6 +1,6 @@
 //! The workers that receive datagrams.
 
-ghost use Rattle.std.specs.Prelude.{IfOk};
+ghost use Rattle.std.specs.Prelude.{IfOk, false, true};
 ghost use Rattle.udp_server.specs.Working.{IsEventNow, IsReceived, IsTold, IsTurnOfLoop};
 ghost use Rattle.udp_server.specs.Working.{failures, standing};
 
@@ -78,9 +78,10 @@ pub(crate) fn work<
 /// Waits for a datagram, and makes a step of it, if one comes. Whether the worker goes on.
 ///
 /// promise worker-serves-what-came: Each turn of a worker makes at most one step, of just the
-/// datagram that came; its reply goes into the ring, or is dropped and counted. A worker ends only
-/// if its end has stopped, if as many receives in a row have failed as the plan says, or if no step
-/// is made any more (`IsTurnOfLoop`, `IsEnd`, `CameOf`, `IsHandedOn`).
+/// datagram that came, and records it if and only if its loop does; its reply goes into the ring,
+/// or is dropped and counted. A worker ends only if its end has stopped, if as many receives in a
+/// row have failed as the plan says, or if no step is made any more (`IsTurnOfLoop`, `IsEnd`,
+/// `CameOf`, `IsRecordedAs`, `IsHandedOn`).
 fn serve_next<
     P: Pool,
     D: Hall,
@@ -96,7 +97,7 @@ fn serve_next<
     receiver: &mut Receiver<N>,
     worker: &mut Worker<D, T, U, V, C>,
 ) -> bool
-    ensures { IsTurnOfLoop D.opened
+    ensures { IsTurnOfLoop D.opened false
         (λ given octets. N.receives receiver.old.end given octets receiver.new.end)
         (IsTold C.tells worker.old.clock) receiver.new.buffer shared.now.plan.faults
         (failures (N.faults receiver.old.end) receiver.old.failed_in_a_row)
@@ -157,7 +158,7 @@ fn serve_next_recorded<
     receiver: &mut Receiver<N>,
     worker: &mut Worker<D, T, U, V, C>,
 ) -> bool
-    ensures { IsTurnOfLoop D.opened
+    ensures { IsTurnOfLoop D.opened true
         (λ given octets. N.receives receiver.old.end given octets receiver.new.end)
         (IsTold C.tells worker.old.clock) receiver.new.buffer shared.now.plan.faults
         (failures (N.faults receiver.old.end) receiver.old.failed_in_a_row)

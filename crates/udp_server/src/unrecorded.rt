@@ -1,9 +1,9 @@
 //! Steps of a worker of which nothing is recorded.
 
-ghost use Rattle.std.specs.Prelude.{◌≡◌};
+ghost use Rattle.std.specs.Prelude.{◌≡◌, false};
 ghost use Rattle.zone_lock.specs.Held.{IsClosed};
-ghost use Rattle.udp_server.specs.Working.{AreHandedOn, CameOf, CameOfTurns, IsTold};
-ghost use Rattle.udp_server.specs.Working.{refused_after, standing};
+ghost use Rattle.udp_server.specs.Working.{AreHandedOn, CameOf, CameOfTurns};
+ghost use Rattle.udp_server.specs.Working.{IsRecordedAs, IsTold, refused_after, standing};
 
 use crate::gate::{Gate, Stage};
 use crate::moments::Moments;
@@ -40,9 +40,10 @@ impl<D: Hall, T: Ledger, U: Ledger, V: Ledger, C: Moments> Worker<D, T, U, V, C>
         shared: &Shared<'_, P, D, T, U, V, R, G>,
         event: Event,
     ) -> StepResult
-        ensures { CameOf D.opened event result
+        ensures came { CameOf D.opened event result
             (standing self.old.seat self.old.outlet self.old.counts)
             (standing self.new.seat self.new.outlet self.new.counts) }
+        ensures recorded { IsRecordedAs false result }
     {
         let first = first_octet(&event);
         let Ok(prepared) = prepare(shared.alloc, event) else {

@@ -2,13 +2,14 @@
 
 ghost use Rattle.std.specs.Prelude.{◌≡◌, ◌<◌, ◌+◌, ◌++◌, ◌∷◌, ◌↔◌, [], min, IfErr, IfOk};
 ghost use Rattle.std.specs.Prelude.{IsTrue, OnErr, OnOk};
-ghost use Rattle.std.specs.Prelude.{Some, is_some, vec_capacity, vec_len};
+ghost use Rattle.std.specs.Prelude.{Some, is_some, true, vec_capacity, vec_len};
 ghost use Rattle.std.specs.Option.{ForSome};
 ghost use Rattle.ras_machine.specs.Steps.{HasFewOctets};
 ghost use Rattle.udp_server.specs.Ends.{fault_count, most_count};
 ghost use Rattle.udp_server.specs.Orders.{IsPoolKept, IsPoolReplaced, refused_after_fault};
 ghost use Rattle.udp_server.specs.Rooms.{IsRoom};
-ghost use Rattle.udp_server.specs.Working.{CameOf, IsHandedOn, first_octet, standing};
+ghost use Rattle.udp_server.specs.Working.{CameOf, IsHandedOn, IsRecordedAs, first_octet};
+ghost use Rattle.udp_server.specs.Working.{standing};
 
 use crate::board::Board;
 use crate::gate::{Gate, Stage};
@@ -195,9 +196,10 @@ impl<D: Hall, T: Ledger, U: Ledger, V: Ledger, C: Moments> Worker<D, T, U, V, C>
         shared: &Shared<'_, P, D, T, U, V, R, G>,
         event: Event,
     ) -> StepResult
-        ensures { CameOf D.opened event result
+        ensures came { CameOf D.opened event result
             (standing self.old.seat self.old.outlet self.old.counts)
             (standing self.new.seat self.new.outlet self.new.counts) }
+        ensures recorded { IsRecordedAs true result }
     {
         let first = first_octet(&event);
         match self.ready(shared, event) {
@@ -254,9 +256,10 @@ impl<D: Hall, T: Ledger, U: Ledger, V: Ledger, C: Moments> Worker<D, T, U, V, C>
         buffer: Option<Vec<u8>>,
     ) -> StepResult
         requires { ForSome buffer (λ buffer. IsRoom buffer self.old.receipts) }
-        ensures { CameOf D.opened prepared result
+        ensures came { CameOf D.opened prepared result
             (standing self.old.seat self.old.outlet self.old.counts)
             (standing self.new.seat self.new.outlet self.new.counts) }
+        ensures recorded { IsRecordedAs true result }
     {
         shared.gate.pass(self.number, Stage::BeforeApply);
         let receipt = match shared.lock.apply(shared.rt, &mut self.seat, prepared) {

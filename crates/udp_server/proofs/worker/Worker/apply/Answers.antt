@@ -6,15 +6,15 @@ use Rattle.zone_lock.specs.Seats.{Seated, seated_after}
 use Rattle.udp_server.specs.Working.{IsHandedOn, Standing, standing}
 use Rattle.udp_server.proofs.worker.Worker.apply.Goals as goal
 
-pub returns-in-Err-Closed : goal.returns-in-Err-Closed
-returns-in-Err-Closed g c = (
+pub returns-in-Err-Closed-clause-came : goal.returns-in-Err-Closed-clause-came
+returns-in-Err-Closed-clause-came g c = (
   ap (λ (s : Seated). standing s c.args.self.now.outlet c.args.self.now.counts)
       c.in-Err-Closed.ensures.err,
   c.apply.ensures.closed (cc (c.in-Err-Closed.is, c.in-Err-Closed.field-0-is)),
 )
 
-pub returns : goal.returns
-returns g c =
+pub returns-clause-came : goal.returns-clause-came
+returns-clause-came g c =
     let old = c.args.self.now in
     let outcome = c.in-Ok.receipt.outcome in
     let new = c.hand_on.new.self in

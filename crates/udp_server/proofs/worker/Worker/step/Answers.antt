@@ -7,8 +7,8 @@ use Rattle.zone_lock.specs.Seats.{Seated, seated_after}
 use Rattle.udp_server.specs.Working.{IsHandedOn, IsServedEvent, Standing, standing}
 use Rattle.udp_server.proofs.worker.Worker.step.Goals as goal
 
-pub returns : goal.returns
-returns g c =
+pub returns-clause-came : goal.returns-clause-came
+returns-clause-came g c =
     let old = c.args.self.now in
     let prepared = c.in-Ok.prepared in
     let outcome = c.step.new.outcome in
