@@ -1,20 +1,73 @@
-//! The zone of the worked examples, and steps of it by a seat.
+//! The zone of the worked examples, and what the endpoint asks of it.
 
-pub use crate::shared::{CALL, Looked};
-use books::Receipt;
-use facts::expect;
-use pools::FixedPool;
-use ras_core::{Datagram, Event, Moment, Outcome, Prepared, prepare};
-use ras_module::{Address, Octets, Source};
+pub use crate::shared::{CALL, Looked, all_hold};
+use pools::{FixedPool, Lend};
+use ras_core::{Datagram, Event, Moment, Outcome, Prepared, Zone, prepare};
+use ras_module::Octets;
 use std::alloc::Global;
-use std::sync::Wait;
-use std::sync::ledger::Ledger;
-use worked_zone::ENDPOINT;
-pub use worked_zone::{CALL_LIMIT, LIMIT, POOL, zone, zone_of};
-use zone_lock::{Hall, Seat, ZoneLock};
+use vectors::replies::{ACF_1280, ARJ, GCF, GRJ, RCF_0001, RCF_0002};
+use vectors::requests::{ARQ, ARQ_OF_A_SECOND_CALL, GRQ, GRQ_OF_XX, RRQ_101, RRQ_102};
+use worked_zone::{ENDPOINT, zone_of};
+pub use worked_zone::{CALL_LIMIT, LIMIT, POOL, zone};
 
 /// What is left for a second call in a zone of as many units as a call may have.
 pub const REST: u64 = CALL_LIMIT - CALL;
+
+/// A zone of as many units as a call may have. None for want of memory.
+pub fn scarce_zone(alloc: Global) -> Option<Zone<FixedPool>> {
+    zone_of(alloc, CALL_LIMIT, 1_000)
+}
+
+/// What the endpoint asks.
+#[derive(Clone, Copy)]
+pub enum Request {
+    /// A discovery that is confirmed.
+    Discovery,
+    /// A discovery that is rejected.
+    Rejected,
+    /// The registration of 0001.
+    First,
+    /// The registration of 0002.
+    Second,
+    /// The admission of a call of 0001.
+    Call,
+    /// That of a second call, for which there is less than it asks for: it is denied, and what was
+    /// lent for it goes back.
+    Denied,
+}
+
+impl Request {
+    fn octets(self) -> &'static [u8] {
+        match self {
+            Request::Discovery => &GRQ,
+            Request::Rejected => &GRQ_OF_XX,
+            Request::First => &RRQ_101,
+            Request::Second => &RRQ_102,
+            Request::Call => &ARQ,
+            Request::Denied => &ARQ_OF_A_SECOND_CALL,
+        }
+    }
+
+    fn reply(self) -> &'static [u8] {
+        match self {
+            Request::Discovery => &GCF,
+            Request::Rejected => &GRJ,
+            Request::First => &RCF_0001,
+            Request::Second => &RCF_0002,
+            Request::Call => &ACF_1280,
+            Request::Denied => &ARJ,
+        }
+    }
+
+    /// What the pool answers, if it is asked.
+    fn answer(self) -> Option<Lend> {
+        match self {
+            Request::Call => Some(Lend::Lent(CALL)),
+            Request::Denied => Some(Lend::Lent(REST)),
+            _ => None,
+        }
+    }
+}
 
 /// A datagram of the endpoint with these octets, read.
 pub fn datagram(alloc: Global, bytes: &[u8]) -> Option<Prepared> {
@@ -22,75 +75,21 @@ pub fn datagram(alloc: Global, bytes: &[u8]) -> Option<Prepared> {
     prepare(alloc, Event::Datagram(ENDPOINT, bytes, Moment::START)).ok()
 }
 
-/// The seat makes a step of this datagram.
-pub fn apply<D: Hall, T: Ledger, U: Ledger, V: Ledger>(
-    rt: &impl Wait,
-    alloc: Global,
-    lock: &ZoneLock<FixedPool, D, T, U, V>,
-    seat: &mut Seat<D, T, U, V>,
-    bytes: &[u8],
-) -> Option<Receipt> {
-    lock.apply(rt, seat, datagram(alloc, bytes)?).ok()
-}
-
-/// Whether this reply is sent to the endpoint.
-pub fn is_sent(outcome: &Outcome, reply: &[u8]) -> bool {
-    is_sent_as(outcome.output.as_ref(), reply)
+/// A request, read.
+pub fn prepared(alloc: Global, request: Request) -> Option<Prepared> {
+    datagram(alloc, request.octets())
 }
 
 /// Whether this is a datagram that goes to the endpoint, with these octets.
-pub fn is_sent_as(datagram: Option<&Datagram>, reply: &[u8]) -> bool {
-    match datagram {
-        Some(output) => output.to == ENDPOINT && output.bytes.as_slice() == reply,
+pub fn is_sent(datagram: &Datagram, octets: &[u8]) -> bool {
+    datagram.to == ENDPOINT && datagram.bytes.as_slice() == octets
+}
+
+/// Whether the outcome is that of this request: its reply goes to the endpoint, and the pool was
+/// asked so, or not at all.
+pub fn is_answered(outcome: &Outcome, request: Request) -> bool {
+    match &outcome.output {
+        Some(output) => is_sent(output, request.reply()) && outcome.answer == request.answer(),
         None => false,
     }
-}
-
-/// The seat makes a step of this datagram, whose receipt has to be that of its seat's call at this
-/// place, with this reply, and stands behind the others then.
-pub fn record<D: Hall, T: Ledger, U: Ledger, V: Ledger>(
-    rt: &impl Wait,
-    alloc: Global,
-    lock: &ZoneLock<FixedPool, D, T, U, V>,
-    seat: &mut Seat<D, T, U, V>,
-    receipts: &mut Vec<Receipt>,
-    step: &Step<'_>,
-) -> Looked {
-    let receipt = apply(rt, alloc, lock, seat, step.request).ok_or("memory for a step")?;
-    let is_told = is_told(&receipt, step.call, step.place, step.reply);
-    receipts.push(receipt).ok().ok_or("memory for a receipt")?;
-    expect(is_told, step.fact)
-}
-
-/// A step of a seat: a request, which of the seat's calls it is, at which place of the history it
-/// stands, its reply, and the fact that it is told so.
-#[derive(Clone, Copy)]
-pub struct Step<'a> {
-    pub request: &'a [u8],
-    pub call: usize,
-    pub place: usize,
-    pub reply: &'a [u8],
-    pub fact: &'static str,
-}
-
-/// Whether the receipt is that of its seat's call at this place, with this reply.
-pub fn is_told(receipt: &Receipt, call: usize, place: usize, reply: &[u8]) -> bool {
-    is_sent(&receipt.outcome, reply) && receipt.call == call && receipt.place == place
-}
-
-/// An equal receipt.
-pub fn copy_of(alloc: Global, receipt: &Receipt) -> Option<Receipt> {
-    let octets = match &receipt.outcome.output {
-        Some(output) => output.bytes.as_slice().len(),
-        None => 0,
-    };
-    let buffer = Vec::with_capacity(alloc, octets).ok()?;
-    let event = receipt.event.copy().ok()?;
-    Some(Receipt {
-        seat: receipt.seat,
-        call: receipt.call,
-        place: receipt.place,
-        event,
-        outcome: receipt.outcome.copy_into(buffer),
-    })
 }

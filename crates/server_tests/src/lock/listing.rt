@@ -1,67 +1,138 @@
-//! Lists between steps.
+//! Lists, figures and rows.
 
 ghost use Rattle.std.specs.Prelude.{◌≡◌};
 
-use crate::lock::audits::audit_datagrams;
-use crate::lock::fixtures::{Looked, apply};
-use crate::lock::locks::{Deed, try_deed};
-use books::{Chapter, Receipt};
+use crate::lock::acts::{Act, Row};
+use crate::lock::fixtures::{CALL, LIMIT, Looked, Request, all_hold, zone};
+use crate::lock::locks::{Left, NOTHING, try_acts};
 use facts::expect;
-use pools::FixedPool;
+use pools::{Figures, FixedPool};
 use std::alloc::Global;
 use std::sync::Wait;
 use std::sync::ledger::Ledger;
-use vectors::requests::{GRQ, GRQ_OF_XX};
-use zone_lock::{Hall, Seat, ZoneLock};
+use zone_lock::{Hall, Listing, ZoneLock};
+use zone_view::{CallRow, EndpointRow, ZoneFigures};
 
-/// A step, a list, a step, a list and a chapter follow one another.
-fn list_between<D: Hall, T: Ledger, U: Ledger, V: Ledger>(
+/// Compares a list with so many endpoints and worked calls.
+pub fn compare_listing(listing: &Listing, endpoints: usize, calls: usize) -> Looked {
+    let listed = listing.calls.as_slice();
+    let are_worked = listed.iter().all(|(_, call)| u64::from(call.units) == CALL);
+    all_hold(&[
+        (
+            listing.endpoints.as_slice().len() == endpoints,
+            "the endpoints are listed",
+        ),
+        (listed.len() == calls, "the calls are listed"),
+        (are_worked, "each call is listed with its units"),
+        (
+            listing.in_use == CALL * calls as u64,
+            "they are listed as in use",
+        ),
+        (listing.limit == LIMIT, "the zone's limit is listed"),
+    ])
+}
+
+/// Compares figures and rows with those of two endpoints and of one call between them; each row
+/// comes once, whatever there is room for.
+pub fn look<D: Hall, T: Ledger, U: Ledger, V: Ledger>(
     rt: &impl Wait,
     alloc: Global,
     lock: &ZoneLock<FixedPool, D, T, U, V>,
-    seats: &mut [Seat<D, T, U, V>],
-    receipts: &mut Vec<Receipt>,
-    chapters: &mut Vec<Chapter>,
 ) -> Looked {
-    let seat = seats.get_mut(0).ok_or("a seat")?;
-    for request in [GRQ.as_slice(), GRQ_OF_XX.as_slice()] {
-        let receipt = apply(rt, alloc, lock, seat, request).ok_or("memory for a step")?;
-        receipts.push(receipt).ok().ok_or("memory for a receipt")?;
-        drop(lock.list(rt).ok().ok_or("memory for a list")?);
-    }
-    let chapter = lock.cut(rt).ok().ok_or("memory for a chapter")?;
-    chapters.push(chapter).ok().ok_or("memory for a chapter")
+    let memory = "memory for rows";
+    let mut pools = Vec::with_capacity(alloc, 16).ok().ok_or(memory)?;
+    let figures = lock.figures(rt, &mut pools);
+    let mut endpoints = Vec::with_capacity(alloc, 1).ok().ok_or(memory)?;
+    let place = lock.endpoints_below(rt, usize::MAX, &mut endpoints);
+    let last = endpoints.pop().ok_or("a row for which there is room")?;
+    let end = lock.endpoints_below(rt, place, &mut endpoints);
+    let mut calls = Vec::with_capacity(alloc, 64).ok().ok_or(memory)?;
+    let no_more = lock.calls_below(rt, usize::MAX, &mut calls);
+    let are_told = compare_figures(&figures, &pools);
+    let is_once = expect((place, end, no_more) == (1, 0, 0), "each row comes once");
+    let are_rows = compare_rows(&last, &endpoints, &calls);
+    are_told.and(is_once).and(are_rows)
 }
 
-/// Finds both steps in the chapter.
-fn find_both(chapters: &[Chapter]) -> Looked {
-    let [chapter] = chapters else {
-        return Err("one chapter is cut");
+/// Compares figures with those of two endpoints and of one call.
+fn compare_figures(figures: &ZoneFigures, pools: &[Figures]) -> Looked {
+    let [pool] = pools else {
+        return Err("one pool has figures");
     };
-    expect(chapter.first() == 0, "the chapter begins with the history")?;
-    expect(chapter.entries().len() == 2, "the chapter has both steps")
+    all_hold(&[
+        (figures.endpoints == 2, "two endpoints are told"),
+        (figures.calls == 1, "one call is told"),
+        (figures.kept == 3, "three kept replies are told"),
+        (
+            figures.in_use == CALL,
+            "the call's units are told as in use",
+        ),
+        (figures.limit == LIMIT, "the zone's limit is told"),
+        (pool.lent == CALL, "the pool's loan is told"),
+    ])
 }
 
-/// Lists what is in the zone between steps, which leaves the history as it is: a chapter has what
-/// was done before, and is audited.
-pub fn list_and_audit<D: Hall, T: Ledger, U: Ledger, V: Ledger, R: Wait>(
-    rt: &R,
-    alloc: Global,
-    lock: ZoneLock<FixedPool, D, T, U, V>,
-    seats: Vec<Seat<D, T, U, V>>,
-) -> Looked {
-    let (mut seats, mut receipts, mut chapters) = (seats, Vec::new(alloc), Vec::new(alloc));
-    let is_cut = list_between(rt, alloc, &lock, &mut seats, &mut receipts, &mut chapters);
-    let Ok(finished) = lock.finish(seats) else {
-        return Err("the lock is finished");
+/// Compares rows with those of 101, who called, of 102, and of their call.
+fn compare_rows(last: &EndpointRow, endpoints: &[EndpointRow], calls: &[CallRow]) -> Looked {
+    let ([first], [call]) = (endpoints, calls) else {
+        return Err("there is a row of 101, and one of the call");
     };
-    let are_there = find_both(&chapters);
-    let are_audited = audit_datagrams(&chapters, &finished, &receipts, 2);
-    drop(finished);
-    is_cut.and(are_there).and(are_audited)
+    let is_first = first.identifier.as_slice() == [48, 48, 48, 49].as_slice();
+    let is_last = last.identifier.as_slice() == [48, 48, 48, 50].as_slice();
+    let takes_part = call.first == first.identifier;
+    all_hold(&[
+        (is_first, "the first row is that of 0001"),
+        (first.alias_count == 1, "0001 has one alias"),
+        (first.aliases.as_slice().len() == 1, "it is in its row"),
+        (first.legs == 1, "0001 has one leg"),
+        (is_last, "the last row is that of 0002"),
+        (last.legs == 0, "0002 has no leg"),
+        (u64::from(call.units) == CALL, "the call has its units"),
+        (takes_part, "0001 takes part in the call"),
+        (call.second.is_none(), "nobody else takes part in it"),
+    ])
 }
+
+/// One seat registers two endpoints, and the other one admits their call. Both are listed.
+const OPEN_CALL: [Row; 5] = [
+    ("0001 registers", 0, Act::Apply(Request::First, 0, 0)),
+    ("0002 registers", 0, Act::Apply(Request::Second, 1, 1)),
+    ("the call opens", 1, Act::Apply(Request::Call, 0, 2)),
+    ("all is listed", 0, Act::List(2, 1)),
+    ("figures and rows", 0, Act::Look),
+];
+
+const CALL_LEFT: Left = Left {
+    entries: 3,
+    datagrams: 3,
+    lent: CALL,
+    in_use: CALL,
+    ..NOTHING
+};
+
+#[test]
+fn endpoints_and_calls_are_listed(rt: HostRuntime) -> Looked {
+    let alloc = rt.alloc();
+    try_acts(&rt, alloc, zone(alloc), 2, &OPEN_CALL, &CALL_LEFT)
+}
+
+/// Lists between steps leave the history as it is: a chapter has what was done before.
+const LISTS_BETWEEN: [Row; 5] = [
+    ("the first step", 0, Act::Apply(Request::Discovery, 0, 0)),
+    ("a list behind it", 0, Act::List(0, 0)),
+    ("the second step", 0, Act::Apply(Request::Rejected, 1, 1)),
+    ("a list behind both", 0, Act::List(0, 0)),
+    ("a chapter of both", 0, Act::Cut(0, 2)),
+];
+
+const CHAPTER_LEFT: Left = Left {
+    first: 2,
+    datagrams: 2,
+    ..NOTHING
+};
 
 #[test]
 fn a_list_changes_nothing(rt: HostRuntime) -> Looked {
-    try_deed(&rt, rt.alloc(), 1, Deed::ListsBetween)
+    let alloc = rt.alloc();
+    try_acts(&rt, alloc, zone(alloc), 1, &LISTS_BETWEEN, &CHAPTER_LEFT)
 }

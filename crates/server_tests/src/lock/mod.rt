@@ -1,5 +1,6 @@
 //! Tests of a zone's lock with its history: seats, lists, chapters, and threads.
 
+mod acts;
 mod audits;
 mod chapters;
 mod discarding;

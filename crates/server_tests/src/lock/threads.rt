@@ -2,16 +2,17 @@
 
 ghost use Rattle.std.specs.Prelude.{◌≡◌};
 
-use crate::lock::audits::audit_datagrams;
-use crate::lock::fixtures::{Looked, datagram};
-use crate::lock::locks::{Deed, try_deed};
-use books::{Chapter, Finished, Receipt};
-use facts::expect;
-use pools::{FixedPool, Pool};
+use crate::lock::acts::Gathered;
+use crate::lock::fixtures::{Looked, all_hold, datagram, zone};
+use crate::lock::locks::{Deed, Made, make};
+use book_audit::audit;
+use books::Totals;
+use pools::FixedPool;
 use std::alloc::Global;
+use std::mem;
 use std::sync::Wait;
 use std::sync::ledger::Ledger;
-use std::thread::{Threads, join};
+use std::thread::{Threads, for_each_mut};
 use vectors::requests::GRQ;
 use zone_lock::{Hall, Seat, ZoneLock};
 
@@ -20,28 +21,17 @@ const STEPS: usize = 1_000;
 
 const CHAPTER: usize = 100;
 
-/// What a thread makes: its receipts, and the chapters that it cut, if it is to cut any.
+/// A seat that makes steps in a thread of its own, and what it gathers.
 #[derive(Drop)]
-struct Share {
-    receipts: Vec<Receipt>,
-    chapters: Vec<Chapter>,
-    cuts: bool,
-}
-
-impl Share {
-    fn new(alloc: Global, cuts: bool) -> Self {
-        Share {
-            receipts: Vec::new(alloc),
-            chapters: Vec::new(alloc),
-            cuts,
-        }
-    }
+struct Place<D: Hall, T: Ledger, U: Ledger, V: Ledger> {
+    seat: Seat<D, T, U, V>,
+    gathered: Gathered,
 }
 
 /// A discovery whose number is told by these two.
-fn discovery(thread: u8, step: usize) -> [u8; 20] {
+fn discovery(thread: usize, step: usize) -> [u8; 20] {
     let mut bytes = GRQ;
-    bytes[2] = (thread % 4) * 8 + (step / 256 % 8) as u8;
+    bytes[2] = ((thread % 4) * 8 + step / 256 % 8) as u8;
     bytes[3] = (step % 256) as u8;
     bytes
 }
@@ -51,169 +41,66 @@ fn go_on<D: Hall, T: Ledger, U: Ledger, V: Ledger>(
     rt: &impl Wait,
     alloc: Global,
     lock: &ZoneLock<FixedPool, D, T, U, V>,
-    seat: &mut Seat<D, T, U, V>,
-    share: &mut Share,
-    bytes: &[u8],
+    place: &mut Place<D, T, U, V>,
+    thread: usize,
+    step: usize,
 ) -> Option<()> {
-    let receipt = lock.apply(rt, seat, datagram(alloc, bytes)?).ok()?;
-    share.receipts.push(receipt).ok()?;
-    if share.cuts && share.receipts.len() % CHAPTER == 0 {
-        share.chapters.push(lock.cut(rt).ok()?).ok()?;
+    let prepared = datagram(alloc, &discovery(thread, step))?;
+    let receipt = lock.apply(rt, &mut place.seat, prepared).ok()?;
+    place.gathered.receipts.push(receipt).ok()?;
+    if thread == 0 && (step + 1) % CHAPTER == 0 {
+        place.gathered.chapters.push(lock.cut(rt).ok()?).ok()?;
     }
     Some(())
 }
 
-/// Makes the steps of a thread. Whether all are made.
+/// Makes the steps of a thread, or as many as there is memory for.
 fn work<D: Hall, T: Ledger, U: Ledger, V: Ledger>(
     rt: &impl Wait,
     alloc: Global,
     lock: &ZoneLock<FixedPool, D, T, U, V>,
-    seat: &mut Seat<D, T, U, V>,
-    share: &mut Share,
-    thread: u8,
-) -> bool {
+    place: &mut Place<D, T, U, V>,
+    thread: usize,
+) {
     for step in 0..STEPS {
-        if go_on(rt, alloc, lock, seat, share, &discovery(thread, step)).is_none() {
-            return false;
+        if go_on(rt, alloc, lock, place, thread, step).is_none() {
+            return;
         }
     }
-    true
 }
 
-/// Makes the steps of the first seat, for the first share. Whether all are made.
-fn work_by_one<D: Hall, T: Ledger, U: Ledger, V: Ledger>(
-    rt: &impl Wait,
+/// Gives each seat a place.
+fn places_of<D: Hall, T: Ledger, U: Ledger, V: Ledger>(
     alloc: Global,
-    lock: &ZoneLock<FixedPool, D, T, U, V>,
-    seats: &mut [Seat<D, T, U, V>],
-    shares: &mut [Share],
-    thread: u8,
-) -> bool {
-    match (seats.first_mut(), shares.first_mut()) {
-        (Some(seat), Some(share)) => work(rt, alloc, lock, seat, share, thread),
-        _ => false,
+    seats: Vec<Seat<D, T, U, V>>,
+) -> Option<Vec<Place<D, T, U, V>>> {
+    let mut places = Vec::new(alloc);
+    for seat in seats {
+        let gathered = Gathered::new(alloc);
+        places.push(Place { seat, gathered }).ok()?;
     }
+    Some(places)
 }
 
-/// Makes the steps of two threads, of which the first one has this number. Whether all are made.
-fn work_by_two<
-    D: Hall + Send + Sync,
-    T: Ledger + Send + Sync,
-    U: Ledger + Send + Sync,
-    V: Ledger + Send + Sync,
-    R: Threads + Wait + Sync,
->(
-    rt: &R,
-    alloc: Global,
-    lock: &ZoneLock<FixedPool, D, T, U, V>,
-    seats: &mut [Seat<D, T, U, V>],
-    shares: &mut [Share],
-    thread: u8,
-) -> bool {
-    if seats.is_empty() || shares.is_empty() {
-        return false;
+/// Gathers what the threads did, and their seats.
+fn gather<D: Hall, T: Ledger, U: Ledger, V: Ledger>(
+    places: Vec<Place<D, T, U, V>>,
+    seats: &mut Vec<Seat<D, T, U, V>>,
+    gathered: &mut Gathered,
+) -> Option<()> {
+    for place in places {
+        let Place {
+            seat,
+            gathered: mut more,
+        } = place;
+        seats.push(seat).ok()?;
+        gathered.receipts.append(&mut more.receipts).ok()?;
+        gathered.chapters.append(&mut more.chapters).ok()?;
     }
-    let (a, b) = seats.split_at_mut(1);
-    let (x, y) = shares.split_at_mut(1);
-    let (one, two) = join(
-        rt,
-        || work_by_one(rt, alloc, lock, a, x, thread),
-        || work_by_one(rt, alloc, lock, b, y, thread | 1),
-    );
-    one && two
+    Some(())
 }
 
-/// Makes the steps of four threads. Whether all are made.
-fn work_by_four<
-    D: Hall + Send + Sync,
-    T: Ledger + Send + Sync,
-    U: Ledger + Send + Sync,
-    V: Ledger + Send + Sync,
-    R: Threads + Wait + Sync,
->(
-    rt: &R,
-    alloc: Global,
-    lock: &ZoneLock<FixedPool, D, T, U, V>,
-    seats: &mut [Seat<D, T, U, V>],
-    shares: &mut [Share],
-) -> bool {
-    if seats.len() < 2 || shares.len() < 2 {
-        return false;
-    }
-    let (a, b) = seats.split_at_mut(2);
-    let (x, y) = shares.split_at_mut(2);
-    let (one, two) = join(
-        rt,
-        || work_by_two(rt, alloc, lock, a, x, 0),
-        || work_by_two(rt, alloc, lock, b, y, 2),
-    );
-    one && two
-}
-
-/// The receipts of all threads, and the chapters of the first one.
-fn gathered(alloc: Global, shares: Vec<Share>) -> Option<(Vec<Receipt>, Vec<Chapter>)> {
-    let (mut receipts, mut chapters) = (Vec::new(alloc), Vec::new(alloc));
-    for share in shares {
-        let Share {
-            receipts: mut more,
-            chapters: cut,
-            cuts,
-        } = share;
-        receipts.append(&mut more).ok()?;
-        if cuts {
-            chapters = cut;
-        }
-    }
-    Some((receipts, chapters))
-}
-
-/// A share for each of four threads, of which the first one is to cut chapters.
-fn shares_of(alloc: Global) -> Option<Vec<Share>> {
-    let mut shares = Vec::new(alloc);
-    for thread in 0..4 {
-        shares.push(Share::new(alloc, thread == 0)).ok()?;
-    }
-    Some(shares)
-}
-
-/// What four threads make.
-fn made<
-    D: Hall + Send + Sync,
-    T: Ledger + Send + Sync,
-    U: Ledger + Send + Sync,
-    V: Ledger + Send + Sync,
-    R: Threads + Wait + Sync,
->(
-    rt: &R,
-    alloc: Global,
-    lock: &ZoneLock<FixedPool, D, T, U, V>,
-    seats: &mut [Seat<D, T, U, V>],
-) -> Option<Vec<Share>> {
-    let mut shares = shares_of(alloc)?;
-    if work_by_four(rt, alloc, lock, seats, &mut shares) {
-        Some(shares)
-    } else {
-        None
-    }
-}
-
-/// Compares a history with as many receipts as it has entries, and ten chapters, which agree.
-fn compare_all<P: Pool>(
-    finished: &Finished<P>,
-    receipts: &[Receipt],
-    chapters: &[Chapter],
-) -> Looked {
-    let entries = finished.first().saturating_add(finished.entries().len());
-    expect(
-        entries == receipts.len(),
-        "there are as many entries as receipts",
-    )?;
-    expect(chapters.len() == STEPS / CHAPTER, "there are ten chapters")?;
-    audit_datagrams(chapters, finished, receipts, 4 * STEPS as u64)
-}
-
-/// Makes steps by four threads, each of which is an entry of the history, in ten chapters and the
-/// rest. The receipts of all threads agree with it.
+/// Each of four seats makes steps in a thread of its own. The first one cuts chapters.
 pub fn enter_all<
     D: Hall + Send + Sync,
     T: Ledger + Send + Sync,
@@ -223,21 +110,49 @@ pub fn enter_all<
 >(
     rt: &R,
     alloc: Global,
-    lock: ZoneLock<FixedPool, D, T, U, V>,
-    seats: Vec<Seat<D, T, U, V>>,
+    lock: &ZoneLock<FixedPool, D, T, U, V>,
+    seats: &mut Vec<Seat<D, T, U, V>>,
+    gathered: &mut Gathered,
 ) -> Looked {
-    let mut seats = seats;
-    let shares = made(rt, alloc, &lock, &mut seats);
-    let Ok(finished) = lock.finish(seats) else {
-        return Err("the lock is finished");
+    let all = mem::replace(seats, Vec::new(alloc));
+    let mut places = places_of(alloc, all).ok_or("memory for four places")?;
+    for_each_mut(
+        rt,
+        &mut places,
+        4,
+        &|thread, place| { work(rt, alloc, lock, place, thread) },
+    );
+    gather(places, seats, gathered).ok_or("memory for all receipts")
+}
+
+/// Compares a history with as many receipts as it has entries, and ten chapters, which agree.
+fn compare_all(made: &Made) -> Looked {
+    let finished = &made.finished;
+    let entries = finished.first().saturating_add(finished.entries().len());
+    let chapters = &made.gathered.chapters;
+    let receipts = &made.gathered.receipts;
+    let all = Totals {
+        datagrams: 4 * STEPS as u64,
+        ..Totals::none()
     };
-    match shares.and_then(|shares| gathered(alloc, shares)) {
-        Some((receipts, chapters)) => compare_all(&finished, &receipts, &chapters),
-        None => Err("each thread makes its steps"),
-    }
+    all_hold(&[
+        (
+            entries == receipts.len(),
+            "there are as many entries as receipts",
+        ),
+        (chapters.len() == STEPS / CHAPTER, "there are ten chapters"),
+        (
+            audit(chapters, finished, receipts) == Ok(all),
+            "an audit counts each step of four threads",
+        ),
+    ])
 }
 
 #[test]
 fn each_step_of_four_threads_is_an_entry(rt: HostRuntime) -> Looked {
-    try_deed(&rt, rt.alloc(), 4, Deed::Threads)
+    let alloc = rt.alloc();
+    let made = make(&rt, alloc, zone(alloc), 4, Deed::Threads)?;
+    let looked = compare_all(&made);
+    drop(made);
+    looked
 }

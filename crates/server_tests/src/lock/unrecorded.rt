@@ -2,261 +2,92 @@
 
 ghost use Rattle.std.specs.Prelude.{◌≡◌};
 
-use crate::lock::fixtures::{CALL, Looked, REST, apply, datagram, is_sent};
-use crate::lock::locks::{Deed, try_deed};
-use books::Finished;
+use crate::lock::acts::{Act, Row, step};
+use crate::lock::fixtures::{CALL, Looked, REST, Request, scarce_zone, zone};
+use crate::lock::locks::{Deed, Left, NOTHING, compare, make, try_acts};
+use book_audit::AuditFault;
 use facts::expect;
-use pools::{FixedPool, Pool};
-use ras_core::{Note, Outcome};
+use pools::FixedPool;
 use std::alloc::Global;
 use std::sync::Wait;
 use std::sync::ledger::Ledger;
-use std::thread::{Threads, join};
-use vectors::replies::{ACF_1280, ARJ, RCF_0001, RCF_0002};
-use vectors::requests::{ARQ, ARQ_OF_A_SECOND_CALL, GRQ, RRQ_101, RRQ_102};
-use zone_lock::{CutFault, Discarded, Hall, Seat, ZoneLock};
+use std::thread::{Threads, for_each_mut};
+use zone_lock::{Hall, Seat, ZoneLock};
 
-/// How many steps each thread makes.
-const STEPS: u64 = 1_000;
+/// Each of two seats registers an endpoint where a chapter could be cut, so that both steps are
+/// recorded. They are let go. Where no chapter can be cut, three more steps are made, of which none
+/// is left: one that need not be recorded, one that need be, and one that need not be.
+const ROWS: [Row; 8] = [
+    ("0001 registers", 0, Act::Step(Request::First, 1)),
+    ("0002 registers", 1, Act::Step(Request::Second, 1)),
+    ("both were recorded", 0, Act::Discard(2, true)),
+    ("no chapter without a base", 0, Act::CutInVain),
+    ("the first call opens", 0, Act::Step(Request::Call, 1)),
+    ("a step between", 1, Act::Apply(Request::Discovery, 1, 3)),
+    ("the second is denied", 0, Act::Step(Request::Denied, 1)),
+    ("none of three is left", 0, Act::Discard(0, false)),
+];
 
-/// The outcome of no step yet.
-fn blank() -> Outcome {
-    Outcome::noted(Note::Idle, None)
-}
-
-/// The seat makes a step of this datagram, of which nothing need be recorded. It has to get this
-/// reply.
-fn step<D: Hall, T: Ledger, U: Ledger, V: Ledger>(
-    rt: &impl Wait,
-    alloc: Global,
-    lock: &ZoneLock<FixedPool, D, T, U, V>,
-    seat: &mut Seat<D, T, U, V>,
-    bytes: &[u8],
-    reply: &[u8],
-    fact: &'static str,
-) -> Looked {
-    let memory = "memory for a step";
-    let prepared = datagram(alloc, bytes).ok_or(memory)?;
-    let mut outcome = blank();
-    lock.step(rt, seat, prepared, &mut outcome)
-        .ok()
-        .ok_or(memory)?;
-    expect(is_sent(&outcome, reply), fact)
-}
-
-/// Takes the entries out. How many there are, and whether the state in which they begin was there.
-fn discard<D: Hall, T: Ledger, U: Ledger, V: Ledger>(
-    rt: &impl Wait,
-    alloc: Global,
-    lock: &ZoneLock<FixedPool, D, T, U, V>,
-) -> (usize, bool) {
-    let Discarded { base, entries } = lock.discard(rt, Vec::new(alloc));
-    (entries.len(), base.is_some())
-}
-
-/// Registers an endpoint by each of two seats, where a chapter could be cut, so that both steps are
-/// recorded. They are let go.
-fn step_recorded<D: Hall, T: Ledger, U: Ledger, V: Ledger>(
-    rt: &impl Wait,
-    alloc: Global,
-    lock: &ZoneLock<FixedPool, D, T, U, V>,
-    seats: &mut [Seat<D, T, U, V>],
-) -> Looked {
-    let seat = seats.get_mut(0).ok_or("the first seat")?;
-    step(
-        rt,
-        alloc,
-        lock,
-        seat,
-        &RRQ_101,
-        &RCF_0001,
-        "0001 is registered",
-    )?;
-    let seat = seats.get_mut(1).ok_or("the second seat")?;
-    step(
-        rt,
-        alloc,
-        lock,
-        seat,
-        &RRQ_102,
-        &RCF_0002,
-        "0002 is registered",
-    )?;
-    let gone = discard(rt, alloc, lock);
-    expect(gone == (2, true), "both steps were recorded")
-}
-
-/// Cuts a chapter in vain then, and makes three more steps, of which none is left: one that isn't
-/// recorded, one that is, and one that isn't.
-fn step_without_a_base<D: Hall, T: Ledger, U: Ledger, V: Ledger>(
-    rt: &impl Wait,
-    alloc: Global,
-    lock: &ZoneLock<FixedPool, D, T, U, V>,
-    seats: &mut [Seat<D, T, U, V>],
-) -> Looked {
-    let denied = &ARQ_OF_A_SECOND_CALL;
-    let is_refused = matches!(lock.cut(rt), Err(CutFault::NoBase));
-    expect(
-        is_refused,
-        "no chapter is cut without the state in which it begins",
-    )?;
-    let seat = seats.get_mut(0).ok_or("the first seat")?;
-    step(
-        rt,
-        alloc,
-        lock,
-        seat,
-        &ARQ,
-        &ACF_1280,
-        "the first call opens",
-    )?;
-    let seat = seats.get_mut(1).ok_or("the second seat")?;
-    let between = apply(rt, alloc, lock, seat, &GRQ).ok_or("memory for a step")?;
-    let place = between.place;
-    drop(between);
-    expect(place == 3, "a recorded step stands behind the others")?;
-    let seat = seats.get_mut(0).ok_or("the first seat")?;
-    step(
-        rt,
-        alloc,
-        lock,
-        seat,
-        denied,
-        &ARJ,
-        "the second call is denied",
-    )?;
-    let gone = discard(rt, alloc, lock);
-    expect(gone == (0, false), "none of three steps is left")
-}
-
-/// Finds five datagrams in the history, of which no entry is left. The units of both calls were
-/// lent, and those of the second one came back.
-fn find_totals<P: Pool>(finished: &Finished<P>) -> Looked {
-    let carried = finished.carried();
-    let is_same = finished.base().is_same(finished.zone().machine());
-    expect(
-        finished.first() == 5,
-        "what is left begins behind five steps",
-    )?;
-    expect(finished.entries().is_empty(), "it has no entries")?;
-    expect(is_same, "it begins with the state of the zone")?;
-    expect(carried.datagrams == 5, "five datagrams are carried")?;
-    expect(carried.turns == 0, "no turn is carried")?;
-    expect(
-        carried.lent == u128::from(CALL + REST),
-        "the units of both calls are carried as lent",
-    )?;
-    expect(
-        carried.returned == u128::from(REST),
-        "those of the second call are carried as returned",
-    )?;
-    expect(
-        finished.zone().in_use() == CALL,
-        "those of the first call are in use",
-    )
-}
-
-/// Makes steps of which nothing is recorded where no chapter can be cut, and all where one can be.
-/// The totals of all are right.
-pub fn step_unrecorded<D: Hall, T: Ledger, U: Ledger, V: Ledger, R: Wait>(
-    rt: &R,
-    alloc: Global,
-    lock: ZoneLock<FixedPool, D, T, U, V>,
-    seats: Vec<Seat<D, T, U, V>>,
-) -> Looked {
-    let mut seats = seats;
-    let recorded = step_recorded(rt, alloc, &lock, &mut seats);
-    let unrecorded = step_without_a_base(rt, alloc, &lock, &mut seats);
-    let Ok(finished) = lock.finish(seats) else {
-        return Err("the lock is finished");
-    };
-    let are_told = find_totals(&finished);
-    drop(finished);
-    recorded.and(unrecorded).and(are_told)
-}
-
-/// Makes the steps of the first of these seats. Whether all are made.
-fn work<D: Hall, T: Ledger, U: Ledger, V: Ledger>(
-    rt: &impl Wait,
-    alloc: Global,
-    lock: &ZoneLock<FixedPool, D, T, U, V>,
-    seats: &mut [Seat<D, T, U, V>],
-) -> bool {
-    let Some(seat) = seats.first_mut() else {
-        return false;
-    };
-    let mut outcome = blank();
-    for _ in 0..STEPS {
-        let Some(prepared) = datagram(alloc, &GRQ) else {
-            return false;
-        };
-        if lock.step(rt, seat, prepared, &mut outcome).is_err() {
-            return false;
-        }
-    }
-    true
-}
-
-/// Makes the steps of two threads. Whether all are made.
-fn work_by_two<
-    D: Hall + Send + Sync,
-    T: Ledger + Send + Sync,
-    U: Ledger + Send + Sync,
-    V: Ledger + Send + Sync,
-    R: Threads + Wait + Sync,
->(
-    rt: &R,
-    alloc: Global,
-    lock: &ZoneLock<FixedPool, D, T, U, V>,
-    seats: &mut [Seat<D, T, U, V>],
-) -> bool {
-    if seats.is_empty() {
-        return false;
-    }
-    let (a, b) = seats.split_at_mut(1);
-    let (one, two) = join(rt, || work(rt, alloc, lock, a), || work(rt, alloc, lock, b));
-    one && two
-}
-
-/// Makes steps by two threads, each of which is counted, and no entry is left of any.
-pub fn count_all<
-    D: Hall + Send + Sync,
-    T: Ledger + Send + Sync,
-    U: Ledger + Send + Sync,
-    V: Ledger + Send + Sync,
-    R: Threads + Wait + Sync,
->(
-    rt: &R,
-    alloc: Global,
-    lock: ZoneLock<FixedPool, D, T, U, V>,
-    seats: Vec<Seat<D, T, U, V>>,
-) -> Looked {
-    let mut seats = seats;
-    let gone = discard(rt, alloc, &lock);
-    let have_worked = work_by_two(rt, alloc, &lock, &mut seats);
-    let Ok(finished) = lock.finish(seats) else {
-        return Err("the lock is finished");
-    };
-    let datagrams = finished.carried().datagrams;
-    let first = finished.first() as u64;
-    let is_empty = finished.entries().is_empty();
-    drop(finished);
-    expect(
-        gone == (0, true),
-        "the state in which a chapter begins is let go",
-    )?;
-    expect(have_worked, "both threads make their steps")?;
-    expect(datagrams == 2 * STEPS, "each datagram is carried")?;
-    expect(first == 2 * STEPS, "what is left begins behind all steps")?;
-    expect(is_empty, "it has no entries")
-}
+/// The units of both calls were lent, and those of the second one came back.
+const LEFT: Left = Left {
+    first: 5,
+    datagrams: 5,
+    lent: CALL + REST,
+    returned: REST,
+    fault: Some(AuditFault::NotJoined),
+    in_use: CALL,
+    ..NOTHING
+};
 
 #[test]
 fn steps_are_made_without_a_record(rt: HostRuntime) -> Looked {
-    try_deed(&rt, rt.alloc(), 2, Deed::Unrecorded)
+    let alloc = rt.alloc();
+    try_acts(&rt, alloc, scarce_zone(alloc), 2, &ROWS, &LEFT)
 }
+
+/// How many steps each thread makes.
+const STEPS: usize = 1_000;
+
+/// Each of two seats makes steps in a thread of its own, where no chapter can be cut.
+pub fn step_together<
+    D: Hall + Send + Sync,
+    T: Ledger + Send + Sync,
+    U: Ledger + Send + Sync,
+    V: Ledger + Send + Sync,
+    R: Threads + Wait + Sync,
+>(
+    rt: &R,
+    alloc: Global,
+    lock: &ZoneLock<FixedPool, D, T, U, V>,
+    seats: &mut [Seat<D, T, U, V>],
+) -> Looked {
+    let gone = lock.discard(rt, Vec::new(alloc));
+    let has_base = gone.base.is_some() && gone.entries.is_empty();
+    drop(gone);
+    for_each_mut(
+        rt,
+        seats,
+        2,
+        &|_, seat| {
+            let _: bool = step(rt, alloc, lock, seat, Request::Discovery, STEPS);
+        },
+    );
+    expect(has_base, "the state in which a chapter begins is let go")
+}
+
+/// Each datagram is carried.
+const COUNTED: Left = Left {
+    first: 2 * STEPS,
+    datagrams: 2 * STEPS as u64,
+    fault: Some(AuditFault::NotJoined),
+    ..NOTHING
+};
 
 #[test]
 fn each_unrecorded_step_of_two_threads_is_counted(rt: HostRuntime) -> Looked {
-    try_deed(&rt, rt.alloc(), 2, Deed::UnrecordedThreads)
+    let alloc = rt.alloc();
+    let made = make(&rt, alloc, zone(alloc), 2, Deed::UnrecordedThreads)?;
+    let looked = compare(&made, &COUNTED);
+    drop(made);
+    looked
 }

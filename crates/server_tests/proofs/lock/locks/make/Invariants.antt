@@ -1,4 +1,4 @@
-use Rattle.server_tests.proofs.lock.locks.try_deed.Given as goal
+use Rattle.server_tests.proofs.lock.locks.make.Given as goal
 
 -- each ledger is the blank's that is handed over, and the zone is locked as it is
 abbrev pub ghosts-open_and_do-D-Ledger : goal.ghosts-open_and_do-D-Ledger
