@@ -4,7 +4,6 @@ use crate::lock::fixtures::{Looked, all_hold};
 use crate::lock::locks::Made;
 use book_audit::{AuditFault, audit};
 use books::Receipt;
-use facts::expect;
 use std::alloc::Global;
 
 /// What the audit finds, if it finds a fault.
@@ -77,10 +76,9 @@ pub fn find_altered_receipts(alloc: Global, made: &mut Made) -> Looked {
 /// Exchanges the two receipts of a seat, then the first two of its three chapters, and then leaves
 /// out the second one. Each is found.
 pub fn find_altered_chapters(made: &mut Made) -> Looked {
-    expect(
-        made.gathered.receipts.len() == 2 && made.gathered.chapters.len() == 3,
-        "there are two receipts and three chapters",
-    )?;
+    if made.gathered.receipts.len() != 2 || made.gathered.chapters.len() != 3 {
+        return Err("there are two receipts and three chapters");
+    }
     made.gathered.receipts.swap(0, 1);
     let disordered = fault(made);
     made.gathered.receipts.swap(0, 1);

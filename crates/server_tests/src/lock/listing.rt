@@ -16,16 +16,22 @@ use zone_view::{CallRow, EndpointRow, ZoneFigures};
 /// Compares a list with so many endpoints and worked calls.
 pub fn compare_listing(listing: &Listing, endpoints: usize, calls: usize) -> Looked {
     let listed = listing.calls.as_slice();
-    let are_worked = listed.iter().all(|(_, call)| u64::from(call.units) == CALL);
+    let mut units = 0u64;
+    for (_, call) in listed {
+        units = units.saturating_add(u64::from(call.units));
+    }
     all_hold(&[
         (
             listing.endpoints.as_slice().len() == endpoints,
             "the endpoints are listed",
         ),
         (listed.len() == calls, "the calls are listed"),
-        (are_worked, "each call is listed with its units"),
         (
-            listing.in_use == CALL * calls as u64,
+            units == listing.in_use,
+            "the calls are listed with their units",
+        ),
+        (
+            listing.in_use == CALL.saturating_mul(calls as u64),
             "they are listed as in use",
         ),
         (listing.limit == LIMIT, "the zone's limit is listed"),

@@ -48,7 +48,7 @@ fn go_on<D: Hall, T: Ledger, U: Ledger, V: Ledger>(
     let prepared = datagram(alloc, &discovery(thread, step))?;
     let receipt = lock.apply(rt, &mut place.seat, prepared).ok()?;
     place.gathered.receipts.push(receipt).ok()?;
-    if thread == 0 && (step + 1) % CHAPTER == 0 {
+    if thread == 0 && step % CHAPTER == CHAPTER - 1 {
         place.gathered.chapters.push(lock.cut(rt).ok()?).ok()?;
     }
     Some(())

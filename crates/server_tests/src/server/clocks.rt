@@ -46,3 +46,19 @@ impl Moments for Leap<'_> {
         Moment::new(self.to).unwrap_or(Moment::START)
     }
 }
+
+/// Two such clocks, which leap to the same millisecond: the first one once so many replies were
+/// sent, and the second one, that of the timers, once so many were.
+pub fn leaps<'a>(
+    alloc: Global,
+    sent: &'a AtomicU64,
+    first: u64,
+    second: u64,
+    to: u64,
+) -> Option<Vec<Leap<'a>>> {
+    let mut clocks = Vec::new(alloc);
+    for awaited in [first, second] {
+        clocks.push(Leap { sent, awaited, to }).ok()?;
+    }
+    Some(clocks)
+}

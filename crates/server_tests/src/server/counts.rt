@@ -5,9 +5,10 @@ ghost use Rattle.udp_server.specs.Ends.{fault_count};
 ghost use Rattle.udp_server.specs.Plans.{IsPlan};
 
 use crate::server::clocks::clocks;
-use crate::server::fixtures::{ENDPOINT, Looked, NOT_SERVED, PLAN, discovery, zone};
-use facts::expect;
-use pools::{FixedPool, Pool};
+use crate::server::fixtures::{
+    ENDPOINT, Looked, NOT_SERVED, PLAN, all_hold, discovery, outputs, zone,
+};
+use pools::FixedPool;
 use std::alloc::Global;
 use std::rt::Clock;
 use std::sync::Wait;
@@ -117,17 +118,6 @@ fn served<R: Threads + Wait + Clock + Sync>(
     .ok()
 }
 
-/// How many entries have an output.
-fn outputs<P: Pool>(report: &Report<P>) -> u64 {
-    let mut outputs = 0u64;
-    for entry in report.finished.entries() {
-        if entry.outcome.output.is_some() {
-            outputs = outputs.saturating_add(1);
-        }
-    }
-    outputs
-}
-
 /// Two failed receives, which a quiet one parts from three more; what comes behind isn't received.
 const FAILING: [Deed; 8] = [
     Deed::Gives,
@@ -199,14 +189,16 @@ const GIVING: [Deed; MANY as usize] = [Deed::Gives; MANY as usize];
 fn count_replies<R: Threads + Wait + Clock + Sync>(rt: &R, alloc: Global) -> Looked {
     let plan = Plan { ring: 1, ..PLAN };
     let report = served(rt, alloc, &GIVING, plan).ok_or(NOT_SERVED)?;
-    let replies = outputs(&report);
-    let (sent, dropped, failed) = (report.sent, report.dropped, report.send_faults);
-    drop(report);
-    let counted = sent.saturating_add(dropped).saturating_add(failed);
+    let (sent, failed) = (report.sent, report.send_faults);
+    let counted = sent.saturating_add(report.dropped).saturating_add(failed);
     let is_half = sent == failed || sent == failed.saturating_add(1);
-    expect(replies == MANY, "each datagram is answered")?;
-    expect(counted == MANY, "each reply is counted once")?;
-    expect(is_half, "every second send failed")
+    let looked = all_hold(&[
+        (outputs(&report) == MANY, "each datagram is answered"),
+        (counted == MANY, "each reply is counted once"),
+        (is_half, "every second send failed"),
+    ]);
+    drop(report);
+    looked
 }
 
 #[test]

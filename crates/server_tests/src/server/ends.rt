@@ -3,7 +3,7 @@
 ghost use Rattle.std.specs.Prelude.{◌≤◌, length};
 ghost use Rattle.udp_server.specs.Ends.{IsWithin};
 
-use crate::server::fixtures::{ENDPOINT, discovery};
+use crate::server::fixtures::{CALLED, ENDPOINT, discovery};
 use ras_module::Source;
 use std::alloc::Global;
 use std::rt::Clock;
@@ -11,6 +11,7 @@ use std::sync::atomic::{AtomicU64, Ordering};
 use std::thread;
 use std::time::Duration;
 use udp_server::{Datagrams, DeviceFault, Received};
+use vectors::requests::{ARQ, RRQ_101, RRQ_102};
 use zone_events::Datagram;
 
 /// For how many milliseconds an end waits for the timers at most.
@@ -19,13 +20,32 @@ const PATIENCE: u64 = 10_000;
 /// What the ends of a run share.
 #[derive(Drop)]
 pub struct Room<'a, R> {
-    pub rt: &'a R,
+    rt: &'a R,
     /// How many datagrams were sent.
-    pub sent: &'a AtomicU64,
+    sent: AtomicU64,
     /// How often the timers' clock was read.
-    pub reads: &'a AtomicU64,
+    pub reads: AtomicU64,
     /// How many ends lost their patience.
-    pub impatient: &'a AtomicU64,
+    impatient: AtomicU64,
+}
+
+impl<'a, R> Room<'a, R> {
+    pub fn new(rt: &'a R) -> Self {
+        Room {
+            rt,
+            sent: AtomicU64::new(0),
+            reads: AtomicU64::new(0),
+            impatient: AtomicU64::new(0),
+        }
+    }
+
+    pub fn sent(&self) -> u64 {
+        self.sent.load(Ordering::SeqCst)
+    }
+
+    pub fn impatient(&self) -> u64 {
+        self.impatient.load(Ordering::SeqCst)
+    }
 }
 
 /// An end that gives `left` discoveries, then is quiet until the timers' clock was read some times
@@ -116,6 +136,61 @@ pub fn givers<'a, R: Clock>(
             .ok()?;
     }
     Some(all)
+}
+
+/// An end that gives so many requests, of which `left` are left: two registrations and the
+/// admission of a call, and then discoveries. It is quiet until as many replies were sent, and then
+/// has stopped.
+#[derive(Drop)]
+pub struct Caller<'a, R> {
+    rt: &'a R,
+    sent: &'a AtomicU64,
+    all: u64,
+    left: u64,
+    patience: u64,
+}
+
+impl<'a, R: Clock> Caller<'a, R> {
+    pub fn new(rt: &'a R, sent: &'a AtomicU64, all: u64, left: u64) -> Self {
+        Caller {
+            rt,
+            sent,
+            all,
+            left,
+            patience: PATIENCE,
+        }
+    }
+}
+
+impl<R: Clock> Datagrams for Caller<'_, R> {
+    ghost faults = { λ end. 0 };
+
+    fn receive(&mut self, buffer: &mut [u8; 4_097]) -> Result<Received, DeviceFault> {
+        if self.left == 0 {
+            if self.sent.load(Ordering::SeqCst) >= self.all || self.patience == 0 {
+                return Ok(Received::Stopped);
+            }
+            self.patience -= 1;
+            thread::sleep(self.rt, Duration::from_millis(1));
+            return Ok(Received::Quiet);
+        }
+        self.left -= 1;
+        Ok(match self.all.saturating_sub(self.left) {
+            1 => given(buffer, ENDPOINT, &RRQ_101),
+            2 => given(buffer, CALLED, &RRQ_102),
+            3 => given(buffer, ENDPOINT, &ARQ),
+            _ => given(buffer, ENDPOINT, &discovery(0, self.left)),
+        })
+    }
+
+    fn send(&mut self, _datagram: &Datagram) -> Result<(), DeviceFault> {
+        self.sent.fetch_add(1, Ordering::SeqCst);
+        Ok(())
+    }
+
+    fn failures(&self) -> u64 {
+        0
+    }
 }
 
 /// A datagram with these octets.

@@ -4,10 +4,9 @@ ghost use Rattle.std.specs.Prelude.{◌≡◌};
 ghost use Rattle.udp_server.specs.Ends.{fault_count};
 
 use crate::server::clocks::clocks;
-use crate::server::fixtures::{ENDPOINT, Looked, NOT_SERVED, PLAN, zone};
+use crate::server::fixtures::{ENDPOINT, Looked, NOT_SERVED, PLAN, all_hold, outputs, zone};
 use book_audit::audit;
-use facts::expect;
-use pools::{FixedPool, Pool};
+use pools::FixedPool;
 use ras_core::Note;
 use std::alloc::Global;
 use std::rt::Clock;
@@ -173,27 +172,21 @@ fn served<R: Threads + Wait + Clock + Sync>(
     .ok()
 }
 
-/// How many entries have an output.
-fn outputs<P: Pool>(report: &Report<P>) -> u64 {
-    let entries = report.finished.entries().iter();
-    entries
-        .filter(|entry| entry.outcome.output.is_some())
-        .count() as u64
-}
-
 /// Compares a report in which this count of calls has failed: each output was sent, dropped or lost
 /// by a failed send, and the receipts pass their audit.
-fn compare_failed<P: Pool>(report: &Report<P>, failed: u64) -> Looked {
+fn compare_failed(report: &Report<FixedPool>, failed: u64) -> Looked {
     let tried = report.sent.saturating_add(report.send_faults);
     let became = tried.saturating_add(report.dropped);
     let faults = report.receive_faults.saturating_add(report.send_faults);
     let audited = audit(&report.chapters, &report.finished, &report.receipts).is_ok();
-    expect(
-        became == outputs(report),
-        "each output was sent, dropped or lost",
-    )?;
-    expect(faults == failed, "each failed call is counted")?;
-    expect(audited, "the receipts agree with the history")
+    all_hold(&[
+        (
+            became == outputs(report),
+            "each output was sent, dropped or lost",
+        ),
+        (faults == failed, "each failed call is counted"),
+        (audited, "the receipts agree with the history"),
+    ])
 }
 
 /// Two requests, the first of them twice: it is answered by its kept reply then.
@@ -222,45 +215,44 @@ fn serve_failing<R: Threads + Wait + Clock + Sync>(
 /// Which call is tried at most, of those that fail one after the other.
 const LAST_CALL: u64 = 100;
 
-/// Serves while a receive fails, each time another one, until none does. In how many runs one did.
-fn fail_receives<R: Threads + Wait + Clock + Sync>(
-    rt: &R,
-    alloc: Global,
-) -> Result<u64, &'static str> {
-    for receive in 0..LAST_CALL {
-        if !serve_failing(rt, alloc, receive, NEVER)? {
-            return Ok(receive);
-        }
-    }
-    Err("the receives of a run come to an end")
+/// Which calls fail.
+#[derive(Clone, Copy)]
+enum Calls {
+    Receives,
+    Sends,
 }
 
-/// The same of sends.
-fn fail_sends<R: Threads + Wait + Clock + Sync>(
+/// Serves while a call fails, each time another one, until none does. In how many runs one did.
+fn fail_in_turn<R: Threads + Wait + Clock + Sync>(
     rt: &R,
     alloc: Global,
+    calls: Calls,
 ) -> Result<u64, &'static str> {
-    for send in 0..LAST_CALL {
-        if !serve_failing(rt, alloc, NEVER, send)? {
-            return Ok(send);
+    for call in 0..LAST_CALL {
+        let (receive, send) = match calls {
+            Calls::Receives => (call, NEVER),
+            Calls::Sends => (NEVER, call),
+        };
+        if !serve_failing(rt, alloc, receive, send)? {
+            return Ok(call);
         }
     }
-    Err("the sends of a run come to an end")
+    Err("the calls of a run come to an end")
 }
 
 #[test]
 fn each_receive_fails_in_turn(rt: HostRuntime) {
     // Three give a datagram, and the fourth one tells that the end has stopped.
-    assert!(rt; fail_receives(&rt, rt.alloc()) == Ok(4));
+    assert!(rt; fail_in_turn(&rt, rt.alloc(), Calls::Receives) == Ok(4));
 }
 
 #[test]
 fn each_send_fails_in_turn(rt: HostRuntime) {
-    assert!(rt; fail_sends(&rt, rt.alloc()) == Ok(3));
+    assert!(rt; fail_in_turn(&rt, rt.alloc(), Calls::Sends) == Ok(3));
 }
 
 /// The counts of a report but for its turns.
-fn counts<P: Pool>(report: &Report<P>) -> (u64, u64, u64, u64, u64, u64) {
+fn counts(report: &Report<FixedPool>) -> (u64, u64, u64, u64, u64, u64) {
     (
         report.datagrams,
         report.sent,
@@ -289,7 +281,7 @@ fn a_failed_receive_loses_no_datagram(rt: HostRuntime) {
 }
 
 /// The note of the entry of a datagram that has this many before it.
-fn note_behind<P: Pool>(report: &Report<P>, before: usize) -> Option<Note> {
+fn note_behind(report: &Report<FixedPool>, before: usize) -> Option<Note> {
     let mut left = before;
     for entry in report.finished.entries() {
         if matches!(&entry.event, Change::Event(Event::Datagram(_, _, _))) {
@@ -308,16 +300,23 @@ fn send_again<R: Threads + Wait + Clock + Sync>(rt: &R, alloc: Global) -> Looked
     const TWICE: [Discovery; 2] = [Discovery::Confirmed, Discovery::Confirmed];
     let (receiver, sender) = (Record::new(NEVER), Record::new(0));
     let report = served(rt, alloc, &receiver, &sender, &TWICE).ok_or(NOT_SERVED)?;
-    let counts = counts(&report);
-    let (first, second) = (note_behind(&report, 0), note_behind(&report, 1));
+    let looked = all_hold(&[
+        (
+            counts(&report) == (2, 1, 0, 0, 0, 1),
+            "one of two replies is sent, and the other one lost",
+        ),
+        (
+            note_behind(&report, 0) == Some(Note::Served),
+            "the request is served",
+        ),
+        (
+            note_behind(&report, 1) == Some(Note::Kept),
+            "its repeat gets the kept reply",
+        ),
+        (sender.confirms() == 1, "the confirm is sent once"),
+    ]);
     drop(report);
-    expect(
-        counts == (2, 1, 0, 0, 0, 1),
-        "one of two replies is sent, and the other one lost",
-    )?;
-    expect(first == Some(Note::Served), "the request is served")?;
-    expect(second == Some(Note::Kept), "its repeat gets the kept reply")?;
-    expect(sender.confirms() == 1, "the confirm is sent once")
+    looked
 }
 
 #[test]

@@ -1,8 +1,9 @@
 //! The zone of the worked examples, and how it is served.
 
-pub use crate::shared::{CALL, Looked};
+pub use crate::shared::{CALL, Looked, all_hold};
+use pools::FixedPool;
 use ras_module::{Address, Source};
-use udp_server::Plan;
+use udp_server::{Plan, Report};
 use vectors::requests::GRQ;
 pub use worked_zone::{CALL_LIMIT, ENDPOINT, POOL, zone};
 
@@ -32,4 +33,15 @@ pub fn discovery(end: u8, left: u64) -> [u8; 20] {
     bytes[2] = end % 16;
     bytes[3] = (left % 256) as u8;
     bytes
+}
+
+/// How many entries have an output.
+pub fn outputs(report: &Report<FixedPool>) -> u64 {
+    let mut outputs = 0u64;
+    for entry in report.finished.entries() {
+        if entry.outcome.output.is_some() {
+            outputs = outputs.saturating_add(1);
+        }
+    }
+    outputs
 }

@@ -5,8 +5,7 @@ ghost use Rattle.udp_server.specs.Plans.{IsPlan};
 
 use crate::server::clocks::clocks;
 use crate::server::ends::{Giver, Room, givers};
-use crate::server::fixtures::{Looked, NOT_SERVED, PLAN, zone};
-use facts::expect;
+use crate::server::fixtures::{Looked, NOT_SERVED, PLAN, all_hold, zone};
 use pools::FixedPool;
 use std::alloc::Global;
 use std::rt::Clock;
@@ -79,7 +78,7 @@ fn report<R: Threads + Wait + Clock + Sync>(
 ) -> Option<Report<FixedPool>> {
     let zone = zone(alloc)?;
     let receivers = givers(alloc, room, 4, DATAGRAMS, 3)?;
-    let clocks = clocks(alloc, 4, room.reads)?;
+    let clocks = clocks(alloc, 4, &room.reads)?;
     let sender = Giver::new(room, 0, 0, 0);
     let mut watchers = Vec::new(alloc);
     watchers.push(taker).ok()?;
@@ -100,14 +99,7 @@ fn report<R: Threads + Wait + Clock + Sync>(
 
 /// Serves while entries are taken: each is, once, in order, and none is left.
 fn serve_and_take<R: Threads + Wait + Clock + Sync>(rt: &R, alloc: Global) -> Looked {
-    let (sent, reads, impatient) = (AtomicU64::new(0), AtomicU64::new(0), AtomicU64::new(0));
-    let (taken, has_gap) = (AtomicU64::new(0), AtomicBool::new(false));
-    let room = Room {
-        rt,
-        sent: &sent,
-        reads: &reads,
-        impatient: &impatient,
-    };
+    let (room, taken, has_gap) = (Room::new(rt), AtomicU64::new(0), AtomicBool::new(false));
     let taker = Taker {
         rt,
         alloc,
@@ -115,22 +107,20 @@ fn serve_and_take<R: Threads + Wait + Clock + Sync>(rt: &R, alloc: Global) -> Lo
         has_gap: &has_gap,
     };
     let report = report(rt, alloc, &room, taker).ok_or(NOT_SERVED)?;
-    let (datagrams, steps) = (
-        report.datagrams,
-        report.datagrams.saturating_add(report.turns),
-    );
-    let is_empty = report.finished.entries().is_empty();
+    let steps = report.datagrams.saturating_add(report.turns);
+    let is_followed = !has_gap.load(Ordering::SeqCst);
+    let taken = taken.load(Ordering::SeqCst);
+    let looked = all_hold(&[
+        (
+            report.datagrams == 4 * DATAGRAMS,
+            "all datagrams are served",
+        ),
+        (is_followed, "entries follow one another"),
+        (taken == steps, "each step is taken once"),
+        (report.finished.entries().is_empty(), "nothing is left"),
+    ]);
     drop(report);
-    expect(datagrams == 4 * DATAGRAMS, "all datagrams are served")?;
-    expect(
-        !has_gap.load(Ordering::SeqCst),
-        "entries follow one another",
-    )?;
-    expect(
-        taken.load(Ordering::SeqCst) == steps,
-        "each step is taken once",
-    )?;
-    expect(is_empty, "nothing is left")
+    looked
 }
 
 #[test]

@@ -1,10 +1,8 @@
 //! Orders that are carried out while a server runs.
 
-use crate::server::clocks::Leap;
-use crate::server::ends::given;
-use crate::server::fixtures::{
-    CALL, CALL_LIMIT, CALLED, ENDPOINT, Looked, NOT_SERVED, PLAN, POOL, zone,
-};
+use crate::server::clocks::leaps;
+use crate::server::ends::Caller;
+use crate::server::fixtures::{CALL, CALL_LIMIT, Looked, NOT_SERVED, PLAN, POOL, all_hold, zone};
 use book_audit::audit;
 use facts::expect;
 use pools::{FixedPool, Pool};
@@ -12,64 +10,18 @@ use ras_core::Moment;
 use std::alloc::Global;
 use std::rt::Clock;
 use std::sync::Wait;
-use std::sync::atomic::{AtomicU64, Ordering};
-use std::thread;
+use std::sync::atomic::AtomicU64;
 use std::thread::Threads;
-use std::time::Duration;
-use udp_server::{Datagrams, DeviceFault, Open, PoolOrder, Received, Report, serve_zone};
-use vectors::requests::{ARQ, RRQ_101, RRQ_102};
-use zone_events::Datagram;
+use udp_server::{Open, PoolOrder, Report, serve_zone};
 
 /// How many requests there are: two registrations, and an admission of 1,280 units.
 const REQUESTS: u64 = 3;
-
-/// For how many milliseconds the end waits for the replies at most.
-const PATIENCE: u64 = 10_000;
 
 /// The millisecond at which the clock of the timers stands once each request has its reply.
 const SECOND: u64 = 1_000;
 
 /// The units of the fresh pool.
 const FRESH: u64 = CALL_LIMIT;
-
-/// An end that gives `left` requests, is quiet until each has its reply, and then has stopped.
-#[derive(Drop)]
-struct Caller<'a, R> {
-    rt: &'a R,
-    sent: &'a AtomicU64,
-    left: u64,
-    patience: u64,
-}
-
-impl<R: Clock> Datagrams for Caller<'_, R> {
-    ghost faults = { λ end. 0 };
-
-    fn receive(&mut self, buffer: &mut [u8; 4_097]) -> Result<Received, DeviceFault> {
-        if self.left == 0 {
-            if self.sent.load(Ordering::SeqCst) >= REQUESTS || self.patience == 0 {
-                return Ok(Received::Stopped);
-            }
-            self.patience -= 1;
-            thread::sleep(self.rt, Duration::from_millis(1));
-            return Ok(Received::Quiet);
-        }
-        self.left -= 1;
-        Ok(match REQUESTS.saturating_sub(self.left) {
-            1 => given(buffer, ENDPOINT, &RRQ_101),
-            2 => given(buffer, CALLED, &RRQ_102),
-            _ => given(buffer, ENDPOINT, &ARQ),
-        })
-    }
-
-    fn send(&mut self, _datagram: &Datagram) -> Result<(), DeviceFault> {
-        self.sent.fetch_add(1, Ordering::SeqCst);
-        Ok(())
-    }
-
-    fn failures(&self) -> u64 {
-        0
-    }
-}
 
 /// From this millisecond on, a pool of this limit is to take the place of that one.
 fn order(at: u64, pool: usize, limit: u64) -> Option<PoolOrder<FixedPool>> {
@@ -88,22 +40,13 @@ fn report<R: Threads + Wait + Clock + Sync>(
     orders: Vec<PoolOrder<FixedPool>>,
 ) -> Option<Report<FixedPool>> {
     let sent = AtomicU64::new(0);
-    let caller = |left: u64| Caller {
-        rt,
-        sent: &sent,
-        left,
-        patience: PATIENCE,
-    };
-    let mut receivers = Vec::new(alloc);
-    receivers.push(caller(REQUESTS)).ok()?;
-    let mut clocks = Vec::new(alloc);
-    for awaited in [u64::MAX, REQUESTS] {
-        let sent = &sent;
-        let to = SECOND;
-        clocks.push(Leap { sent, awaited, to }).ok()?;
-    }
     let zone = zone(alloc)?;
-    let sender = caller(0);
+    let mut receivers = Vec::new(alloc);
+    receivers
+        .push(Caller::new(rt, &sent, REQUESTS, REQUESTS))
+        .ok()?;
+    let sender = Caller::new(rt, &sent, REQUESTS, 0);
+    let clocks = leaps(alloc, &sent, u64::MAX, REQUESTS, SECOND)?;
     serve_zone(
         rt, alloc, zone, receivers, sender, &Open, clocks, orders, PLAN,
     )
@@ -112,26 +55,28 @@ fn report<R: Threads + Wait + Clock + Sync>(
 
 /// Compares a report with that of three datagrams, of the call's units lent and none returned, and
 /// of one pool that was replaced. The call's units are in use.
-fn compare_report<P: Pool>(report: &Report<P>) -> Looked {
+fn compare_report(report: &Report<FixedPool>) -> Looked {
     let Ok(totals) = audit(&report.chapters, &report.finished, &report.receipts) else {
         return Err("the receipts agree with the history");
     };
-    expect(report.changes == 1, "the report counts one replaced pool")?;
-    expect(report.refused == 0, "no step was refused")?;
-    expect(
-        totals.datagrams == REQUESTS,
-        "the audit counts three datagrams",
-    )?;
-    expect(
-        totals.lent == u128::from(CALL),
-        "it counts the call's units as lent",
-    )?;
-    expect(totals.returned == 0, "it counts none as returned")?;
-    expect(totals.changes == 1, "it counts one replaced pool")?;
-    expect(
-        report.finished.zone().in_use() == CALL,
-        "the call's units are in use",
-    )
+    all_hold(&[
+        (report.changes == 1, "the report counts one replaced pool"),
+        (report.refused == 0, "no step was refused"),
+        (
+            totals.datagrams == REQUESTS,
+            "the audit counts three datagrams",
+        ),
+        (
+            totals.lent == u128::from(CALL),
+            "it counts the call's units as lent",
+        ),
+        (totals.returned == 0, "it counts none as returned"),
+        (totals.changes == 1, "it counts one replaced pool"),
+        (
+            report.finished.zone().in_use() == CALL,
+            "the call's units are in use",
+        ),
+    ])
 }
 
 /// Whether this came back for an order: the pool's number, this pool with nothing lent, and whether
@@ -175,19 +120,21 @@ fn compare_four_boxes(boxes: &[(usize, FixedPool, bool)]) -> Looked {
     let [nowhere, made, small, late] = boxes else {
         return Err("four pools come back");
     };
-    expect(
-        is_back(nowhere, 7, 900, false),
-        "the first one is for a pool that isn't there",
-    )?;
-    expect(
-        is_back(made, 0, POOL, true),
-        "the second one is the old pool",
-    )?;
-    expect(
-        is_back(small, 0, CALL - 1, false),
-        "the third one has too few units",
-    )?;
-    expect(is_back(late, 0, 5_000, false), "the fourth one is too late")
+    all_hold(&[
+        (
+            is_back(nowhere, 7, 900, false),
+            "the first one is for a pool that isn't there",
+        ),
+        (
+            is_back(made, 0, POOL, true),
+            "the second one is the old pool",
+        ),
+        (
+            is_back(small, 0, CALL - 1, false),
+            "the third one has too few units",
+        ),
+        (is_back(late, 0, 5_000, false), "the fourth one is too late"),
+    ])
 }
 
 /// Hands back the fresh pools of orders that can't be carried out: for a pool that isn't there, of

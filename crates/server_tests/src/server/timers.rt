@@ -3,11 +3,10 @@
 
 ghost use Rattle.udp_server.specs.Plans.{IsPlan};
 
-use crate::server::clocks::Leap;
-use crate::server::ends::given;
-use crate::server::fixtures::{CALLED, ENDPOINT, Looked, NOT_SERVED, PLAN, discovery, zone};
-use facts::expect;
-use pools::Pool;
+use crate::server::clocks::leaps;
+use crate::server::ends::{Caller, given};
+use crate::server::fixtures::{ENDPOINT, Looked, NOT_SERVED, PLAN, all_hold, zone};
+use pools::{FixedPool, Pool};
 use ras_core::{Change, Event, Moment};
 use std::alloc::Global;
 use std::rt::Clock;
@@ -17,7 +16,7 @@ use std::thread;
 use std::thread::Threads;
 use std::time::Duration;
 use udp_server::{Datagrams, DeviceFault, Gate, Open, Plan, Received, Report, Stage, serve_zone};
-use vectors::requests::{ARQ, GRQ, RRQ_101, RRQ_102};
+use vectors::requests::GRQ;
 use zone_events::Datagram;
 
 /// How many requests there are: two registrations and an admission, and then discoveries.
@@ -26,53 +25,9 @@ const REQUESTS: u64 = 120;
 /// The number of the worker of the timers: the other one is 0.
 const TIMERS: usize = 1;
 
-/// For how many milliseconds the end waits for the replies at most.
-const PATIENCE: u64 = 10_000;
-
 /// How many milliseconds after its start the clock of the timers leaps to: by then each kept reply
 /// is over, and the endpoint that is in the call was silent for too long.
 const AHEAD: u64 = 40_000;
-
-/// An end that gives `left` requests, is quiet until that many replies were sent, and then has
-/// stopped.
-#[derive(Drop)]
-struct Caller<'a, R> {
-    rt: &'a R,
-    sent: &'a AtomicU64,
-    left: u64,
-    patience: u64,
-}
-
-impl<R: Clock> Datagrams for Caller<'_, R> {
-    ghost faults = { λ end. 0 };
-
-    fn receive(&mut self, buffer: &mut [u8; 4_097]) -> Result<Received, DeviceFault> {
-        if self.left == 0 {
-            if self.sent.load(Ordering::SeqCst) >= REQUESTS || self.patience == 0 {
-                return Ok(Received::Stopped);
-            }
-            self.patience -= 1;
-            thread::sleep(self.rt, Duration::from_millis(1));
-            return Ok(Received::Quiet);
-        }
-        self.left -= 1;
-        Ok(match REQUESTS.saturating_sub(self.left) {
-            1 => given(buffer, ENDPOINT, &RRQ_101),
-            2 => given(buffer, CALLED, &RRQ_102),
-            3 => given(buffer, ENDPOINT, &ARQ),
-            _ => given(buffer, ENDPOINT, &discovery(0, self.left)),
-        })
-    }
-
-    fn send(&mut self, _datagram: &Datagram) -> Result<(), DeviceFault> {
-        self.sent.fetch_add(1, Ordering::SeqCst);
-        Ok(())
-    }
-
-    fn failures(&self) -> u64 {
-        0
-    }
-}
 
 /// A gate that holds the worker of the timers once for a while, before the first step at which its
 /// clock is ahead: the other worker has ended by then, and the sender waits for this one alone.
@@ -113,23 +68,13 @@ fn do_all<R: Threads + Wait + Clock + Sync>(rt: &R, alloc: Global, plan: Plan) -
     requires { IsPlan plan }
 {
     let (sent, was_held) = (AtomicU64::new(0), AtomicBool::new(false));
-    let caller = |left: u64| Caller {
-        rt,
-        sent: &sent,
-        left,
-        patience: PATIENCE,
-    };
     let mut receivers = Vec::new(alloc);
-    receivers.push(caller(REQUESTS)).ok().ok_or(NOT_SERVED)?;
-    let mut clocks = Vec::new(alloc);
-    for awaited in [u64::MAX, REQUESTS] {
-        let sent = &sent;
-        let to = AHEAD;
-        clocks
-            .push(Leap { sent, awaited, to })
-            .ok()
-            .ok_or(NOT_SERVED)?;
-    }
+    receivers
+        .push(Caller::new(rt, &sent, REQUESTS, REQUESTS))
+        .ok()
+        .ok_or(NOT_SERVED)?;
+    let clocks = leaps(alloc, &sent, u64::MAX, REQUESTS, AHEAD).ok_or(NOT_SERVED)?;
+    let sender = Caller::new(rt, &sent, REQUESTS, 0);
     let gate = Late {
         rt,
         sent: &sent,
@@ -141,7 +86,7 @@ fn do_all<R: Threads + Wait + Clock + Sync>(rt: &R, alloc: Global, plan: Plan) -
         alloc,
         zone,
         receivers,
-        caller(0),
+        sender,
         &gate,
         clocks,
         Vec::new(alloc),
@@ -153,19 +98,21 @@ fn do_all<R: Threads + Wait + Clock + Sync>(rt: &R, alloc: Global, plan: Plan) -
 }
 
 /// Compares a report with that of a server that did all that was due.
-fn compare_done<P: Pool>(report: &Report<P>) -> Looked {
+fn compare_done(report: &Report<FixedPool>) -> Looked {
     let ahead = Moment::new(AHEAD).ok_or("there is such a moment")?;
     let due = report.finished.zone().machine().due(ahead);
-    expect(due.is_none(), "nothing is due any more")?;
-    expect(
-        report.sent == REQUESTS + 1,
-        "each reply was sent, and one question",
-    )?;
-    expect(report.dropped == 0, "each found its place")?;
-    expect(
-        report.turns > REQUESTS,
-        "a turn was made for each kept reply, and one more",
-    )
+    all_hold(&[
+        (due.is_none(), "nothing is due any more"),
+        (
+            report.sent == REQUESTS + 1,
+            "each reply was sent, and one question",
+        ),
+        (report.dropped == 0, "each found its place"),
+        (
+            report.turns > REQUESTS,
+            "a turn was made for each kept reply, and one more",
+        ),
+    ])
 }
 
 #[test]
@@ -183,6 +130,12 @@ fn what_is_due_is_done_at_once_without_a_record(rt: HostRuntime) -> Looked {
 struct Waiting<'a> {
     passed: &'a AtomicU64,
     is_done: bool,
+}
+
+impl<'a> Waiting<'a> {
+    fn new(passed: &'a AtomicU64, is_done: bool) -> Self {
+        Waiting { passed, is_done }
+    }
 }
 
 impl Datagrams for Waiting<'_> {
@@ -210,31 +163,19 @@ impl Datagrams for Waiting<'_> {
 /// began to wait.
 fn serve_one<R: Threads + Wait + Clock + Sync>(rt: &R, alloc: Global) -> Looked {
     let passed = AtomicU64::new(0);
-    let end = |is_done: bool| Waiting {
-        passed: &passed,
-        is_done,
-    };
     let mut receivers = Vec::new(alloc);
-    receivers.push(end(false)).ok().ok_or(NOT_SERVED)?;
-    let mut clocks = Vec::new(alloc);
-    for _worker in 0..2 {
-        let sent = &passed;
-        clocks
-            .push(Leap {
-                sent,
-                awaited: 1,
-                to: AHEAD,
-            })
-            .ok()
-            .ok_or(NOT_SERVED)?;
-    }
+    receivers
+        .push(Waiting::new(&passed, false))
+        .ok()
+        .ok_or(NOT_SERVED)?;
+    let clocks = leaps(alloc, &passed, 1, 1, AHEAD).ok_or(NOT_SERVED)?;
     let zone = zone(alloc).ok_or(NOT_SERVED)?;
     let report = serve_zone(
         rt,
         alloc,
         zone,
         receivers,
-        end(true),
+        Waiting::new(&passed, true),
         &Open,
         clocks,
         Vec::new(alloc),
@@ -246,18 +187,18 @@ fn serve_one<R: Threads + Wait + Clock + Sync>(rt: &R, alloc: Global) -> Looked 
 }
 
 /// Compares a report with that of one datagram, which came when the clock was ahead.
-fn compare_moment<P: Pool>(report: &Report<P>) -> Looked {
+fn compare_moment(report: &Report<FixedPool>) -> Looked {
     let came = Moment::new(AHEAD).ok_or("there is such a moment")?;
-    let is_late = report
-        .finished
-        .entries()
-        .iter()
-        .all(|entry| match &entry.event {
-            Change::Event(Event::Datagram(_, _, moment)) => *moment == came,
-            Change::Event(Event::Turn(_)) | Change::PoolChange(_) => true,
-        });
-    expect(is_late, "the datagram has the moment at which it came")?;
-    expect(report.datagrams == 1, "one datagram is counted")
+    let mut is_late = true;
+    for entry in report.finished.entries() {
+        if let Change::Event(Event::Datagram(_, _, moment)) = &entry.event {
+            is_late = is_late && *moment == came;
+        }
+    }
+    all_hold(&[
+        (is_late, "the datagram has the moment at which it came"),
+        (report.datagrams == 1, "one datagram is counted"),
+    ])
 }
 
 #[test]

@@ -2,9 +2,8 @@
 //! anywhere.
 
 use crate::server::clocks::clocks;
-use crate::server::fixtures::{Looked, NOT_SERVED, PLAN, zone};
+use crate::server::fixtures::{Looked, NOT_SERVED, PLAN, all_hold, zone};
 use crate::server::meeting::{Guest, Held, Meeting};
-use facts::expect;
 use std::alloc::Global;
 use std::rt::Clock;
 use std::sync::Wait;
@@ -52,14 +51,10 @@ fn serve_two<R: Threads + Wait + Clock + Sync>(
     let reads = AtomicU64::new(0);
     let zone = zone(alloc).ok_or(NOT_SERVED)?;
     let mut receivers = Vec::new(alloc);
-    receivers
-        .push(Guest::new(meeting, 0))
-        .ok()
-        .ok_or(NOT_SERVED)?;
-    receivers
-        .push(Guest::new(meeting, 1))
-        .ok()
-        .ok_or(NOT_SERVED)?;
+    for worker in 0..2 {
+        let end = Guest::new(meeting, worker);
+        receivers.push(end).ok().ok_or(NOT_SERVED)?;
+    }
     let clocks = clocks(alloc, 2, &reads).ok_or(NOT_SERVED)?;
     let sender = Guest::new(meeting, 2);
     let report = serve_zone(
@@ -75,14 +70,14 @@ fn serve_two<R: Threads + Wait + Clock + Sync>(
     )
     .ok()
     .ok_or(NOT_SERVED)?;
-    let (datagrams, sent) = (report.datagrams, report.sent);
+    let impatient = meeting.impatient.load(Ordering::SeqCst);
+    let looked = all_hold(&[
+        (report.datagrams == 2, "both datagrams are served"),
+        (report.sent == 2, "both are answered"),
+        (impatient == 0, "nobody is held for too long"),
+    ]);
     drop(report);
-    expect(datagrams == 2, "both datagrams are served")?;
-    expect(sent == 2, "both are answered")?;
-    expect(
-        meeting.impatient.load(Ordering::SeqCst) == 0,
-        "nobody is held for too long",
-    )
+    looked
 }
 
 /// Does so while one is held at this place.
