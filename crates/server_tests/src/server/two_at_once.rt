@@ -51,10 +51,14 @@ fn serve_two<R: Threads + Wait + Clock + Sync>(
     let reads = AtomicU64::new(0);
     let zone = zone(alloc).ok_or(NOT_SERVED)?;
     let mut receivers = Vec::new(alloc);
-    for worker in 0..2 {
-        let end = Guest::new(meeting, worker);
-        receivers.push(end).ok().ok_or(NOT_SERVED)?;
-    }
+    receivers
+        .push(Guest::new(meeting, 0))
+        .ok()
+        .ok_or(NOT_SERVED)?;
+    receivers
+        .push(Guest::new(meeting, 1))
+        .ok()
+        .ok_or(NOT_SERVED)?;
     let clocks = clocks(alloc, 2, &reads).ok_or(NOT_SERVED)?;
     let sender = Guest::new(meeting, 2);
     let report = serve_zone(

@@ -1,5 +1,6 @@
 //! What is counted of a step, by the worked messages.
 
+use crate::shared::{Looked, all_hold};
 use pools::Lend;
 use ras_module::{Address, Octets};
 use std::alloc::{AllocError, Global};
@@ -38,55 +39,54 @@ fn count(
     Err(Fail::from(reply.label()))
 }
 
+/// What sends each confirm, and each question.
+const CONFIRMS: [(&[u8], ReplyKind); 11] = [
+    (&GCF, ReplyKind::Gcf),
+    (&RCF_0001, ReplyKind::Rcf),
+    (&RCF_0002, ReplyKind::Rcf),
+    (&UCF, ReplyKind::Ucf),
+    (&ACF_900, ReplyKind::Acf),
+    (&ACF_1220, ReplyKind::Acf),
+    (&ACF_1280, ReplyKind::Acf),
+    (&BCF, ReplyKind::Bcf),
+    (&DCF, ReplyKind::Dcf),
+    (&IRQ, ReplyKind::Irq),
+    (&RIP, ReplyKind::Rip),
+];
+
 #[test]
 fn each_confirm_is_counted_as_its_message(rt: HostRuntime) -> Result<(), Fail> {
-    let alloc = rt.alloc();
-    count(alloc, &GCF, ReplyKind::Gcf, None)?;
-    count(alloc, &RCF_0001, ReplyKind::Rcf, None)?;
-    count(alloc, &RCF_0002, ReplyKind::Rcf, None)?;
-    count(alloc, &UCF, ReplyKind::Ucf, None)?;
-    count(alloc, &ACF_900, ReplyKind::Acf, None)?;
-    count(alloc, &ACF_1220, ReplyKind::Acf, None)?;
-    count(alloc, &ACF_1280, ReplyKind::Acf, None)?;
-    count(alloc, &BCF, ReplyKind::Bcf, None)?;
-    count(alloc, &DCF, ReplyKind::Dcf, None)?;
-    count(alloc, &IRQ, ReplyKind::Irq, None)?;
-    count(alloc, &RIP, ReplyKind::Rip, None)
+    for (octets, reply) in &CONFIRMS {
+        count(rt.alloc(), octets, *reply, None)?;
+    }
+    Ok(())
 }
+
+/// Each reject with its reason.
+const REJECTS: [(&[u8], ReplyKind, Reject); 7] = [
+    (&GRJ, ReplyKind::Grj, Reject::DiscoveryTerminalExcluded),
+    (
+        &RRJ_FULL,
+        ReplyKind::Rrj,
+        Reject::RegistrationFullRegistrationRequired,
+    ),
+    (
+        &RRJ_DUPLICATE,
+        ReplyKind::Rrj,
+        Reject::RegistrationDuplicateAlias,
+    ),
+    (&URJ, ReplyKind::Urj, Reject::UnregistrationCallInProgress),
+    (&ARJ, ReplyKind::Arj, Reject::AdmissionRequestDenied),
+    (&BRJ, ReplyKind::Brj, Reject::BandwidthInsufficientResources),
+    (&DRJ, ReplyKind::Drj, Reject::DisengageRequestToDropOther),
+];
 
 #[test]
 fn each_reject_is_counted_by_its_reason(rt: HostRuntime) -> Result<(), Fail> {
-    let alloc = rt.alloc();
-    count(
-        alloc,
-        &GRJ,
-        ReplyKind::Grj,
-        Some(Reject::DiscoveryTerminalExcluded),
-    )?;
-    let full = Reject::RegistrationFullRegistrationRequired;
-    count(alloc, &RRJ_FULL, ReplyKind::Rrj, Some(full))?;
-    let duplicate = Reject::RegistrationDuplicateAlias;
-    count(alloc, &RRJ_DUPLICATE, ReplyKind::Rrj, Some(duplicate))?;
-    count(
-        alloc,
-        &URJ,
-        ReplyKind::Urj,
-        Some(Reject::UnregistrationCallInProgress),
-    )?;
-    count(
-        alloc,
-        &ARJ,
-        ReplyKind::Arj,
-        Some(Reject::AdmissionRequestDenied),
-    )?;
-    let resources = Reject::BandwidthInsufficientResources;
-    count(alloc, &BRJ, ReplyKind::Brj, Some(resources))?;
-    count(
-        alloc,
-        &DRJ,
-        ReplyKind::Drj,
-        Some(Reject::DisengageRequestToDropOther),
-    )
+    for (octets, reply, reject) in &REJECTS {
+        count(rt.alloc(), octets, *reply, Some(*reject))?;
+    }
+    Ok(())
 }
 
 /// What is counted of a step of a datagram with this first octet in which this happened.
@@ -112,17 +112,30 @@ fn a_request_that_was_read_is_counted_by_its_kind(rt: HostRuntime) {
     assert!(rt; unreadable.ignored == Some(IgnoredCause::Unreadable));
 }
 
+/// What is counted of a step in which the pool answered so.
+fn answered(answer: Lend) -> Option<Answer> {
+    let mut outcome = Outcome::noted(Note::Served, None);
+    outcome.answer = Some(answer);
+    StepCounts::of(None, &outcome).answer
+}
+
 #[test]
-fn turns_repeats_and_answers_are_counted(rt: HostRuntime) {
+fn turns_repeats_and_answers_are_counted() -> Looked {
     let turn = StepCounts::of(None, &Outcome::noted(Note::Done(DueItem::PoolTurn), None));
-    assert!(rt; turn.turn == Some(TurnDeed::PoolTurn));
     let idle = StepCounts::of(None, &Outcome::noted(Note::Idle, None));
-    assert!(rt; idle.turn == Some(TurnDeed::Idle));
-    assert!(rt; noting(0x00, Note::Kept).is_repeat);
-    assert!(rt; !noting(0x00, Note::Served).is_repeat);
-    let mut asked = Outcome::noted(Note::Served, None);
-    asked.answer = Some(Lend::Lent(5));
-    assert!(rt; StepCounts::of(None, &asked).answer == Some(Answer::Lent));
-    asked.answer = Some(Lend::Wait);
-    assert!(rt; StepCounts::of(None, &asked).answer == Some(Answer::Wait));
+    let (lent, waits) = (answered(Lend::Lent(5)), answered(Lend::Wait));
+    all_hold(&[
+        (
+            turn.turn == Some(TurnDeed::PoolTurn),
+            "a turn of the pools is counted",
+        ),
+        (idle.turn == Some(TurnDeed::Idle), "an idle turn is counted"),
+        (noting(0x00, Note::Kept).is_repeat, "a repeat is counted"),
+        (
+            !noting(0x00, Note::Served).is_repeat,
+            "what was served is none",
+        ),
+        (lent == Some(Answer::Lent), "a loan is counted"),
+        (waits == Some(Answer::Wait), "a request to wait is counted"),
+    ])
 }
