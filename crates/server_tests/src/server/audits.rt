@@ -10,6 +10,7 @@ use pools::FixedPool;
 use std::alloc::Global;
 use std::rt::Clock;
 use std::sync::Wait;
+use std::sync::atomic::Ordering;
 use std::thread::Threads;
 use udp_server::{Open, Plan, Report, serve_zone};
 
@@ -96,9 +97,25 @@ fn find_none(report: &Report<FixedPool>) -> Looked {
     ])
 }
 
+/// Looks what became of the steps.
+fn look_at_steps(report: &Report<FixedPool>, kept: Kept) -> Looked {
+    match kept {
+        Kept::All => audit_report(report, false),
+        Kept::Chapters => audit_report(report, true),
+        Kept::Latest => find_latest(report),
+        Kept::Nothing => find_none(report),
+    }
+}
+
 /// Looks what became of the datagrams and the replies: each reply was sent, or found no place in
 /// its ring.
-fn look_at_replies(report: &Report<FixedPool>, sent: u64, has_receipts: bool) -> Looked {
+fn look_at_replies<R>(
+    report: &Report<FixedPool>,
+    room: &Room<'_, R>,
+    has_receipts: bool,
+) -> Looked {
+    let sent = room.sent.load(Ordering::SeqCst);
+    let impatient = room.impatient.load(Ordering::SeqCst);
     let replies = report.sent.saturating_add(report.dropped);
     all_hold(&[
         (report.datagrams == ALL, "each datagram is counted"),
@@ -115,6 +132,7 @@ fn look_at_replies(report: &Report<FixedPool>, sent: u64, has_receipts: bool) ->
             report.receipts.is_empty() != has_receipts,
             "steps have receipts if they are to have some",
         ),
+        (impatient == 0, "no end lost its patience"),
     ])
 }
 
@@ -156,16 +174,10 @@ fn serve_and_look<R: Threads + Wait + Clock + Sync>(
 {
     let room = Room::new(rt);
     let report = report(rt, alloc, &room, plan).ok_or(NOT_SERVED)?;
-    let is_kept = match kept {
-        Kept::All => audit_report(&report, false),
-        Kept::Chapters => audit_report(&report, true),
-        Kept::Latest => find_latest(&report),
-        Kept::Nothing => find_none(&report),
-    };
-    let are_sent = look_at_replies(&report, room.sent(), plan.receipts);
-    let is_patient = all_hold(&[(room.impatient() == 0, "no end lost its patience")]);
+    let are_sent = look_at_replies(&report, &room, plan.receipts);
+    let looked = are_sent.and(look_at_steps(&report, kept));
     drop(report);
-    is_kept.and(are_sent).and(is_patient)
+    looked
 }
 
 #[test]

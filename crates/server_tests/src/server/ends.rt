@@ -22,11 +22,11 @@ const PATIENCE: u64 = 10_000;
 pub struct Room<'a, R> {
     rt: &'a R,
     /// How many datagrams were sent.
-    sent: AtomicU64,
+    pub sent: AtomicU64,
     /// How often the timers' clock was read.
     pub reads: AtomicU64,
     /// How many ends lost their patience.
-    impatient: AtomicU64,
+    pub impatient: AtomicU64,
 }
 
 impl<'a, R> Room<'a, R> {
@@ -37,14 +37,6 @@ impl<'a, R> Room<'a, R> {
             reads: AtomicU64::new(0),
             impatient: AtomicU64::new(0),
         }
-    }
-
-    pub fn sent(&self) -> u64 {
-        self.sent.load(Ordering::SeqCst)
-    }
-
-    pub fn impatient(&self) -> u64 {
-        self.impatient.load(Ordering::SeqCst)
     }
 }
 
