@@ -44,6 +44,17 @@ class Edit:
             raise Misfit("it changes nothing")
         return texts
 
+    def places(self, folder):
+        """Returns what it changes of the sources as they stand: files, from where to where, new texts."""
+        found = []
+        for file, old, new in self.changes:
+            text = read(f"{folder}/{file}")
+            if not old or text.count(old) != 1:
+                raise Misfit(f"an old text isn't in {file} once, as it stands")
+            at = text.find(old)
+            found.append((file, at, at + len(old), new))
+        return found
+
     def function(self, folder):
         """Returns the module, type, trait and name of the one function that it changes, or None."""
         found = {around(folder, file, old) for file, old, _ in self.changes}
@@ -56,6 +67,16 @@ def read(path):
             return file.read()
     except OSError as error:
         raise Misfit(f"{path}: {error.strerror}") from error
+
+
+def with_changes(folder, places):
+    """Returns the texts, by their path in the crate at this folder, in which these places are changed."""
+    texts = {}
+    # (from the end on, so that what stands before a change stays where it is)
+    for file, begin, end, new in sorted(places, reverse=True):
+        text = texts.get(file) or read(f"{folder}/{file}")
+        texts[file] = text[:begin] + new + text[end:]
+    return texts
 
 
 def around(folder, file, old):
