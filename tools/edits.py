@@ -98,7 +98,9 @@ def around(folder, file, old):
         trait = words[0].split("::")[-1] if len(words) > 1 else ""
         # (another crate's type is named by all its words, as BoxDynPool of Box<dyn Pool>)
         if home_of(kind, folder) is None:
-            whole = re.findall(r"\w+", last.split(" for ")[-1])
+            # (without the impl's own parameters, as PoolSet of PoolSet<P>)
+            own = re.findall(r"(\w+)(?=\s*[:,>])", re.match(r"impl(<[^<>]*>)?", last)[0][len("impl") :])
+            whole = [it for it in re.findall(r"\w+", last.split(" for ")[-1]) if it not in own]
             kind = "".join(it[0].upper() + it[1:] for it in whole)
     return module_of(file), kind, trait, name[-1]
 
