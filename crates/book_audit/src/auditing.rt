@@ -24,8 +24,8 @@ use pools::Pool;
 ///
 /// promise audit-passes-if-joined-and-good: A history passes if and only if its chapters are joined
 /// and its receipts good; else the fault is the first (`IsJoined`, `IsGood`, `IsFault`).
-/// promise audited-history-is-a-run: After it the entries are a run with these totals, and as many
-/// receipts as entries tell each. It wants no memory (`AreTotals`, `AreTold`).
+/// promise audited-history-is-a-run: If an audit passes, the entries are a run with these totals, and
+/// as many receipts as entries tell each. It wants no memory (`AreTotals`, `AreTold`).
 pub fn audit<P: Pool>(
     chapters: &[Chapter],
     finished: &Finished<P>,

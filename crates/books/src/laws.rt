@@ -51,7 +51,8 @@ pub fn a_step_uses_no_more_than_is_lent()
 
 /// The same holds of all steps of a book together.
 ///
-/// promise book-uses-no-more-than-lent: The same of the steps of a book.
+/// promise book-uses-no-more-than-lent: After the steps of a book no more is in use than before plus
+/// what was lent in them, and the settings stay (`lent_of`).
 pub fn a_book_uses_no_more_than_is_lent()
     ensures units { (base now : State) (entries : List Entry) → BookRun base entries now
         → in_use now.tables.calls ≤ in_use base.tables.calls + lent_of entries }

@@ -9,7 +9,8 @@ ghost use Rattle.indexmap.specs.IndexMap.{get, spare, Updates};
 ghost use Rattle.kept_replies.specs.Kept.{named_by};
 ghost use Rattle.kept_replies.specs.Keys.{same_key};
 ghost use Rattle.kept_replies.specs.inside.Stored.{is_named_by};
-ghost use Rattle.kept_replies.specs.inside.Told.{AreTold, MayRise, same_id, count_of, times, once};
+ghost use Rattle.kept_replies.specs.inside.Told.{AreTold, IsCounted, MayRise, same_id};
+ghost use Rattle.kept_replies.specs.inside.Told.{count_of, times, once};
 ghost use Rattle.kept_replies.specs.declared.entry.KeptEntry.{KeptEntry};
 
 use crate::entry::KeptEntry;
@@ -125,9 +126,12 @@ impl ToldCounts {
         self.is_whole = self.is_whole && raise(&mut self.counts, &key);
     }
 
-    /// Takes a reply, which may tell an identifier, out of the counts.
+    /// Takes a reply, which may tell an identifier, out of the counts. They stay whole if it was
+    /// counted.
     pub(crate) fn take_out(&mut self, named: Option<&ToldId>)
         ensures still { IsTrue self.new.is_whole → IsTrue self.old.is_whole }
+        ensures whole { IsTrue self.old.is_whole
+            → ForSome named.entry (λ id. IsCounted self.old id.now) → IsTrue self.new.is_whole }
         ensures times { IsTrue self.new.is_whole → (id : List ℕ)
             → times self.new id + once (option_copied named.entry) id ≡ times self.old id }
         ensures none { IsTrue self.new.is_whole → ForSome named.entry (λ id.
@@ -200,6 +204,7 @@ fn lower(counts: &mut IndexMap<ShortId, usize>, id: &ShortId) -> Option<usize>
         (λ left. Updates same_id counts.old counts.new id.now (Some left)) }
     ensures fewer { IfSome result
         (λ left. count_of (get same_id counts.old id.now) ≡ left + 1) }
+    ensures told { 0 < count_of (get same_id counts.old id.now) → IsSome result }
 {
     let count = counts.get_mut(id)?;
     let left = count.checked_sub(1)?;

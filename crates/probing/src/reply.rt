@@ -263,7 +263,8 @@ fn discovery_reply(alloc: Global, decoder: &mut Decoder<'_>) -> Result<Discovery
 
 /// The answer to a discovery that octets begin with. What follows is not read.
 ///
-/// promise discovery-replies-are-read-exactly: They are read as the grammar says (`reply_reading`).
+/// promise discovery-replies-are-read-exactly: Answers to a discovery are read as the grammar says
+/// (`reply_reading`).
 #[tactic(auto, unfolding(crate::specs::Replies::reply_reading))]
 pub fn read_reply(alloc: Global, octets: &[u8]) -> Result<DiscoveryReply, ReadFault>
     ensures { IsUnlessMemory (reply_reading octets.now) result }

@@ -54,8 +54,8 @@ pub fn a_turn_is_idle_only_if_nothing_is_due()
 /// In every state that a run of steps and replacements comes to, bandwidth in use, the sum over the
 /// calls, is within the zone's limit, and each pool has lent what its calls use.
 ///
-/// promise bandwidth-is-within-the-limit: In every state of a run, bandwidth in use is within the
-/// zone's limit, and each pool has lent what its calls use (`EachState`, `IsWithinLimit`).
+/// promise bandwidth-is-within-the-limit: In every state that a run comes to, bandwidth in use is
+/// within the zone's limit, and each pool has lent what its calls use (`EachState`, `IsWithinLimit`).
 pub fn bandwidth_is_within_the_limit_all_along()
     ensures { (old : Running) (entries : List (Change × Outcome)) (new : Running)
         (run : RunningRun old entries new) → EachState IsWithinLimit old entries new run }

@@ -116,7 +116,7 @@ impl<P: Pool> Zone<P> {
     /// each pool make one (`effect`, `tallies_after`).
     /// promise pool-is-asked-once: The pool that the machine asks is asked once, for its units, and
     /// no other is (`ask_in`, `tallies_after`).
-    /// promise endpoints-and-calls-are-sound: Each alias and call signal address has one
+    /// promise endpoints-and-calls-are-sound: Each alias and call signal address has at most one
     /// registration, each leg a registered endpoint, each call one or two legs (`Sound`,
     /// `SoundTables`).
     /// promise bandwidth-is-sound: Each pool has lent what its calls use, within its limit;
@@ -124,7 +124,7 @@ impl<P: Pool> Zone<P> {
     /// promise sizes-are-sound: No table is above its size, settings are in range, the clock is
     /// below 2^53, steps and pools' counts are bounded (`Sound`).
     /// promise kept-entries-are-sound: Entries differ in birth and are older than the step; one
-    /// that waits is an ARQ or BRQ told requestInProgress, and is served again (`Sound`).
+    /// that waits is an ARQ or BRQ told requestInProgress (`Sound`).
     pub fn step(&mut self, event: Event) -> Result<Outcome, StepFault>
         ensures step { IfOk result (λ outcome. RunningStep self.old event outcome self.new) }
         ensures closed { (result ≡ Err StepFault.Closed) ↔ (self.old.state.steps ≡ most_steps) }
@@ -217,7 +217,7 @@ impl<P: Pool> Zone<P> {
 
     /// The state as it stands, in lists of its own.
     ///
-    /// promise snapshot-is-sound: It has the state at one moment, and is sound by its type
+    /// promise snapshot-is-sound: A snapshot has the state at one moment, and is sound by its type
     /// (`Sound`).
     pub fn snapshot(&self) -> Result<Snapshot, AllocError>
         ensures { IfOk result (λ snapshot. snapshot ≡ self.now.state) }

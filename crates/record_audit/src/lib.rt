@@ -1,8 +1,8 @@
 //! The audit of a record: what a gatekeeper did, step after step, as lines of a text. Each step is
 //! done again with what its outcome shows to have been chosen.
 //!
-//! proved: a record passes if and only if it is a run of the zone that it describes; else the first
-//! line that isn't is told (`audit_record`)
+//! proved: a record of fewer than 2^51 octets passes if and only if it is a run of the zone that it
+//! describes; else the first line that isn't is told (`audit_record`)
 //! tested: altered records, failing streams
 #![tactic(auto)]
 

@@ -298,7 +298,7 @@ impl Registrations {
     /// An identifier that no registration has, and that is not taken: any such one.
     ///
     /// promise free-identifier-is-not-reused-soon: An unused identifier isn't below where the
-    /// search begins, unless the search passes 2^64 (`IsFoundFrom`).
+    /// search begins, unless the search could pass 2^64 (`IsFoundFrom`).
     pub fn unused(&self, taken: &[EndpointId]) -> EndpointId
         ensures unused { IsUnused self.now.live taken.now result }
         ensures from { IsFoundFrom self.now.next

@@ -42,8 +42,8 @@ pub fn every_state_of_a_run_is_within_the_limit()
 /// run again do. Nothing is asked of the moments: the clock never goes back, so that each of them
 /// is at most that of the state at the end.
 ///
-/// promise states-between-sound-ones-are-within-the-limit: The same, whatever the moments, of a run
-/// to a sound state (`EachStateOf`, `IsWithinLimit`).
+/// promise states-between-sound-ones-are-within-the-limit: Each state inside a run between two sound
+/// states is within the limit, whatever the moments (`EachStateOf`, `IsWithinLimit`).
 pub fn every_state_between_two_sound_ones_is_within_the_limit()
     ensures { (s : State) (entries : List (Change × Outcome)) (after : State)
         (run : Run s entries after) → Sound s → Sound after

@@ -171,9 +171,9 @@ impl<P: Pool, D: Hall, T: Ledger, U: Ledger, V: Ledger> ZoneLock<P, D, T, U, V> 
     /// Waits for the lock and makes one step. What it needs of memory but for its place in the book
     /// is there before.
     ///
-    /// promise waiting-step-is-one-step: It is one step of this lock's zone, of the caller's event;
-    /// else Closed if it made 2^62 steps, or want of memory, and the seat stays (`IsStepUnderLock`,
-    /// `IsClosed`, `IsOpen`).
+    /// promise waiting-step-is-one-step: What is made is one step of this lock's zone, of the caller's
+    /// event; else Closed if it made 2^62 steps, or want of memory, and the seat stays
+    /// (`IsStepUnderLock`, `IsClosed`, `IsOpen`).
     pub fn apply<R: Wait>(
         &self,
         rt: &R,
@@ -225,7 +225,7 @@ impl<P: Pool, D: Hall, T: Ledger, U: Ledger, V: Ledger> ZoneLock<P, D, T, U, V> 
     /// and room for all. What is counted of them is added to the counts. Each is one step, as
     /// `step` makes it. What stands in place of the outcome afterwards means nothing.
     ///
-    /// promise waiting-turns-follow-one-another: They are turns of this lock's zone, as by
+    /// promise waiting-turns-follow-one-another: What is made are turns of this lock's zone, as by
     /// `turns_locked` (`AreTurnsUnderLock`).
     pub fn turns<R: Wait>(
         &self,

@@ -1,8 +1,8 @@
 //! What a running zone tells to those who look at it: its figures, the rows of its endpoints and of
 //! its calls, and counts of what it did.
 //!
-//! proved: what is counted of a step is as defined (`StepCounts::of`); what a running zone tells is of
-//! it (`RunningZone`)
+//! proved: what is counted of a step is as defined (`StepCounts::of`); the figures and
+//! rows that a running zone tells are its own (`RunningZone`)
 #![tactic(auto)]
 
 mod count;

@@ -30,6 +30,10 @@ times t id = count_of (lookup (same_id id) t.counts)
 abbrev pub MayRise : ToldTable → List ℕ → Type 0
 MayRise t id = (length id ≤ 20) × (times t id + 1 < 2 ^ 64)
 
+-- an identifier is short enough to be counted, and was
+abbrev pub IsCounted : ToldTable → List ℕ → Type 0
+IsCounted t id = (length id ≤ 20) × (0 < times t id)
+
 -- how often one reply tells it
 abbrev pub once : Option (List ℕ) → List ℕ → ℕ
 once named id = cond (is_identifier id named) 1 0
