@@ -3,3 +3,4 @@ pub mod Replies
 pub mod Told
 pub mod Sockets
 pub mod Statuses
+pub mod Asking

@@ -1,18 +1,20 @@
 //! Asking over a socket.
 
-ghost use Rattle.std.specs.Prelude.{◌≡◌, IfOk, Some};
+ghost use Rattle.std.specs.Prelude.{◌≡◌, IfErr, IfOk};
 ghost use Rattle.std.specs.Duration.{as_nanos};
 ghost use Rattle.std.specs.String.{string_bytes};
-ghost use Rattle.probing.specs.Sockets.{address_of, microseconds_between, microseconds_of};
+ghost use Rattle.probing.specs.Asking.{IsAskedOver};
+ghost use Rattle.probing.specs.Sockets.{microseconds_between, microseconds_of};
 ghost use Rattle.probing.specs.Statuses.{probe_status, silence_of};
 ghost use Rattle.probing.specs.Told.{IsAnswerTold};
 
+use crate::link::{Link, SocketLink, system_address};
 use crate::request::discovery_request;
 use crate::told::push_told;
 use ras_module::Address;
 use std::alloc::{AllocError, Global};
-use std::io::{self, ErrorKind};
-use std::net::{IpAddr, Ipv4Addr, Net, SocketAddr, UdpSocket};
+use std::io::ErrorKind;
+use std::net::{Net, UdpSocket};
 use std::rt::Clock;
 use std::time::{Duration, Instant};
 use thiserror::Error;
@@ -84,50 +86,15 @@ impl From<AllocError> for ProbeFault {
     }
 }
 
-/// The address as the system has it.
-fn system_address(address: Address) -> SocketAddr
-    ensures { address_of result ≡ Some address }
-{
-    let [a, b, c, d] = address.ip;
-    SocketAddr::new(IpAddr::V4(Ipv4Addr::new(a, b, c, d)), address.port)
-}
-
 /// A socket over which is asked.
-fn bound<R: Net>(rt: &R, from: Option<Address>) -> io::Result<UdpSocket> {
+fn bound<R: Net>(rt: &R, from: Option<Address>) -> Result<UdpSocket, ProbeFault>
+    ensures { IfErr result (λ fault. fault ≡ ProbeFault.Bind) }
+{
     let any = Address {
         ip: [0; 4],
         port: 0,
     };
-    UdpSocket::bind(rt, system_address(from.unwrap_or(any)))
-}
-
-/// Lets only the gatekeeper be heard, and no longer than the timeout.
-fn connect(socket: &UdpSocket, probe: Probe) -> io::Result<()> {
-    socket.connect(system_address(probe.target))?;
-    socket.set_read_timeout(Some(Duration::from_millis(probe.timeout)))
-}
-
-/// The address to which the gatekeeper is to answer.
-fn own_address(socket: &UdpSocket) -> Option<Address> {
-    ipv4_address(socket.local_addr().ok()?)
-}
-
-/// An address of the system's; None if it isn't one of IPv4.
-fn ipv4_address(address: SocketAddr) -> Option<Address>
-    ensures { result ≡ address_of address }
-{
-    match address {
-        SocketAddr::V4(address) => Some(Address {
-            ip: address.ip().octets(),
-            port: address.port(),
-        }),
-        SocketAddr::V6(_) => None,
-    }
-}
-
-/// The whole microseconds since this moment; 0 if the clock can't be read.
-fn microseconds_since<R: Clock>(rt: &R, start: Option<Instant>) -> u64 {
-    microseconds_between(start, Instant::now(rt).ok())
+    UdpSocket::bind(rt, system_address(from.unwrap_or(any))).map_err(|_| ProbeFault::Bind)
 }
 
 /// The microseconds from this moment to that one; 0 if the clock couldn't be read at one of them.
@@ -147,6 +114,40 @@ fn microseconds_in(passed: Duration) -> u64
     u64::try_from(passed.as_micros()).unwrap_or(u64::MAX)
 }
 
+/// Asks a gatekeeper over a link whether it is there, and tells its answer, as `ask_gatekeeper`
+/// does.
+///
+/// promise probe-tells-what-it-heard: Over whatever link it asks, a probe lets only the address
+/// that is asked be heard, asks to be answered at the link's own address, and tells the octets that
+/// came, with the time from sending to their coming (`IsAskedOver`).
+fn ask_over<L: Link>(
+    alloc: Global,
+    link: &L,
+    probe: Probe,
+    out: &mut String,
+) -> Result<bool, ProbeFault>
+    ensures { IfOk result (IsAskedOver L.Link link.now probe (string_bytes out.old)
+        (string_bytes out.new)) }
+{
+    if link.connect(probe.target, probe.timeout).is_err() {
+        return Err(ProbeFault::NotSent);
+    }
+    let Some(own) = link.own() else {
+        return Err(ProbeFault::NotSent);
+    };
+    let Ok(start) = link.send(&discovery_request(own)) else {
+        return Err(ProbeFault::NotSent);
+    };
+    let mut buffer = [0u8; MOST];
+    match link.receive(&mut buffer) {
+        Ok((count, now)) => {
+            let microseconds = microseconds_between(start, now);
+            Ok(push_told(alloc, out, &buffer[..count], microseconds)?)
+        }
+        Err(error) => Err(ProbeFault::of(error.kind())),
+    }
+}
+
 /// Asks a gatekeeper whether it is there, and writes a line that tells how its answer reads. Says
 /// whether it confirms that it is.
 pub fn ask_gatekeeper<R: Net + Clock>(
@@ -158,25 +159,6 @@ pub fn ask_gatekeeper<R: Net + Clock>(
     ensures { IfOk result (λ found. IsAnswerTold (string_bytes out.old) (string_bytes out.new)
         found) }
 {
-    let Ok(socket) = bound(rt, probe.from) else {
-        return Err(ProbeFault::Bind);
-    };
-    if connect(&socket, probe).is_err() {
-        return Err(ProbeFault::NotSent);
-    }
-    let Some(own) = own_address(&socket) else {
-        return Err(ProbeFault::NotSent);
-    };
-    let start = Instant::now(rt).ok();
-    if socket.send(&discovery_request(own)).is_err() {
-        return Err(ProbeFault::NotSent);
-    }
-    let mut buffer = [0u8; MOST];
-    match socket.recv(&mut buffer) {
-        Ok(count) => {
-            let microseconds = microseconds_since(rt, start);
-            Ok(push_told(alloc, out, &buffer[..count], microseconds)?)
-        }
-        Err(error) => Err(ProbeFault::of(error.kind())),
-    }
+    let socket = bound(rt, probe.from)?;
+    ask_over(alloc, &SocketLink { rt, socket }, probe, out)
 }

@@ -1,10 +1,12 @@
 //! Asking a gatekeeper whether it is there.
 //!
-//! proved: an answer is told as it reads (`push_told`)
+//! proved: an answer is told as it reads (`push_told`); over whatever link is asked, the octets that
+//! came are told (`ask_over`)
 //! tested: the built program
 #![tactic(auto)]
 
 mod ask;
+mod link;
 mod reply;
 mod request;
 mod told;

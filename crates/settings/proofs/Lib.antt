@@ -3,3 +3,4 @@ pub mod InRange
 pub mod PoolLists
 pub mod Listed
 pub mod Places
+pub mod NearKeys

@@ -7,6 +7,7 @@ pub mod Zones
 pub mod ServeTables
 pub mod Pools
 pub mod Settings
+pub mod Nearest
 pub mod Unknown
 pub mod Listing
 pub mod Places

@@ -1,5 +1,5 @@
 -- The tables and keys of the settings, by which a fault is told.
-use Rattle.std.specs.Prelude.{ℕ, List, codes}
+use Rattle.std.specs.Prelude.{ℕ, List, [], ◌∷◌, ◌++◌, codes, map}
 use Rattle.zone_config.specs.Keys as zone
 use Rattle.settings.specs.ServeKeys as serve
 use Rattle.settings.specs.declared.setting_key.SettingKey.{SettingKey}
@@ -24,3 +24,10 @@ path_of PoolLimit = codes "pool.limit"
 path_of PoolStep = codes "pool.step"
 path_of PoolBurst = codes "pool.burst"
 path_of PoolNetwork = codes "pool.network"
+
+-- the tables and keys that are known
+abbrev pub known_keys : List SettingKey
+known_keys =
+    (ZoneTable ∷ Identifier ∷ Address ∷ []) ++ map (λ k. Zone k) zone.all_keys
+    ++ ServeTable ∷ [] ++ map (λ k. Serve k) serve.all_serve_keys
+    ++ (Status ∷ Pools ∷ PoolKind ∷ PoolLimit ∷ PoolStep ∷ PoolBurst ∷ PoolNetwork ∷ [])

@@ -9,20 +9,8 @@ use Rattle.toml.specs.Parse.{parse_document}
 use Rattle.settings.specs.declared.fault.SettingsFault.{SettingsFault}
 use Rattle.settings.specs.declared.fault.SettingsFault.TheVariants.{Syntax}
 use Rattle.settings.specs.declared.fault.SettingsFault.TheVariants.{Memory}
-use Rattle.settings.specs.declared.setting_key.SettingKey.{SettingKey}
-use Rattle.settings.specs.declared.setting_key.SettingKey.TheVariants as key
-use Rattle.settings.specs.declared.unknown.UnknownKey.{UnknownKey}
-use Rattle.settings.specs.ServeKeys.{all_serve_keys}
-use Rattle.settings.specs.SettingKeys.{path_of}
-use Rattle.zone_config.specs.Keys.{all_keys}
-
--- the tables and keys that are known
-abbrev pub known_keys : List SettingKey
-known_keys =
-    (key.ZoneTable ∷ key.Identifier ∷ key.Address ∷ []) ++ map (λ k. key.Zone k) all_keys
-    ++ key.ServeTable ∷ [] ++ map (λ k. key.Serve k) all_serve_keys
-    ++ (key.Status ∷ key.Pools ∷ key.PoolKind ∷ key.PoolLimit ∷ key.PoolStep ∷ key.PoolBurst
-    ∷ key.PoolNetwork ∷ [])
+use Rattle.settings.specs.declared.unknown_key.UnknownKey.{UnknownKey}
+use Rattle.settings.specs.SettingKeys.{known_keys, path_of}
 
 -- no known key has a dot in its name, which a quoted one may have
 unfoldable pub is_known : List ℕ → List ℕ → Bool

@@ -1,11 +1,12 @@
 //! The keys of a text that are passed over.
 
-ghost use Rattle.std.specs.Prelude.{◌≡◌, ◌==◌, ◌++◌, codes, string_bytes, IfErr, IfOk};
-ghost use Rattle.std.specs.Prelude.{OnOk};
+ghost use Rattle.std.specs.Prelude.{◌≡◌, ◌==◌, ◌++◌, codes, option_map, string_bytes, All};
+ghost use Rattle.std.specs.Prelude.{IfErr, IfOk, OnOk};
 ghost use Rattle.std.specs.List.{list_any};
 ghost use Rattle.std.specs.Str.{bytes_eq};
 ghost use Rattle.toml.specs.Data.{get_member};
 ghost use Rattle.toml.specs.View.{items_view, table_view, view};
+ghost use Rattle.settings.specs.Nearest.{IsHint};
 ghost use Rattle.settings.specs.Places.{TellsPlace};
 ghost use Rattle.settings.specs.SettingKeys.{path_of};
 ghost use Rattle.settings.specs.Unknown.{is_known, paths_of, unknown_at, unknown_in, unknown_key};
@@ -14,24 +15,10 @@ ghost use Rattle.settings.specs.Unknown.{unknown_of, unknown_under, IsUnread};
 
 use crate::fault::{SettingsFault, SyntaxError};
 use crate::setting_key::SettingKey;
+use crate::unknown_key::UnknownKey;
 use crate::value::member;
 use std::alloc::{AllocError, Global};
-use strsim::levenshtein;
 use toml::{Table, Value};
-
-/// How many letters a name may be wrong in for a known key to be taken for the one that was meant.
-const MOST_EDITS: usize = 2;
-
-/// A key of a text that is passed over, since it isn't known.
-#[derive(Drop)]
-pub struct UnknownKey {
-    /// Its name among all settings, as in `zone.time_to_life`; the keys of every pool begin with
-    /// `pool.`.
-    pub path: String,
-    /// The known key that needs the fewest changes of letters to come to it, if two or fewer do:
-    /// a hint at what was meant.
-    pub nearest: Option<&'static str>,
-}
 
 /// Whether one of these keys has this path.
 fn is_path(keys: &[SettingKey], path: &[u8]) -> bool
@@ -52,20 +39,6 @@ fn is_known(name: &str, path: &str) -> bool
     ensures { result ≡ is_known name.now path.now }
 {
     !has_dot(name.as_bytes()) && is_path(&SettingKey::ALL, path.as_bytes())
-}
-
-/// The known key with the fewest changes of letters to this path, if these are few.
-fn nearest_key(alloc: Global, path: &str) -> Result<Option<&'static str>, AllocError> {
-    let mut nearest = None;
-    let mut fewest = MOST_EDITS;
-    for key in SettingKey::ALL {
-        let edits = levenshtein(alloc, path, key.path())?;
-        if edits < fewest || (edits == fewest && nearest.is_none()) {
-            fewest = edits;
-            nearest = Some(key.path());
-        }
-    }
-    Ok(nearest)
 }
 
 /// The path of a key: the beginning for its table, and its name.
@@ -91,10 +64,8 @@ fn add_key(
     if is_known(name, path.as_str()) {
         return Ok(());
     }
-    let nearest = nearest_key(alloc, path.as_str())?;
-    unknown
-        .push(UnknownKey { path, nearest })
-        .map_err(AllocError::from)?;
+    let key = UnknownKey::new(alloc, path)?;
+    unknown.push(key).map_err(AllocError::from)?;
     Ok(())
 }
 
@@ -196,14 +167,16 @@ fn unknown_in(alloc: Global, document: &Table) -> Result<Vec<UnknownKey>, AllocE
 /// The keys of a text that `read_settings` passes over since they aren't known, for a warning:
 /// first those outside the tables, then those of `[zone]`, of `[serve]` and of each `[[pool]]`;
 /// within a table by the octets of their names, since a TOML table has no order. It returns Syntax
-/// if the text is no TOML document, Memory if memory is refused, and no other fault. Which known
-/// key is the nearest one is tested, and stated by no clause.
+/// if the text is no TOML document, Memory if memory is refused, and no other fault.
 ///
-/// promise unknown-keys-are-listed: The keys that are passed over are listed, exactly these
-/// (`unknown_paths`).
+/// promise unknown-keys-are-listed: The keys that are passed over are listed, exactly these, each
+/// with the known key that needs the fewest changes of letters, if two or fewer do
+/// (`unknown_paths`, `IsHint`).
 pub fn unknown_keys(alloc: Global, text: &str) -> Result<Vec<UnknownKey>, SettingsFault>
     ensures ok { IfOk result (λ unknown.
         Some (paths_of unknown.items) ≡ unknown_of text.now) }
+    ensures hints { IfOk result (λ unknown. All (λ key. ∥ IsHint (string_bytes key.path)
+        (option_map (λ name. name.now) key.nearest) ∥₁) unknown.items) }
     ensures err { IfErr result (IsUnread text.now) }
     ensures place { IfErr result (TellsPlace text.now) }
 {

@@ -3,3 +3,4 @@ pub mod Fields
 pub mod Pace
 pub mod Requests
 pub mod Shown
+pub mod Arrivals

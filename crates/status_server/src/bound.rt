@@ -1,10 +1,11 @@
 //! Binding the address of the status page.
 
-ghost use Rattle.std.specs.Prelude.{◌≡◌, Some};
+ghost use Rattle.std.specs.Prelude.{◌≡◌, IfErr, IfOk, IsErrAnd, Ok, Some};
+ghost use Rattle.std.specs.IoError.{error_kind};
 ghost use Rattle.status_server.specs.Bind.{address_of, cause_text, fault_of};
 
 use ras_module::Address;
-use std::io::ErrorKind;
+use std::io::{self, ErrorKind};
 use std::net::{IpAddr, Ipv4Addr, Net, SocketAddr, TcpListener, TcpStream};
 use thiserror::Error;
 
@@ -61,7 +62,16 @@ pub fn bind_status<R: Net<Listener = TcpListener, Stream = TcpStream>>(
     rt: &R,
     address: Address,
 ) -> Result<BoundListener, BindFault> {
-    match TcpListener::bind(rt, system_address(address)) {
+    bound_in(TcpListener::bind(rt, system_address(address)))
+}
+
+/// A listener that the system has bound, or why it hasn't.
+fn bound_in(bound: io::Result<TcpListener>) -> Result<BoundListener, BindFault>
+    ensures ok { IfOk result (λ own. bound ≡ Ok own.listener) }
+    ensures err { IfErr result (λ fault.
+        IsErrAnd bound (λ error. fault ≡ fault_of (error_kind error))) }
+{
+    match bound {
         Ok(listener) => Ok(BoundListener { listener }),
         Err(error) => Err(BindFault::of(error.kind())),
     }

@@ -63,10 +63,13 @@ where
 
 /// Who serves connections.
 pub(crate) trait Host: Drop {
-    ghost use Rattle.std.specs.Prelude.{ℕ};
+    ghost use Rattle.std.specs.Prelude.{Bool, ℕ};
 
     /// At some moment so many connections were being served.
     ghost serves: { Self → ℕ → Type 0 } = { λ _ _. Unit {0} };
+
+    /// At some moment no more connections are to be served, or there still are.
+    ghost is_ended: { Self → Bool → Type 0 };
 
     type Outcome: Drop;
 
@@ -82,7 +85,8 @@ pub(crate) trait Host: Drop {
         ensures told { serves self.now result };
 
     /// Whether no more connections are to be served.
-    fn has_ended(&self) -> bool;
+    fn has_ended(&self) -> bool
+        ensures told { is_ended self.now result };
 }
 
 /// Serves the pages of a view.
@@ -98,6 +102,9 @@ pub(crate) struct PageHost<'a, R, V> {
 }
 
 impl<R: Clock, V: View> Host for PageHost<'_, R, V> {
+    /// Nothing more is to be shown, or there still is.
+    ghost is_ended = { λ host. V.View.is_ended host.view.value };
+
     type Outcome = Result<Result<(), hyper::Error>, tokio::time::error::Elapsed>;
 
     type Work = Timeout<Connection<TcpStream, Pages<V>, Full<Bytes>>>;

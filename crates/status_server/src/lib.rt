@@ -4,12 +4,14 @@
 //! proved: that it is safe; what a connection sends is the answer to what its request asks for, of
 //! the zone that is shown and under its name, also if it is told again (`serve_one`, `response`); a
 //! page is sent with its status, header fields and body (`as_hyper`); a connection is accepted only
-//! if fewer than 16 were told to be open, and is counted (`next_connection`)
+//! if fewer than 16 were told to be open, and is counted; what a look for one comes to is told
+//! (`next_connection`); it ends without an error only if the zone has ended (`serve`)
 //! tested: the built program; how long a page is told again; when a zone has ended
 #![tactic(auto)]
 
 mod answer;
 mod bound;
+mod entrance;
 mod fields;
 mod host;
 mod pace;

@@ -1,9 +1,11 @@
 //! Serving the pages, several connections at a time.
 
-ghost use Rattle.std.specs.Prelude.{ℕ, ◌≡◌, ◌<◌, ◌↔◌, IfOk, IfSome, IsFalse, IsTrue, Some};
+ghost use Rattle.std.specs.Prelude.{ℕ, ◌≡◌, ◌<◌, ◌↔◌, IfOk, IfSome, IsFalse, IsTrue, Some, true};
+ghost use Rattle.status_server.specs.Arrivals.{IsFound, IsNext};
 ghost use Rattle.status_server.specs.Pace.{IsPaceAfter};
 
 use crate::bound::BoundListener;
+use crate::entrance::{Entrance, TURN};
 use crate::host::{Host, MOST_CONNECTIONS, PageHost};
 use crate::pace::Pace;
 use crate::shown::Shown;
@@ -30,16 +32,16 @@ use zone_view::RunningZone;
 /// The most octets of a request's head.
 const MOST_HEAD: usize = 8192;
 
-/// After how many milliseconds it is looked whether the zone has ended, and a listener that failed
-/// is asked again.
-const TURN: u64 = 100;
-
 /// Serves the pages of a zone until it has ended, in this thread. Connections that are open then
 /// are let go. Errors are those of the system; none of them is a connection's.
+///
+/// promise page-is-served-until-the-zone-ends: Serving the page ends without an error only if the
+/// zone has ended.
 pub fn serve<R, Z>(rt: &R, listener: &BoundListener, about: About, zone: &Z) -> io::Result<()>
 where
     R: Wait + Clock + Net + RandomSource + AllocGlobal,
     Z: RunningZone,
+    ensures { IfOk result (λ _. Z.is_ended zone.now true) }
 {
     serve_site::<R, Z, Brand>(rt, listener, about, zone)
 }
@@ -51,6 +53,7 @@ where
     Z: RunningZone,
     S: Site<Z>,
     requires { S.site ≡ Some (about, zone.now) }
+    ensures { IfOk result (λ _. Z.is_ended zone.now true) }
 {
     let view = Shown::<R, Z, S>::new(rt, rt.alloc(), about, zone);
     serve_view(rt, listener, view)
@@ -61,6 +64,7 @@ fn serve_view<R, V>(rt: &R, listener: &BoundListener, view: V) -> io::Result<()>
 where
     R: Wait + Clock + Net + RandomSource + AllocGlobal,
     V: View,
+    ensures { IfOk result (λ _. V.is_ended view true) }
 {
     let alloc = rt.alloc();
     let mut runtime = LocalRuntime::new(rt)?;
@@ -102,6 +106,7 @@ fn serve_all<R, H>(
 where
     R: Wait + Clock + Net + RandomSource + AllocGlobal,
     H: Host,
+    ensures { IfOk result (λ _. H.is_ended host true) }
 {
     let mut listener = listener;
     let timers = runtime.handle().time().clone()?;
@@ -109,7 +114,7 @@ where
     let mut pace = Pace::new(Instant::now(rt)?);
     for _ in rt.forever() {
         if host.has_ended() {
-            break;
+            return Ok(());
         }
         let next = next_connection(
             rt,
@@ -127,7 +132,7 @@ where
             let _ = works.spawn_local(work);
         }
     }
-    Ok(())
+    unreachable!()
 }
 
 /// Whether there is room for another connection beside this many.
@@ -139,12 +144,16 @@ fn has_room(count: usize) -> bool
 
 /// The next connection, behind a pause if the pace asks for one; None if there is no room for it,
 /// or if none comes before the next turn. It is counted.
-fn next_connection<R, H, W>(
+///
+/// promise connections-that-come-are-taken: A connection that a look for one comes to is the next
+/// one; there is none only if there was no room, none came before the next turn, or the listener
+/// failed (`IsNext`).
+fn next_connection<R, H, W, L>(
     rt: &R,
     runtime: &mut LocalRuntime,
     works: &LocalSet<W>,
     timers: &Handle,
-    listener: &mut TcpListener,
+    entrance: &mut L,
     host: &H,
     pace: &mut Pace,
 ) -> io::Result<Option<TcpStream>>
@@ -152,9 +161,11 @@ where
     R: Wait + Clock + RandomSource + AllocGlobal,
     H: Host,
     W: Future<Output = ()>,
+    L: Entrance,
     ensures room { IfOk result (λ next. IfSome next (λ _.
         (count : ℕ) × H.serves host.now count × (count < MOST_CONNECTIONS))) }
     ensures counted { IfOk result (λ next. IsPaceAfter next pace.old pace.new) }
+    ensures told { IfOk result (IsNext (H.serves host.now) (L.finds entrance.old)) }
 {
     if let Some(moment) = pace.pause() {
         rest(rt, runtime, works, timers.sleep_until(moment)?)?;
@@ -164,7 +175,7 @@ where
         rest(rt, runtime, works, timers.sleep(rt, turn)?)?;
         return Ok(None);
     }
-    let Some(socket) = accepted(rt, runtime, works, timers, listener)? else {
+    let Some(socket) = accepted(rt, runtime, works, timers, entrance)? else {
         return Ok(None);
     };
     pace.count(Instant::now(rt)?);
@@ -188,25 +199,26 @@ where
 
 /// A connection that comes before the next turn, if one does. Meanwhile those that are open are
 /// served, also if the listener fails.
-fn accepted<R, W>(
+fn accepted<R, W, L>(
     rt: &R,
     runtime: &mut LocalRuntime,
     works: &LocalSet<W>,
     timers: &Handle,
-    listener: &mut TcpListener,
+    entrance: &mut L,
 ) -> io::Result<Option<TcpStream>>
 where
     R: Wait + Clock + RandomSource + AllocGlobal,
     W: Future<Output = ()>,
+    L: Entrance,
+    ensures { IfOk result (IsFound (L.finds entrance.old)) }
 {
-    let turn = Duration::from_millis(TURN);
-    let accepting = timers.timeout(rt, turn, listener.accept())?;
-    let Ok(accepted) = works.block_on_local(rt, runtime, accepting)? else {
+    let Ok(accepted) = entrance.look(rt, runtime, works, timers)? else {
         return Ok(None);
     };
     match accepted {
         Ok((socket, _)) => Ok(Some(socket)),
         Err(_) => {
+            let turn = Duration::from_millis(TURN);
             rest(rt, runtime, works, timers.sleep(rt, turn)?)?;
             Ok(None)
         }
