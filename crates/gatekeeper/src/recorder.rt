@@ -116,11 +116,7 @@ impl<R: Log, W: Write + Drop> Recorder<'_, R, W> {
     ///
     /// promise handed-out-entries-are-written: All entries that are taken out of a zone's history
     /// are written down, unless the record ends (`AreTaken`).
-    fn write_next<Z: RunningHistory>(
-        &mut self,
-        zone: &Z,
-        room: Vec<Entry>,
-    ) -> (usize, Vec<Entry>)
+    fn write_next<Z: RunningHistory>(&mut self, zone: &Z, room: Vec<Entry>) -> (usize, Vec<Entry>)
         requires { room.items ≡ [] }
         ensures taken { AreTaken (Z.gives zone.now) self.old.record self.new.record result.0 }
         ensures room { result.1.items ≡ [] }
