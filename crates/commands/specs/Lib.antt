@@ -2,4 +2,5 @@ pub mod Audits
 pub mod Checks
 pub mod Inputs
 pub mod KeyLines
+pub mod PassedKeys
 pub mod Replays

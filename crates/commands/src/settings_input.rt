@@ -1,9 +1,11 @@
 //! Reading settings from an input.
 
-ghost use Rattle.std.specs.Prelude.{◌≡◌, ◌≤◌, length, map, IfErr, IfOk, IfSome};
+ghost use Rattle.std.specs.Prelude.{◌≡◌, ◌≤◌, length, map, IfErr, IfOk, IfSome, Some};
+ghost use Rattle.std.specs.Fmt.{DisplaysOnOk};
 ghost use Rattle.settings.specs.Settings.{AreSettings};
 ghost use Rattle.commands.specs.Inputs.{ArePassedOver, HaveLines, IsInputRead, IsReadFault};
 ghost use Rattle.commands.specs.Inputs.{IsRefusal, IsTextRead, count_with, input_status};
+ghost use Rattle.commands.specs.PassedKeys.{hint_of, passed_over_text, place_text};
 
 use crate::key_lines::{line_behind, line_of};
 use settings::{Settings, SettingsFault, UnknownKey, read_settings, unknown_keys};
@@ -49,7 +51,11 @@ impl InputFault {
     }
 }
 
-/// A key that is passed over, since it isn't known.
+/// A key that is passed over, since it isn't known. It is shown behind the line on which it stands,
+/// with the known key that may be meant.
+///
+/// promise passed-over-keys-are-told: What is shown of a key that is passed over is its line, its
+/// path, and the nearest known key, each if there is one (`passed_over_text`).
 #[derive(Drop)]
 pub struct PassedOver {
     key: UnknownKey,
@@ -57,15 +63,32 @@ pub struct PassedOver {
 }
 
 impl fmt::Display for PassedOver {
+    ghost output = { λ passed. Some (passed_over_text passed) };
+
     fn fmt<W: fmt::Write>(&self, f: &mut fmt::Formatter<W>) -> fmt::Result {
-        if let Some(line) = self.line {
-            write!(f, "line {line}: ")?;
-        }
+        write_place(self.line, f)?;
         write!(f, "unknown key {}", self.key.path)?;
-        match self.key.nearest {
-            Some(nearest) => write!(f, ", nearest {nearest}"),
-            None => Ok(()),
-        }
+        write_hint(&self.key, f)
+    }
+}
+
+/// Writes where a key stands, if its line is known.
+fn write_place<W: fmt::Write>(line: Option<usize>, f: &mut fmt::Formatter<W>) -> fmt::Result
+    ensures { DisplaysOnOk W.write_str_gives f.old result (Some (place_text line)) f.new }
+{
+    match line {
+        Some(line) => write!(f, "line {line}: "),
+        None => Ok(()),
+    }
+}
+
+/// Writes which known key may be meant, if one is near.
+fn write_hint<W: fmt::Write>(key: &UnknownKey, f: &mut fmt::Formatter<W>) -> fmt::Result
+    ensures { DisplaysOnOk W.write_str_gives f.old result (Some (hint_of key.now)) f.new }
+{
+    match key.nearest {
+        Some(nearest) => write!(f, ", nearest {nearest}"),
+        None => Ok(()),
     }
 }
 

@@ -1,3 +1,4 @@
+pub mod Attendants
 pub mod Clocks
 pub mod Endings
 pub mod Recorders

@@ -1,6 +1,6 @@
 -- What a record gets of the entries that leave a zone's history while it is served.
 use Rattle.std.specs.Prelude.{ℕ, ◌≡◌, ◌==◌, ◌&&◌, ◌⊎◌, Bool, IsTrue, true, false, List, Result, Ok}
-use Rattle.std.specs.Prelude.{Err}
+use Rattle.std.specs.Prelude.{Err, vec_len}
 use Rattle.std.specs.Io.KnownBytes.{Keeps}
 use Rattle.std.specs.declared.io.Error.{Error}
 use Rattle.books.specs.declared.book.Entry.{Entry}
@@ -44,3 +44,10 @@ IsBehindAnswer (Err error) old new = IsFlushed old new
 abbrev pub ArePut : Standing → HandedOut → Standing → Type 0
 ArePut old handed new = (answer : Result Recorded Error) × (mid : Standing)
     × IsPutDown old handed answer mid × IsBehindAnswer answer mid new
+
+-- what left a zone's history was put down, by this place, with these entries, and whether more may
+-- come; so many entries left it
+abbrev pub AreTaken : (ℕ → List Entry → Bool → Type 0) → Standing → Standing → ℕ → Type 0
+AreTaken left old new count = (handed : HandedOut)
+    × left handed.first handed.entries.items handed.is_recorded
+    × ArePut old handed new × (count ≡ vec_len handed.entries)

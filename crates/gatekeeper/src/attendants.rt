@@ -1,6 +1,7 @@
 //! Those who look at a zone while it is served, each in a thread of its own.
 
-ghost use Rattle.std.specs.Prelude.{◌≡◌, ◌≤◌, ◌<◌, ◌+◌, IfOk, length, option_to_list, vec_capacity, vec_len};
+ghost use Rattle.std.specs.Prelude.{◌≡◌, ◌≤◌, ◌<◌, ◌+◌, IfOk, is_some, vec_capacity, vec_len};
+ghost use Rattle.gatekeeper.specs.Attendants.{attendants_wanted, count_if};
 
 use crate::page_server::PageServer;
 use crate::recorder::Recorder;
@@ -40,7 +41,7 @@ fn add_page<'a, R, W: Write + Drop>(
 )
     requires { vec_len attendants.old < vec_capacity attendants.old }
     ensures added { vec_len attendants.new
-        ≡ vec_len attendants.old + length (option_to_list page.entry) }
+        ≡ vec_len attendants.old + count_if (is_some page.entry) }
     ensures one { vec_len attendants.new ≤ vec_len attendants.old + 1 }
     ensures room { vec_capacity attendants.new ≡ vec_capacity attendants.old }
 {
@@ -56,7 +57,7 @@ fn add_recorder<'a, R, W: Write + Drop>(
 )
     requires { vec_len attendants.old < vec_capacity attendants.old }
     ensures added { vec_len attendants.new
-        ≡ vec_len attendants.old + length (option_to_list recorder.entry) }
+        ≡ vec_len attendants.old + count_if (is_some recorder.entry) }
 {
     if let Some(recorder) = recorder {
         attendants.push_reserved(Attendant::Record(recorder));
@@ -70,7 +71,7 @@ pub fn attendants_of<'a, R, W: Write + Drop>(
     recorder: Option<Recorder<'a, R, W>>,
 ) -> Result<Vec<Attendant<'a, R, W>>, AllocError>
     ensures { IfOk result (λ attendants. vec_len attendants
-        ≡ length (option_to_list page.entry) + length (option_to_list recorder.entry)) }
+        ≡ attendants_wanted (is_some page.entry) (is_some recorder.entry)) }
 {
     let mut attendants = Vec::with_capacity(alloc, 2)?;
     add_page(page, &mut attendants);

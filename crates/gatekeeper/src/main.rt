@@ -34,15 +34,15 @@ use std::thread::Threads;
 use std::{env, io};
 use stopping::SignalStop;
 use surroundings::{
-    SETTINGS, StopSignal, audit_source, check_source, explain_input, open_file, out_of_memory,
-    probe_gatekeeper, replay_input, stream_failed,
+    SETTINGS, StopSignal, ThisProgram, audit_source, check_source, explain_input, open_file,
+    out_of_memory, probe_gatekeeper, replay_input, stream_failed,
 };
 use udp_socket::Stop;
 
 fn main(rt: HostRuntime) -> ExitCode {
     let alloc = rt.alloc();
     // It reads a file of the system's, which only what has the whole runtime may hand to threads.
-    let stop = SignalStop(StopSignal::new(&rt, alloc));
+    let stop = SignalStop(StopSignal::new(ThisProgram::new(&rt, alloc)));
     let status = match words(&rt, alloc) {
         Ok(words) => run(&rt, alloc, &stop, words.as_slice()),
         Err(AllocError) => out_of_memory(&rt),

@@ -1,6 +1,7 @@
 //! Serving a zone over a socket.
 
 ghost use Rattle.std.specs.Prelude.{◌≡◌, ◌≤◌, All, IfErr, IfOk, vec_len};
+ghost use Rattle.gatekeeper.specs.Attendants.{attendants_wanted};
 ghost use Rattle.gatekeeper.specs.Clocks.{beginning};
 ghost use Rattle.gatekeeper.specs.Serves.{IsServerFault, running_fault_of};
 ghost use Rattle.udp_server.specs.Plans.{IsPlan};
@@ -84,7 +85,7 @@ fn running_fault(fault: ServeFault) -> RunningFault
 }
 
 /// Serves a zone over a socket until its ends have stopped, or are told to. Those who look at it
-/// meanwhile are waited for at the end.
+/// meanwhile are waited for at the end: they are as many as the service wants.
 pub fn serve_socket<
     P: Pool + Send,
     R: Threads + Wait + Clock + Sync,
@@ -101,6 +102,8 @@ pub fn serve_socket<
 ) -> Result<Report<P>, RunningFault>
     requires receivers { service.receivers ≤ 15 }
     requires plan { IsPlan service.plan }
+    requires watchers { vec_len watchers
+        ≡ attendants_wanted service.has_page service.plan.hands_out }
     ensures served { IfOk result (λ r. IsServed zone.state r.finished r.datagrams r.turns
         r.changes) }
     ensures fault { IfErr result IsServerFault }

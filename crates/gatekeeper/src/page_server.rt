@@ -1,6 +1,6 @@
 //! The status page beside the server of a zone.
 
-ghost use Rattle.std.specs.Prelude.{◌≡◌, ◌↔◌, IfSome, IsSome};
+ghost use Rattle.std.specs.Prelude.{◌≡◌, ◌↔◌, IfSome, IsSome, is_some};
 
 use log::{Log, warn};
 use status_page::About;
@@ -28,6 +28,7 @@ pub fn watcher_of<'a, R>(
     about: &'a About,
 ) -> Option<PageServer<'a, R>>
     ensures page { IsSome result ↔ IsSome listener.entry }
+    ensures wanted { is_some result ≡ is_some listener.entry }
     ensures about { IfSome result (λ page. page.about.now ≡ about.now) }
 {
     match listener {

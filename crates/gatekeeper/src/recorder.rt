@@ -1,9 +1,10 @@
 //! The record that is written while a zone is served.
 
-ghost use Rattle.std.specs.Prelude.{◌≡◌, [], IfErr, IfOk};
-ghost use Rattle.gatekeeper.specs.Recorders.{ArePut, IsFlushed, IsPutDown};
+ghost use Rattle.std.specs.Prelude.{◌≡◌, [], IfErr, IfOk, IsTrue, is_some};
+ghost use Rattle.gatekeeper.specs.Recorders.{AreTaken, ArePut, IsFlushed, IsPutDown};
 ghost use Rattle.surroundings.specs.Faults.{IsBeginFault};
 
+use books::Entry;
 use log::Log;
 use recording::{End, RecordWriter, Recorded};
 use std::alloc::Global;
@@ -52,6 +53,25 @@ pub fn recorder_of<'a, R: Files<File = File> + Clock + Log>(
     })
 }
 
+/// Who is to write down what comes, if a record is planned: it is begun.
+pub fn planned_recorder<'a, R: Files<File = File> + Clock + Log>(
+    rt: &'a R,
+    alloc: Global,
+    planned: Option<PlannedRecord<'a>>,
+) -> Result<Option<Recorder<'a, R, RecordFile>>, RunningFault>
+    ensures planned { IfOk result (λ recorder. is_some recorder ≡ is_some planned.entry) }
+    ensures fault { IfErr result IsBeginFault }
+    ensures asked { IfErr result (λ fault. IsTrue (is_some planned.entry)) }
+{
+    let Some(planned) = planned else {
+        return Ok(None);
+    };
+    match recorder_of(rt, alloc, &planned) {
+        Ok(recorder) => Ok(Some(recorder)),
+        Err(fault) => Err(fault),
+    }
+}
+
 /// Writes down entries that left a zone's history, if they follow those that are written and more
 /// may come. Otherwise steps were lost, and the record ends.
 ///
@@ -91,6 +111,22 @@ impl<R: Log, W: Write + Drop> Recorder<'_, R, W> {
         }
     }
 
+    /// Takes the entries so far out of a zone's history, and writes them down. Those that come next
+    /// stand in `room`, which has none yet. Returned is how many they were, and room for others.
+    ///
+    /// promise handed-out-entries-are-written: All entries that are taken out of a zone's history
+    /// are written down, unless the record ends (`AreTaken`).
+    fn write_next<Z: RunningHistory>(&mut self, zone: &Z, room: Vec<Entry>) -> (usize, Vec<Entry>)
+        requires { room.items ≡ [] }
+        ensures taken { AreTaken (Z.gives zone.now) self.old.record self.new.record result.0 }
+        ensures room { result.1.items ≡ [] }
+    {
+        let mut handed = zone.hand_out(room);
+        let count = handed.entries.len();
+        self.put(&mut handed);
+        (count, handed.entries)
+    }
+
     /// Hands what is held to the system. If that fails, a warning tells it, and the record is
     /// closed.
     fn flush(&mut self)
@@ -110,10 +146,8 @@ impl<R: Wait + Clock + Log, W: Write + Drop> Watcher for Recorder<'_, R, W> {
         for _ in rt.forever() {
             // What is handed out of a zone that has ended is all that was left.
             let is_last = zone.has_ended();
-            let mut handed = zone.hand_out(room);
-            let count = handed.entries.len();
-            recorder.put(&mut handed);
-            room = handed.entries;
+            let (count, left) = recorder.write_next(zone, room);
+            room = left;
             if !recorder.record.is_open() {
                 zone.stop(room);
                 break;

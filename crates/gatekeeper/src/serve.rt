@@ -13,7 +13,7 @@ ghost use Rattle.udp_server.specs.Served.{IsServed};
 use crate::attendants::attendants_of;
 use crate::over_socket::{ask_for_buffer, serve_socket};
 use crate::page_server::watcher_of;
-use crate::recorder::recorder_of;
+use crate::recorder::planned_recorder;
 use crate::report::{print_report, warn_of_faults};
 use crate::service::{Service, Task};
 use commands::{ReadInput, Serving, pools_of, read_input};
@@ -41,7 +41,8 @@ use udp_server::Report;
 use udp_socket::{BoundSocket, Stop, bind_zone};
 
 /// Serves a zone over a socket, its status page if there is a listener for it, and writes its
-/// record if one is planned. The record is begun once socket and page are bound.
+/// record if one is planned: entries are handed out for it alone. The record is begun once socket
+/// and page are bound.
 fn serve_attended<
     P: Pool + Send,
     R: Threads
@@ -67,15 +68,14 @@ fn serve_attended<
 ) -> Result<Report<P>, RunningFault>
     requires receivers { service.receivers ≤ 15 }
     requires plan { IsPlan service.plan }
+    requires page { service.has_page ≡ is_some listener }
+    requires record { service.plan.hands_out ≡ is_some planned }
     ensures served { IfOk result (λ r. IsServed zone.state r.finished r.datagrams r.turns
         r.changes) }
     ensures fault { IfErr result (IsAttendedFault (is_some planned.entry)) }
 {
     let page = watcher_of(rt, listener, about);
-    let recorder = match planned {
-        Some(planned) => Some(recorder_of(rt, alloc, &planned)?),
-        None => None,
-    };
+    let recorder = planned_recorder(rt, alloc, planned)?;
     let attendants = attendants_of(alloc, page, recorder)?;
     ask_for_buffer(rt, socket, service.buffer);
     tell_zone(rt, &about.name, about.address, service.receivers);
@@ -108,6 +108,8 @@ fn serve_paged<
 ) -> Result<Report<P>, RunningFault>
     requires receivers { service.receivers ≤ 15 }
     requires plan { IsPlan service.plan }
+    requires page { service.has_page ≡ is_some page }
+    requires record { service.plan.hands_out ≡ is_some planned }
     ensures served { IfOk result (λ r. IsServed zone.state r.finished r.datagrams r.turns
         r.changes) }
     ensures fault { IfErr result (IsPagedFault (is_some page) (is_some planned.entry)) }

@@ -1,6 +1,6 @@
 //! What is set for the server, and what is asked of it.
 
-ghost use Rattle.std.specs.Prelude.{◌≡◌, ◌≤◌, false};
+ghost use Rattle.std.specs.Prelude.{◌≡◌, ◌≤◌, false, is_some};
 ghost use Rattle.settings.specs.Ranges.{AreServeNumbers};
 ghost use Rattle.udp_server.specs.Plans.{IsPlan};
 
@@ -24,12 +24,14 @@ pub struct Task<'a, S: Stop> {
 }
 
 /// What is set for the server besides its zone: how many threads receive, how often each of them
-/// receives, if that is limited, the buffer to ask for, in octets, and the plan.
+/// receives, if that is limited, the buffer to ask for, in octets, whether it has a status page, and
+/// the plan.
 #[derive(Clone, Copy)]
 pub struct Service {
     pub receivers: usize,
     pub receives: Option<u64>,
     pub buffer: u64,
+    pub has_page: bool,
     pub plan: Plan,
 }
 
@@ -45,6 +47,7 @@ impl Service {
         ensures few { result.receivers ≤ 15 }
         ensures receives { result.receives ≡ receives }
         ensures buffer { result.buffer ≡ settings.now.buffer }
+        ensures page { result.has_page ≡ is_some settings.now.status }
         ensures ring { result.plan.ring ≡ settings.now.ring }
         ensures faults { result.plan.faults ≡ settings.now.faults }
         ensures tick { result.plan.tick ≡ settings.now.tick }
@@ -57,6 +60,7 @@ impl Service {
             receivers: settings.receivers,
             receives,
             buffer: settings.buffer,
+            has_page: settings.status.is_some(),
             plan: Plan {
                 ring: settings.ring,
                 faults: settings.faults,

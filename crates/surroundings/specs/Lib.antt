@@ -1,4 +1,5 @@
 pub mod Beginnings
+pub mod Causes
 pub mod Elapsed
 pub mod Endings
 pub mod Faults

@@ -1,5 +1,6 @@
 -- Signals that wait for the program, by what the system tells of it, line by line.
-use Rattle.std.specs.Prelude.{ℕ, ◌≢◌, ◌<◌, ◌^◌, ◌+◌, List, [], ◌∷◌, Option, Some, None}
+use Rattle.std.specs.Prelude.{ℕ, ◌≡◌, ◌≢◌, ◌<◌, ◌≤◌, ◌^◌, ◌+◌, ◌⊎◌, List, [], ◌∷◌}
+use Rattle.std.specs.Prelude.{Option, Some, None}
 use Rattle.std.specs.Prelude.{bit_and, codes, drop, if◌then◌else◌, nat_eq, IsSomeAnd}
 use Rattle.std.specs.List.{starts_with}
 use Rattle.std.specs.Str.{trim}
@@ -35,3 +36,20 @@ pub record AsksToEnd (digits : List ℕ) : Type 0 where
 -- the program is asked to end
 abbrev pub IsAsked : List ℕ → Type 0
 IsAsked status = IsSomeAnd (waiting_of status) AsksToEnd
+
+-- the system told of the program that a signal asks it to end
+abbrev pub HasAsked : (Option (List ℕ) → Type 0) → Type 0
+HasAsked told = (status : List ℕ) × told (Some status) × IsAsked status
+
+-- the system told no such thing of the program when it was looked for
+abbrev pub HasNotAsked : (Option (List ℕ) → Type 0) → Type 0
+HasNotAsked told = (status : Option (List ℕ)) × told status × (IsSomeAnd status IsAsked → ⊥)
+
+-- the next look is due at once, or at most 100 milliseconds behind a moment at which one was due
+abbrev pub IsNextLook : (ℕ → Type 0) → ℕ → Type 0
+IsNextLook passed next = (next ≡ 0) ⊎ ((before : ℕ) × passed before × (next ≤ before + 100))
+
+-- one moment was less than 100 milliseconds behind another
+abbrev pub IsPause : (ℕ → Type 0) → Type 0
+IsPause passed =
+    (before : ℕ) × (now : ℕ) × passed before × passed now × (now < before + 100)

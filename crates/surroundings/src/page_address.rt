@@ -1,6 +1,6 @@
 //! The address of the status page.
 
-ghost use Rattle.std.specs.Prelude.{◌≡◌, ◌↔◌, IfErr, IfOk, IsSome, OnErr};
+ghost use Rattle.std.specs.Prelude.{◌≡◌, ◌↔◌, IfErr, IfOk, IsSome, OnErr, is_some};
 
 use crate::notices::{tell_cause, tell_page};
 use crate::serving_fault::RunningFault;
@@ -16,6 +16,7 @@ pub fn bind_page<R: Net<Listener = TcpListener, Stream = TcpStream> + Log>(
     address: Option<Address>,
 ) -> Result<Option<BoundListener>, RunningFault>
     ensures bound { IfOk result (λ listener. IsSome listener ↔ IsSome address) }
+    ensures wanted { IfOk result (λ listener. is_some listener ≡ is_some address) }
     ensures asked { OnErr result (IsSome address) }
     ensures fault { IfErr result (λ fault. fault ≡ RunningFault.BindPage) }
 {

@@ -5,6 +5,7 @@ ghost use Rattle.std.specs.Prelude.{◌==◌, string_bytes};
 ghost use Rattle.std.specs.List.{list_any};
 ghost use Rattle.recording.specs.Zones.{zone_lines};
 ghost use Rattle.surroundings.specs.Beginnings.{IsBegunBehind, IsOneLine, WritesBeginning};
+ghost use Rattle.surroundings.specs.Causes.{making_cause};
 ghost use Rattle.surroundings.specs.Faults.{IsBeginFault, begin_fault};
 
 use crate::notices::{tell_no_record, tell_record, warn_of_end};
@@ -26,7 +27,9 @@ const BUFFER: usize = 65_536;
 pub type RecordFile = BufWriter<File>;
 
 /// Why no file is made, as a person is told it.
-fn cause_of(kind: ErrorKind) -> &'static str {
+fn cause_of(kind: ErrorKind) -> &'static str
+    ensures { result.now ≡ making_cause kind }
+{
     match kind {
         ErrorKind::AlreadyExists => "there is such a file",
         ErrorKind::NotFound => "there is no such folder",

@@ -1,6 +1,7 @@
 //! What is to be recorded of a zone.
 
 ghost use Rattle.std.specs.Prelude.{◌≡◌, ◌↔◌, IfErr, IfOk, IfSome, IsSome, Ok, OnErr, Some};
+ghost use Rattle.std.specs.Prelude.{is_some};
 ghost use Rattle.recording.specs.Zones.{recorded_zone};
 ghost use Rattle.surroundings.specs.Faults.{IsPlanFault};
 
@@ -32,6 +33,7 @@ pub fn planned_record<'a, R: Log>(
     ensures recording { IfOk result (λ planned. IfSome planned
         (λ it. recording.entry ≡ Some it.recording)) }
     ensures planned { IfOk result (λ planned. IsSome planned ↔ IsSome recording.entry) }
+    ensures wanted { IfOk result (λ planned. is_some planned ≡ is_some recording.entry) }
     ensures asked { OnErr result (IsSome recording.entry) }
     ensures fault { IfErr result (IsPlanFault (recorded_zone config.now specs)) }
 {

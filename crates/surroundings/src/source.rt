@@ -1,5 +1,8 @@
 //! Where settings and records come from.
 
+ghost use Rattle.std.specs.Prelude.{◌≡◌};
+ghost use Rattle.surroundings.specs.Causes.{opening_cause};
+
 use crate::notices::tell_unreadable;
 use log::Log;
 use std::io::ErrorKind;
@@ -26,7 +29,9 @@ impl fmt::Display for Source<'_> {
 }
 
 /// Why a file can't be opened, as a person is told it.
-fn cause_of(kind: ErrorKind) -> &'static str {
+fn cause_of(kind: ErrorKind) -> &'static str
+    ensures { result.now ≡ opening_cause kind }
+{
     match kind {
         ErrorKind::NotFound => "there is no such file",
         ErrorKind::PermissionDenied => "not permitted",

@@ -1,19 +1,13 @@
 //! Signals that ask the program to end. It is started with SIGTERM and SIGINT blocked, as
 //! `./gatekeeper serve` starts it; a signal that came then waits, and the system tells so.
 
-ghost use Rattle.std.specs.Prelude.{◌≡◌, ◌↔◌, IsTrue};
-ghost use Rattle.std.specs.Option.{option_copied};
-ghost use Rattle.surroundings.specs.Signals.{AsksToEnd, IsAsked, waiting_in, waiting_of};
+ghost use Rattle.std.specs.Prelude.{◌≡◌, ◌≢◌, ◌⊎◌, ◌↔◌, IfSome, IsFalse, IsTrue, string_bytes};
+ghost use Rattle.std.specs.Option.{option_copied, option_map};
+ghost use Rattle.surroundings.specs.Signals.{AsksToEnd, HasAsked, HasNotAsked, IsAsked};
+ghost use Rattle.surroundings.specs.Signals.{IsNextLook, IsPause, waiting_in, waiting_of};
 
-use crate::elapsed::milliseconds_since;
-use std::alloc::Global;
-use std::fs;
-use std::rt::{Clock, Files};
-use std::sync::atomic::{AtomicBool, AtomicU64, Ordering};
-use std::time::Instant;
-
-/// What the system tells of this program.
-const STATUS: &str = "/proc/self/status";
+use std::marker::PhantomData;
+use std::sync::atomic::{AtomicIn, Ordering, Rule};
 
 /// The signals SIGINT, number 2, and SIGTERM, number 15, in a set of signals, of which the lowest
 /// bit is number 1.
@@ -64,50 +58,101 @@ fn is_asked(status: &str) -> bool
     }
 }
 
-/// A look at the signals now and then.
-#[derive(Drop)]
-pub struct StopSignal<'a, R> {
-    rt: &'a R,
-    alloc: Global,
-    start: Option<Instant>,
-    /// In which millisecond the next look is due.
-    next: AtomicU64,
-    was_asked: AtomicBool,
+/// What the system tells of a program, and how long it has run.
+pub trait Signals: Drop {
+    ghost use Rattle.std.specs.Prelude.{ℕ, List, Option};
+
+    /// At some moment the system told this of the program; None: it told nothing.
+    ghost told: { Option (List ℕ) → Type 0 } = { λ _. Unit {0} };
+
+    /// At some moment so many milliseconds had passed.
+    ghost passed: { ℕ → Type 0 } = { λ _. Unit {0} };
+
+    /// What the system tells of the program, line by line; None if it tells nothing.
+    fn status(&self) -> Option<String>
+        ensures told { told (option_map string_bytes result) };
+
+    /// How many milliseconds have passed; None if the clock can't be read.
+    fn milliseconds(&self) -> Option<u64>
+        ensures passed { IfSome result passed };
 }
 
-impl<'a, R: Clock + Files> StopSignal<'a, R> {
+/// What is known of a word that is 0 until a signal has asked the program to end.
+struct OnceAsked<S>(PhantomData<S>);
+
+impl<S: Signals> Rule for OnceAsked<S> {
+    ghost invariant = { λ word. word ≢ 0 → HasAsked S.told };
+}
+
+/// What is known of a word that tells in which millisecond the next look is due.
+struct NextLook<S>(PhantomData<S>);
+
+impl<S: Signals> Rule for NextLook<S> {
+    ghost invariant = { IsNextLook S.passed };
+}
+
+/// A look at the signals now and then.
+#[derive(Drop)]
+pub struct StopSignal<S: Signals> {
+    signals: S,
+    next: AtomicIn<NextLook<S>>,
+    was_asked: AtomicIn<OnceAsked<S>>,
+}
+
+impl<S: Signals> StopSignal<S> {
     /// A look that is due at once.
-    pub fn new(rt: &'a R, alloc: Global) -> Self {
+    pub fn new(signals: S) -> Self {
         StopSignal {
-            rt,
-            alloc,
-            start: Instant::now(rt).ok(),
-            next: AtomicU64::new(0),
-            was_asked: AtomicBool::new(false),
+            signals,
+            next: AtomicIn::new(0),
+            was_asked: AtomicIn::new(0),
         }
     }
 
-    fn looks(&self) -> bool {
-        match fs::read_to_string(&(self.rt, self.alloc), STATUS) {
-            Ok(status) => is_asked(status.as_str()),
-            Err(_) => false,
+    /// Whether the system tells now that a signal asks the program to end.
+    fn looks(&self) -> bool
+        ensures asked { IsTrue result → HasAsked S.told }
+        ensures unasked { IsFalse result → HasNotAsked S.told }
+    {
+        match self.signals.status() {
+            Some(status) => is_asked(status.as_str()),
+            None => false,
         }
     }
 
-    /// Whether a signal has asked the program to end.
-    pub fn has_come(&self) -> bool {
-        if self.was_asked.load(Ordering::SeqCst) {
+    /// Whether a look is due now. The next one is due after the pause. If the clock can't be read,
+    /// each look is due.
+    fn is_due(&self) -> bool
+        ensures { IsFalse result → IsPause S.passed }
+    {
+        let Some(now) = self.signals.milliseconds() else {
             return true;
-        }
-        // If the clock can't be read, each look is due.
-        let now = milliseconds_since(self.rt, self.start).unwrap_or(u64::MAX);
+        };
         if now < self.next.load(Ordering::SeqCst) {
             return false;
         }
         self.next.store(now.saturating_add(PAUSE), Ordering::SeqCst);
+        true
+    }
+
+    /// Whether a signal has asked the program to end.
+    ///
+    /// promise stop-signal-is-seen: That a signal has come is told only if the system told so; that
+    /// none has, only if it told that, or within 100 milliseconds behind a look (`HasAsked`,
+    /// `HasNotAsked`, `IsPause`).
+    pub fn has_come(&self) -> bool
+        ensures asked { IsTrue result → HasAsked S.told }
+        ensures unasked { IsFalse result → HasNotAsked S.told ⊎ IsPause S.passed }
+    {
+        if self.was_asked.load(Ordering::SeqCst) != 0 {
+            return true;
+        }
+        if !self.is_due() {
+            return false;
+        }
         let is_asked = self.looks();
         if is_asked {
-            self.was_asked.store(true, Ordering::SeqCst);
+            self.was_asked.store(1, Ordering::SeqCst);
         }
         is_asked
     }
