@@ -88,7 +88,7 @@ fn record_options<'a>(alloc: Global) -> Result<(Arg<'a>, Arg<'a>), AllocError> {
         .long(RECORD_MOST)
         .value_name("OCTETS")
         .value_parser(value_parser!(u64).range(1..=MOST_OCTETS))
-        .help("how long it may become, 1 to 9007199254740992; 1073741824 if not given")
+        .help("octets of zone and steps in it, 1 to 9007199254740992; 1073741824 if not given")
         .requires_arg(RECORD)?;
     Ok((record, most))
 }

@@ -188,9 +188,9 @@ fn read_input<R: Read + Drop>(
 /// and no more than that and a piece of the input is held of it. What stands behind the last end of
 /// a line was cut off, and isn't read.
 ///
-/// promise audited-record-is-a-run: A record of fewer than 2^51 octets passes if and only if its
-/// lines are a run of the zone that they describe; else the first line that isn't is told
-/// (`IsAuditOf`). Failed reads and want of memory are left aside.
+/// promise audited-record-is-a-run: Failed reads and want of memory aside, a record of fewer than
+/// 2^51 octets passes if and only if its lines are a run of the zone that they describe; else the
+/// first line that isn't is told (`IsAuditOf`).
 pub fn audit_record<R: Read + Drop>(
     alloc: Global,
     input: &mut Input<R>,

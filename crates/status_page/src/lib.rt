@@ -1,9 +1,9 @@
 //! The pages that show a running zone: what a request asks for, and the texts that answer it. There
 //! is a page for people, JSON for programs, and metrics in Prometheus' text format.
 //!
-//! proved: what a request asks for (`asked_by`); the rows of a list are the first ones behind the
-//! row that was asked for, of all that the zone told, rising, and it is told whether there are more
-//! (`endpoints_after`); the texts of all pages (`metrics`, `home`)
+//! proved: what a request asks for (`asked_by`); a list has the next rows behind the given one, of
+//! all that the zone told, in rising order, and says whether there are more (`endpoints_after`); the
+//! texts of all pages (`metrics`, `home`)
 #![tactic(auto)]
 
 mod asked;
