@@ -2,8 +2,8 @@
 //! is a page for people, JSON for programs, and metrics in Prometheus' text format.
 //!
 //! proved: what a request asks for (`asked_by`); a list has the next rows behind the given one, of
-//! all that the zone told, in rising order, and says whether there are more (`endpoints_after`); the
-//! texts of all pages (`metrics`, `home`)
+//! all that the zone told, in rising order, and says whether there are more (`endpoints_after`);
+//! the texts of all pages (`metrics`, `home`)
 #![tactic(auto)]
 
 mod asked;
