@@ -10,17 +10,17 @@ use Rattle.udp_server.specs.declared.worker.StepResult.{StepResult}
 use Rattle.udp_server.specs.declared.worker.StepResult.TheVariants as result
 use Rattle.udp_server.specs.Ticks.{AreRounds, IsTick, Round, goes_on_after_turns, is_more_due}
 use Rattle.udp_server.specs.Ticks.{is_more_due_after}
-use Rattle.udp_server.specs.Working.{Standing, goes_on_after}
+use Rattle.udp_server.specs.Working.{goes_on_after}
 
 -- This many rounds were made so far. More may have been due after each.
-pub record AreBusy {Came : Type 0} (round : Round Came) (is_more : Came → Bool) (count : ℕ)
-    (old new : Standing) : Type 0 where
+pub record AreBusy {Came At : Type 0} (round : Round Came At) (is_more : Came → Bool) (count : ℕ)
+    (old new : At) : Type 0 where
   pub all : List Came
   pub rounds : AreRounds round all old new
   pub busy : AllPass is_more all
   pub number : length all ≡ count
 
-pub none_yet : {Came : Type 0} (round : Round Came) (is_more : Came → Bool) (old : Standing)
+pub none_yet : {Came At : Type 0} (round : Round Came At) (is_more : Came → Bool) (old : At)
     → AreBusy round is_more 0 old old
 none_yet round is_more old = record {
   all = [];
@@ -29,8 +29,8 @@ none_yet round is_more old = record {
   number = refl;
 }
 
-pub one_more : {Came : Type 0} (round : Round Came) (is_more : Came → Bool) (count : ℕ)
-    (old mid new : Standing) (came : Came) → AreBusy round is_more count old mid
+pub one_more : {Came At : Type 0} (round : Round Came At) (is_more : Came → Bool) (count : ℕ)
+    (old mid new : At) (came : Came) → AreBusy round is_more count old mid
     → is_more came ≡ true → round came mid new → AreBusy round is_more (count + 1) old new
 one_more round is_more count old mid new came so_far more made = record {
   all = came ∷ so_far.all;
@@ -40,8 +40,8 @@ one_more round is_more count old mid new came so_far more made = record {
 }
 
 -- no more is due after the last round
-pub until_none : {Came : Type 0} (round : Round Came) (most : ℕ)
-    (is_more goes_on_after : Came → Bool) (goes_on : Bool) (count : ℕ) (old mid new : Standing) (last : Came)
+pub until_none : {Came At : Type 0} (round : Round Came At) (most : ℕ)
+    (is_more goes_on_after : Came → Bool) (goes_on : Bool) (count : ℕ) (old mid new : At) (last : Came)
     → AreBusy round is_more count old mid → count < most → is_more last ≡ false
     → round last mid new → goes_on ≡ goes_on_after last
     → IsTick round most is_more goes_on_after goes_on old new
@@ -56,8 +56,8 @@ until_none round most is_more goes_on_after goes_on count old mid new last so_fa
       end = is;
     }
 
-of_all : {Came : Type 0} (round : Round Came) (most : ℕ) (is_more goes_on_after : Came → Bool)
-    (old new : Standing) (all : List Came)
+of_all : {Came At : Type 0} (round : Round Came At) (most : ℕ) (is_more goes_on_after : Came → Bool)
+    (old new : At) (all : List Came)
     → ((came : Came) → is_more came ≡ true → goes_on_after came ≡ true)
     → AreRounds round all old new → AllPass is_more all → length all ≡ most → 0 < most
     → IsTick round most is_more goes_on_after true old new
@@ -75,8 +75,8 @@ of_all round most is_more goes_on_after old new (last ∷ before) stays rounds b
     }
 
 -- as many rounds were made as may be, and a worker goes on after each in which more was due
-pub as_many_as_may_be : {Came : Type 0} (round : Round Came) (most : ℕ)
-    (is_more goes_on_after : Came → Bool) (count : ℕ) (old new : Standing)
+pub as_many_as_may_be : {Came At : Type 0} (round : Round Came At) (most : ℕ)
+    (is_more goes_on_after : Came → Bool) (count : ℕ) (old new : At)
     → ((came : Came) → is_more came ≡ true → goes_on_after came ≡ true)
     → AreBusy round is_more count old new → count ≡ most → 0 < most
     → IsTick round most is_more goes_on_after true old new

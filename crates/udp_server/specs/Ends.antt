@@ -1,5 +1,5 @@
 -- What the ends of a server give, and how their failed calls are counted.
-use Rattle.std.specs.Prelude.{◌≤◌, ◌+◌, ℕ, List, [], min, take}
+use Rattle.std.specs.Prelude.{◌≤◌, ◌+◌, ℕ, List, [], min, suc, take, zero}
 use Rattle.std.specs.Prelude.{Result, Ok}
 use Rattle.udp_server.specs.declared.datagrams.DeviceFault.{DeviceFault}
 use Rattle.udp_server.specs.declared.datagrams.Received.{Received}
@@ -31,3 +31,8 @@ most_count = 18446744073709551615
 -- the count after one failed call more
 abbrev pub fault_count : ℕ → ℕ
 fault_count before = min (before + 1) most_count
+
+-- the count after this many more
+abbrev pub count_after : ℕ → ℕ → ℕ
+count_after zero before = before
+count_after (suc more) before = fault_count (count_after more before)

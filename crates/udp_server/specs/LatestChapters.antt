@@ -1,8 +1,12 @@
 -- When a chapter ends while a server runs, and which chapters it keeps.
 use Rattle.std.specs.Prelude.{◌≡◌, ◌≤◌, ◌<◌, ◌+◌, ◌-◌, ◌++◌, ◌∷◌, ◌⊎◌, ℕ, List, [], drop, length}
+use Rattle.std.specs.Prelude.{Option, min}
 use Rattle.ras_machine.specs.State.{State}
+use Rattle.books.specs.declared.book.Entry.{Entry}
 use Rattle.books.specs.Chapters.{ChapterValue}
-use Rattle.zone_lock.specs.Held.{IsChapterUnderLock}
+use Rattle.zone_lock.specs.Held.{IsBookUnderLock, IsChapterUnderLock}
+use Rattle.udp_server.specs.declared.plan.Plan.{Plan}
+use Rattle.udp_server.specs.Ends.{most_count}
 
 -- A chapter is due behind a step whose entry is at this place, if the first entry behind the last
 -- chapter is at that one: there are as many entries as the plan says for a chapter, which isn't 0.
@@ -26,3 +30,43 @@ AreLatest opened most old new =
     (new ≡ old)
     ⊎ ((chapter : ChapterValue) × IsChapterUnderLock opened chapter
     × IsKeptBehind most chapter old new)
+
+-- the chapters that are kept, and the place of the first entry behind the last chapter
+pub record Kept : Type 0 where
+  pub latest : List ChapterValue
+  pub first : ℕ
+
+abbrev pub kept : List ChapterValue → ℕ → Kept
+kept latest first = record { latest = latest; first = first }
+
+-- the place behind as many entries, the first of which stands at this one
+abbrev pub place_behind : ℕ → List Entry → ℕ
+place_behind first entries = min (first + length entries) most_count
+
+-- A chapter ended. It has what stood behind the lock, and was put behind those that are kept; the
+-- first entry behind it is the next one.
+pub record IsChapterCut (opened : State) (most : ℕ) (old new : Kept) : Type 0 where
+  pub chapter : ChapterValue
+  pub cut : IsChapterUnderLock opened chapter
+  pub kept : IsKeptBehind most chapter old.latest new.latest
+  pub first : new.first ≡ place_behind chapter.first chapter.entries
+
+-- Entries that stood behind the lock were let go, and the first one behind them is the next one.
+pub record AreLetGo (opened : State) (old new : Kept) : Type 0 where
+  pub base : Option State
+  pub entries : List Entry
+  pub book : IsBookUnderLock opened base entries
+  pub same : new.latest ≡ old.latest
+  pub first : new.first ≡ place_behind old.first entries
+
+-- A chapter ended, if this many are kept: it was cut, or its entries were let go if none is kept.
+abbrev pub IsChapterEnded : State → ℕ → Kept → Kept → Type 0
+IsChapterEnded opened most old new =
+    ((0 < most) × IsChapterCut opened most old new) ⊎ ((most ≡ 0) × AreLetGo opened old new)
+
+-- A chapter ended behind a step at this place, if one was due by the plan. If none was, all is as
+-- before.
+abbrev pub IsEndedIfDue : State → Plan → ℕ → Kept → Kept → Type 0
+IsEndedIfDue opened plan place old new =
+    (IsNoChapterDue plan.chapter old.first place × (new ≡ old))
+    ⊎ (IsChapterDue plan.chapter old.first place × IsChapterEnded opened plan.latest old new)

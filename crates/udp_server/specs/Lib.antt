@@ -2,6 +2,7 @@ pub mod Ends
 pub mod Faults
 pub mod Headline
 pub mod Joint
+pub mod KeptChapters
 pub mod LatestChapters
 pub mod OrderNumbers
 pub mod Orders

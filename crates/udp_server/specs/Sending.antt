@@ -1,11 +1,12 @@
 -- What the sender does with a reply that it takes out of a ring.
 use Rattle.std.specs.Prelude.{◌≡◌, ◌<◌, ◌+◌, ◌++◌, ◌∷◌, ◌⊎◌, ℕ, List, [], Ok, Err, get_or, length}
+use Rattle.std.specs.Prelude.{sum_by}
 use Rattle.reply_queues.specs.Rings.{datagrams_seen, datagrams_taken}
 use Rattle.reply_queues.specs.declared.inlet.Inlet.{Inlet}
 use Rattle.zone_events.specs.declared.outcome.Datagram.{Datagram}
 use Rattle.udp_server.specs.declared.datagrams.DeviceFault.{DeviceFault}
 use Rattle.udp_server.specs.declared.sender.SendCounts.{SendCounts}
-use Rattle.udp_server.specs.Ends.{SendResult, fault_count}
+use Rattle.udp_server.specs.Ends.{SendResult, count_after, fault_count}
 
 -- a send went well, and is counted
 abbrev pub sent_once_more : SendCounts → SendCounts
@@ -71,3 +72,15 @@ abbrev pub IsAnyTaken : List Inlet → List Inlet → Type 0
 IsAnyTaken old new =
     (k : ℕ) × (k < length old)
     × ((none : Inlet) → IsTaken (get_or old k none) (get_or new k none))
+
+-- how many replies were taken out of these rings by now
+abbrev pub taken_out_of : List Inlet → ℕ
+taken_out_of rings = sum_by (λ inlet. length (datagrams_taken inlet)) rings
+
+-- As many sends are counted as replies were taken out of these rings, each as sent or as failed.
+pub record AreSendsCounted (old new : List Inlet) (counts counts_then : SendCounts) : Type 0 where
+  pub sent : ℕ
+  pub failed : ℕ
+  pub each : taken_out_of new ≡ taken_out_of old + sent + failed
+  pub replies : counts_then.replies ≡ count_after sent counts.replies
+  pub faults : counts_then.faults ≡ count_after failed counts.faults

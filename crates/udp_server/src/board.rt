@@ -1,6 +1,8 @@
 //! What the threads of a server tell one another: when they begin, how many workers have ended, and
 //! that a reply waits for the sender.
 
+ghost use Rattle.std.specs.Prelude.{◌≡◌, ◌≤◌, ◌↔◌, IfSome, IsSome};
+
 use std::rt::Clock;
 use std::sync::atomic::{AtomicBool, Ordering};
 use std::sync::{Condvar, Mutex, Wait};
@@ -17,6 +19,23 @@ enum Start {
     Awaited,
     Given,
     Cancelled,
+}
+
+/// As many workers have ended as were awaited, or more.
+#[derive(Clone, Copy)]
+pub(crate) struct AllEnded {
+    pub(crate) awaited: usize,
+}
+
+/// Tells that all those have ended who are awaited, if as many have.
+fn if_all(ended: usize, awaited: usize) -> Option<AllEnded>
+    ensures all { IsSome result ↔ (awaited ≤ ended) }
+    ensures awaited { IfSome result (λ all. all.awaited ≡ awaited) }
+{
+    if ended < awaited {
+        return None;
+    }
+    Some(AllEnded { awaited })
 }
 
 /// What the threads of a server tell one another.
@@ -111,9 +130,11 @@ impl Board {
         self.sender.unpark();
     }
 
-    /// Whether this many workers have ended.
-    pub(crate) fn have_ended(&self, rt: &impl Wait, workers: usize) -> bool {
-        *self.ended.lock(rt) >= workers
+    /// Tells that this many workers have ended, if they have.
+    pub(crate) fn have_ended(&self, rt: &impl Wait, workers: usize) -> Option<AllEnded>
+        ensures { IfSome result (λ all. all.awaited ≡ workers) }
+    {
+        if_all(*self.ended.lock(rt), workers)
     }
 
     /// Waits for a tick, or until this many workers have ended. Whether they have.
@@ -126,7 +147,7 @@ impl Board {
         let ended = self.ended.lock(rt);
         let (ended, waited) = self
             .ending
-            .wait_timeout_while(rt, ended, tick, |ended| *ended < workers);
+            .wait_timeout_while(rt, ended, tick, |ended| if_all(*ended, workers).is_none());
         drop(ended);
         !waited.timed_out()
     }

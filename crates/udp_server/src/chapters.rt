@@ -2,8 +2,9 @@
 
 ghost use Rattle.std.specs.Prelude.{◌≡◌, ◌<◌, [], IsFalse, IsTrue, OnErr, OnOk, vec_capacity};
 ghost use Rattle.std.specs.Prelude.{vec_len};
-ghost use Rattle.udp_server.specs.LatestChapters.{AreLatest, IsChapterDue, IsKeptBehind};
-ghost use Rattle.udp_server.specs.LatestChapters.{IsNoChapterDue};
+ghost use Rattle.udp_server.specs.LatestChapters.{AreLatest, AreLetGo, IsChapterDue};
+ghost use Rattle.udp_server.specs.LatestChapters.{IsEndedIfDue, IsKeptBehind, IsNoChapterDue};
+ghost use Rattle.udp_server.specs.LatestChapters.{kept, place_behind};
 
 use crate::gate::Gate;
 use crate::plan::Plan;
@@ -45,6 +46,8 @@ impl Chapters {
     /// promise server-keeps-its-latest-chapters: The chapters that are kept change only behind a
     /// step at which one is due: then one of what stood behind the lock comes behind them, and the
     /// oldest one goes if they were as many as the plan says (`IsChapterDue`, `AreLatest`).
+    /// promise server-counts-entries-behind-a-chapter: Behind a chapter that ended, the next one is
+    /// due once there are as many entries again (`IsEndedIfDue`, `IsChapterCut`, `AreLetGo`).
     pub(crate) fn end_if_due<P: Pool, D: Hall, T: Ledger, U: Ledger, V: Ledger, R: Wait, G: Gate>(
         &mut self,
         shared: &Shared<'_, P, D, T, U, V, R, G>,
@@ -54,7 +57,13 @@ impl Chapters {
             self.old.latest.items self.new.latest.items }
         ensures none_due { IsNoChapterDue shared.now.plan.chapter self.old.first place
             → (self.new.first ≡ self.old.first) × (self.new.latest.items ≡ self.old.latest.items) }
+        ensures ended { OnOk result (IsEndedIfDue D.opened shared.now.plan place
+            (kept self.old.latest.items self.old.first)
+            (kept self.new.latest.items self.new.first)) }
+        ensures due { OnErr result
+            (IsChapterDue shared.now.plan.chapter self.old.first place) }
         ensures err { OnErr result (self.new.latest.items ≡ self.old.latest.items) }
+        ensures place { OnErr result (self.new.first ≡ self.old.first) }
     {
         if !self.is_due(shared.plan, place) {
             return Ok(());
@@ -67,7 +76,6 @@ impl Chapters {
         let Ok(chapter) = shared.lock.cut(shared.rt) else {
             return Err(AllocError);
         };
-        self.first = chapter.first().saturating_add(chapter.entries().len());
         self.keep(shared.plan, chapter);
         Ok(())
     }
@@ -85,7 +93,9 @@ impl Chapters {
         &mut self,
         shared: &Shared<'_, P, D, T, U, V, R, G>,
     )
-        ensures { self.new.latest ≡ self.old.latest }
+        ensures latest { self.new.latest ≡ self.old.latest }
+        ensures gone { AreLetGo D.opened (kept self.old.latest.items self.old.first)
+            (kept self.new.latest.items self.new.first) }
     {
         let room = mem::replace(&mut self.room, Vec::new(shared.alloc));
         let Discarded {
@@ -102,6 +112,7 @@ impl Chapters {
         ensures room { OnOk result (vec_len self.new.latest < plan.latest
             → vec_len self.new.latest < vec_capacity self.new.latest) }
         ensures same { self.new.latest.items ≡ self.old.latest.items }
+        ensures place { self.new.first ≡ self.old.first }
     {
         if self.latest.len() < plan.latest {
             self.latest.reserve(1)?;
@@ -109,13 +120,17 @@ impl Chapters {
         Ok(())
     }
 
-    /// Keeps a chapter, and lets the oldest one go if there are as many as are kept.
+    /// Keeps a chapter, and lets the oldest one go if there are as many as are kept. The first entry
+    /// is then the one behind it.
     fn keep(&mut self, plan: Plan, chapter: Chapter)
         requires some { 0 < plan.latest }
         requires room { vec_len self.old.latest < plan.latest
             → vec_len self.old.latest < vec_capacity self.old.latest }
-        ensures { IsKeptBehind plan.latest chapter self.old.latest.items self.new.latest.items }
+        ensures latest { IsKeptBehind plan.latest chapter
+            self.old.latest.items self.new.latest.items }
+        ensures first { self.new.first ≡ place_behind chapter.first chapter.entries }
     {
+        self.first = chapter.first().saturating_add(chapter.entries().len());
         if self.latest.len() >= plan.latest {
             let _ = self.latest.remove(0);
         }

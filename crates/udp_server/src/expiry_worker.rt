@@ -2,12 +2,14 @@
 
 ghost use Rattle.std.specs.Prelude.{◌≡◌, IsFalse};
 ghost use Rattle.zone_lock.specs.Held.{IsClosed};
+ghost use Rattle.udp_server.specs.KeptChapters.{kept_of};
 ghost use Rattle.udp_server.specs.OrderNumbers.{order_numbers, ordering_of};
 ghost use Rattle.udp_server.specs.Orders.{numbers_back};
 ghost use Rattle.udp_server.specs.Plans.{has_history};
 ghost use Rattle.udp_server.specs.WholeTicks.{IsWholeTick};
 ghost use Rattle.udp_server.specs.Ticks.{AreTurnsOfRound, IsTick, IsTurnOfRound};
 ghost use Rattle.udp_server.specs.Ticks.{goes_on_after_turns, is_more_due, is_more_due_after};
+ghost use Rattle.udp_server.specs.Ticks.{IsTriedBehind, recording};
 ghost use Rattle.udp_server.specs.Working.{goes_on_after, standing};
 
 use crate::chapters::Chapters;
@@ -17,6 +19,7 @@ use crate::orders::Orders;
 use crate::worker::{Shared, StepResult, Worker, WorkerRecord};
 use pools::Pool;
 use ras_core::{Event, StepFault};
+use std::alloc::AllocError;
 use std::rt::Clock;
 use std::sync::Wait;
 use std::sync::ledger::Ledger;
@@ -95,9 +98,11 @@ fn tick<P: Pool, D: Hall, T: Ledger, U: Ledger, V: Ledger, R: Wait, G: Gate, C: 
     replies: &mut Vec<Datagram>,
 ) -> bool
     ensures all { order_numbers orders.new ≡ order_numbers orders.old }
-    ensures tick { IsWholeTick D.opened P.account C.tells (has_history shared.now.plan) result
+    ensures tick { IsWholeTick D.opened P.account C.tells
+        shared.now.plan (has_history shared.now.plan) result
         (ordering_of orders.old (standing worker.old.seat worker.old.outlet worker.old.counts))
-        (ordering_of orders.new (standing worker.new.seat worker.new.outlet worker.new.counts)) }
+        (ordering_of orders.new (standing worker.new.seat worker.new.outlet worker.new.counts))
+        (kept_of chapters.old) (kept_of chapters.new) }
 {
     orders.carry_out(shared, worker);
     if shared.plan.is_recorded() {
@@ -173,10 +178,12 @@ fn goes_on_recorded<
     chapters: &mut Chapters,
 ) -> bool
     ensures closed { IsFalse result → IsClosed D.opened }
-    ensures tick { IsTick (IsTurnOfRound D.opened C.tells) MOST_TURNS is_more_due_after
-        goes_on_after result
-        (standing worker.old.seat worker.old.outlet worker.old.counts)
-        (standing worker.new.seat worker.new.outlet worker.new.counts) }
+    ensures tick { IsTick (IsTurnOfRound D.opened C.tells shared.now.plan) MOST_TURNS
+        is_more_due_after goes_on_after result
+        (recording (standing worker.old.seat worker.old.outlet worker.old.counts)
+        (kept_of chapters.old))
+        (recording (standing worker.new.seat worker.new.outlet worker.new.counts)
+        (kept_of chapters.new)) }
 {
     for _ in 0..MOST_TURNS {
         match make_turn(shared, worker, chapters) {
@@ -193,14 +200,19 @@ fn goes_on_recorded<
 }
 
 /// Makes one turn, and ends a chapter behind it if one is due. What came of the turn.
+///
+/// promise refused-chapters-are-counted: A chapter counts as refused if and only if one was due and
+/// none ended (`IsChapterTried`).
 fn make_turn<P: Pool, D: Hall, T: Ledger, U: Ledger, V: Ledger, R: Wait, G: Gate, C: Moments>(
     shared: &Shared<'_, P, D, T, U, V, R, G>,
     worker: &mut Worker<D, T, U, V, C>,
     chapters: &mut Chapters,
 ) -> StepResult
-    ensures { IsTurnOfRound D.opened C.tells result
-        (standing worker.old.seat worker.old.outlet worker.old.counts)
-        (standing worker.new.seat worker.new.outlet worker.new.counts) }
+    ensures { IsTurnOfRound D.opened C.tells shared.now.plan result
+        (recording (standing worker.old.seat worker.old.outlet worker.old.counts)
+        (kept_of chapters.old))
+        (recording (standing worker.new.seat worker.new.outlet worker.new.counts)
+        (kept_of chapters.new)) }
 {
     let moment = worker.clock.now();
     let came = worker.step_recorded(shared, Event::Turn(moment));
@@ -209,8 +221,27 @@ fn make_turn<P: Pool, D: Hall, T: Ledger, U: Ledger, V: Ledger, R: Wait, G: Gate
         is_idle: _,
     } = came
     {
-        let ended = chapters.end_if_due(shared, place);
-        worker.counts.count_chapter(ended);
+        try_chapter(shared, worker, chapters, place);
     }
     came
+}
+
+/// Ends a chapter behind a turn that is the entry at this place, if one is due. Counts one that
+/// didn't end as refused.
+fn try_chapter<P: Pool, D: Hall, T: Ledger, U: Ledger, V: Ledger, R: Wait, G: Gate, C: Moments>(
+    shared: &Shared<'_, P, D, T, U, V, R, G>,
+    worker: &mut Worker<D, T, U, V, C>,
+    chapters: &mut Chapters,
+    place: usize,
+)
+    ensures { IsTriedBehind D.opened shared.now.plan place
+        (recording (standing worker.old.seat worker.old.outlet worker.old.counts)
+        (kept_of chapters.old))
+        (recording (standing worker.new.seat worker.new.outlet worker.new.counts)
+        (kept_of chapters.new)) }
+{
+    match chapters.end_if_due(shared, place) {
+        Ok(()) => {}
+        Err(AllocError) => worker.counts.refuse(),
+    }
 }

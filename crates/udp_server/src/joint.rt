@@ -108,6 +108,7 @@ pub(crate) fn report_of<P: Pool, D: Hall, T: Ledger, U: Ledger, V: Ledger>(
         workers,
         boxes,
         sent,
+        awaited: _,
     } = left;
     match join_records(alloc, workers) {
         Ok(joint) => report_with(lock, joint, boxes, sent),

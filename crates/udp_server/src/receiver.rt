@@ -35,6 +35,20 @@ impl<N: Datagrams> Receiver<N> {
     }
 }
 
+/// A worker that receives, and the end at which it does.
+pub(crate) struct Post<D: Hall, T: Ledger, U: Ledger, V: Ledger, N: Datagrams, C: Moments> {
+    pub(crate) end: N,
+    pub(crate) worker: Worker<D, T, U, V, C>,
+}
+
+// Written by hand, so that whoever owns a post makes one call at each exit.
+impl<D: Hall, T: Ledger, U: Ledger, V: Ledger, N: Datagrams, C: Moments> Drop
+    for Post<D, T, U, V, N, C> {
+    fn drop(self) {
+        let Post { end: _, worker: _ } = self;
+    }
+}
+
 /// What a receive came to.
 #[derive(Drop)]
 enum Next {
@@ -60,10 +74,9 @@ pub(crate) fn work<
     C: Moments,
 >(
     shared: &Shared<'_, P, D, T, U, V, R, G>,
-    end: N,
-    worker: Worker<D, T, U, V, C>,
+    post: Post<D, T, U, V, N, C>,
 ) -> WorkerRecord<D, T, U, V> {
-    let mut worker = worker;
+    let Post { end, mut worker } = post;
     let mut receiver = Receiver::new(end);
     if shared.board.may_begin(shared.rt) {
         for _ in shared.rt.forever() {
@@ -127,10 +140,9 @@ pub(crate) fn work_recorded<
     C: Moments,
 >(
     shared: &Shared<'_, P, D, T, U, V, R, G>,
-    end: N,
-    worker: Worker<D, T, U, V, C>,
+    post: Post<D, T, U, V, N, C>,
 ) -> WorkerRecord<D, T, U, V> {
-    let mut worker = worker;
+    let Post { end, mut worker } = post;
     let mut receiver = Receiver::new(end);
     if shared.board.may_begin(shared.rt) {
         for _ in shared.rt.forever() {

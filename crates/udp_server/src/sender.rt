@@ -1,11 +1,11 @@
 //! The sender.
 
-ghost use Rattle.std.specs.Prelude.{◌≡◌, ◌≤◌, ◌+◌, [], All, IsFalse, IsTrue, length};
+ghost use Rattle.std.specs.Prelude.{◌≡◌, ◌≤◌, ◌+◌, ◌∷◌, [], All, IsFalse, IsTrue, length};
 ghost use Rattle.reply_queues.specs.Rings.{datagrams_seen, datagrams_taken};
 ghost use Rattle.udp_server.specs.Sending.{AreLookedAt, IsAnyTaken, IsLookedAt, IsNextSent};
-ghost use Rattle.udp_server.specs.Sending.{IsSendCounted, all_counted};
+ghost use Rattle.udp_server.specs.Sending.{AreSendsCounted, IsSendCounted, all_counted};
 
-use crate::board::Board;
+use crate::board::{AllEnded, Board};
 use crate::datagrams::{Datagrams, DeviceFault};
 use crate::tally::Tallies;
 use reply_queues::Inlet;
@@ -26,6 +26,13 @@ pub(crate) struct SendCounts {
     pub(crate) faults: u64,
 }
 
+/// What the sender leaves: what it counted, and of how many workers it awaited the end.
+#[derive(Clone, Copy)]
+pub(crate) struct Sent {
+    pub(crate) counts: SendCounts,
+    pub(crate) awaited: usize,
+}
+
 /// Sends what the workers hand over, until this many of them have ended and their rings are empty.
 pub(crate) fn send_all<R: Wait, N: Datagrams>(
     rt: &R,
@@ -34,7 +41,9 @@ pub(crate) fn send_all<R: Wait, N: Datagrams>(
     workers: usize,
     inlets: Vec<Inlet>,
     end: N,
-) -> SendCounts {
+) -> Sent
+    ensures { result.awaited ≡ workers }
+{
     let mut inlets = inlets;
     let mut sender = Sender {
         end,
@@ -43,30 +52,37 @@ pub(crate) fn send_all<R: Wait, N: Datagrams>(
             faults: 0,
         },
     };
-    let mut is_last = false;
+    let mut all_ended = None;
     for _ in rt.forever() {
         if sender.has_sent(&mut inlets) {
             tallies.show_sent(sender.sent);
             continue;
         }
-        if is_last {
-            break;
+        // Who has ended hands nothing over any more, so the look at the rings behind that is the
+        // last one.
+        if let Some(AllEnded { awaited }) = all_ended {
+            return Sent {
+                counts: sender.sent,
+                awaited,
+            };
         }
         if board.has_reply_soon() {
             continue;
         }
-        // Who has ended hands nothing over any more, so one more look at the rings is the last one.
-        is_last = board.have_ended(rt, workers);
-        if !is_last {
+        all_ended = board.have_ended(rt, workers);
+        if all_ended.is_none() {
             board.wait_for_reply(rt);
         }
     }
-    sender.sent
+    unreachable!()
 }
 
 impl<N: Datagrams> Sender<N> {
     /// Looks at each ring once, and sends its next reply, if there is one. Whether there was any.
-    #[tactic(auto, using(crate::proofs::Sends::one_more_at_most))]
+    ///
+    /// promise sender-counts-each-reply: As many sends are counted as replies were taken out of the
+    /// rings, each as sent or as failed (`AreSendsCounted`).
+    #[tactic(auto, using(crate::proofs::Sends::one_more_at_most, crate::proofs::Sent::none_yet))]
     fn has_sent(&mut self, inlets: &mut [Inlet]) -> bool
         ensures looked { IsFalse result → All (λ inlet. datagrams_seen inlet ≡ []) inlets.new }
         ensures same { IsFalse result → self.new.sent ≡ self.old.sent }
@@ -74,6 +90,7 @@ impl<N: Datagrams> Sender<N> {
         ensures each { AreLookedAt inlets.old inlets.new }
         ensures once { all_counted self.new.sent
             ≤ all_counted self.old.sent + length inlets.old }
+        ensures counted { AreSendsCounted inlets.old inlets.new self.old.sent self.new.sent }
     {
         let mut is_any = false;
         for inlet in inlets.iter_mut() {
@@ -89,6 +106,7 @@ impl<N: Datagrams> Sender<N> {
     /// promise sender-sends-each-once: A reply taken from a ring is the next there, is handed to
     /// the end once, and is counted as sent or failed; the sender tells that there was none only if
     /// it looked and saw none (`IsNextSent`, `IsSendCounted`, `datagrams_seen`).
+    #[tactic(auto, using(crate::proofs::Sent::if_none, crate::proofs::Sent::if_next))]
     fn has_sent_next(&mut self, inlet: &mut Inlet) -> bool
         ensures none { IsFalse result → datagrams_taken inlet.new ≡ datagrams_taken inlet.old }
         ensures same { IsFalse result → self.new.sent ≡ self.old.sent }
@@ -98,6 +116,8 @@ impl<N: Datagrams> Sender<N> {
             → IsNextSent (λ datagram given. N.sends self.old.end datagram given self.new.end)
             (datagrams_taken inlet.old) (datagrams_taken inlet.new)
             (N.faults self.old.end) (N.faults self.new.end) self.old.sent self.new.sent }
+        ensures counted { AreSendsCounted (inlet.old ∷ []) (inlet.new ∷ [])
+            self.old.sent self.new.sent }
     {
         let Some(reply) = inlet.take() else {
             return false;

@@ -11,8 +11,8 @@ use crate::expiry_worker::{ExpiryRecord, expire};
 use crate::gate::Gate;
 use crate::moments::Moments;
 use crate::orders::Orders;
-use crate::receiver::{work, work_recorded};
-use crate::sender::{SendCounts, send_all};
+use crate::receiver::{Post, work, work_recorded};
+use crate::sender::{SendCounts, Sent, send_all};
 use crate::view::View;
 use crate::watcher::Watcher;
 use crate::worker::{Shared, Worker, WorkerRecord};
@@ -39,19 +39,19 @@ pub(crate) struct Crew<
     N: Datagrams,
     C: Moments,
 > {
-    pub(crate) receivers: Vec<N>,
-    pub(crate) workers: Vec<Worker<D, T, U, V, C>>,
+    pub(crate) posts: Vec<Post<D, T, U, V, N, C>>,
     pub(crate) expiry: Worker<D, T, U, V, C>,
     pub(crate) orders: Orders<P>,
 }
 
 /// What the threads leave: what each worker leaves, in order; what came back of the orders; and
-/// what was sent.
+/// what was sent, and of how many workers the sender awaited the end.
 #[derive(Drop)]
 pub(crate) struct CrewRecord<P: Pool, D: Hall, T: Ledger, U: Ledger, V: Ledger> {
     pub(crate) workers: Vec<WorkerRecord<D, T, U, V>>,
     pub(crate) boxes: Vec<(usize, P, bool)>,
     pub(crate) sent: SendCounts,
+    pub(crate) awaited: usize,
 }
 
 /// Runs the threads, the sender in this one, and joins them; those who look at the server last.
@@ -94,6 +94,9 @@ pub(crate) fn run<
 
 /// Runs the threads in a scope. None if one of them can't be made, or if there is no memory for
 /// what they leave; those that were made then end without having begun.
+///
+/// promise sender-awaits-each-worker: The sender ends only once it was told that as many workers
+/// have ended as leave a record.
 fn run_in<
     's,
     E,
@@ -117,21 +120,21 @@ fn run_in<
     watchers: Vec<W>,
 ) -> Option<CrewRecord<P, D, T, U, V>>
     requires orders { O.numbers ≡ order_numbers crew.orders }
-    ensures { IfSome result (λ left. numbers_back left.boxes.items ≡ O.numbers) }
+    ensures back { IfSome result (λ left. numbers_back left.boxes.items ≡ O.numbers) }
+    ensures awaited { IfSome result (λ left. left.awaited ≡ vec_len left.workers) }
 {
     let Crew {
-        receivers,
-        workers,
+        posts,
         expiry,
         orders,
     } = crew;
-    let Some(room) = receivers.len().checked_add(1) else {
+    let Some(all) = posts.len().checked_add(1) else {
         return None;
     };
-    let Ok(records) = Vec::with_capacity(shared.alloc, room) else {
+    let Ok(records) = Vec::with_capacity(shared.alloc, all) else {
         return None;
     };
-    let Some(handles) = start_workers(scope, shared, receivers, workers) else {
+    let Some(handles) = start_workers(scope, shared, posts) else {
         shared.board.cancel(shared.rt);
         return None;
     };
@@ -143,7 +146,6 @@ fn run_in<
         shared.board.cancel(shared.rt);
         return None;
     };
-    let all = others.saturating_add(1);
     let Some(watching) = start_watchers(scope, shared, all, watchers) else {
         shared.board.cancel(shared.rt);
         return None;
@@ -153,18 +155,16 @@ fn run_in<
     let mut records = join_all(shared.rt, handles, records);
     let ExpiryRecord { worker, boxes } = last.join(shared.rt);
     records.push_reserved(worker);
-    for handle in watching {
-        handle.join(shared.rt);
-    }
+    join_watchers(shared.rt, watching);
     Some(CrewRecord {
         workers: records,
         boxes,
-        sent,
+        sent: sent.counts,
+        awaited: sent.awaited,
     })
 }
 
-/// Starts a thread for each receiving end, by the workers in order. None if one of them can't be
-/// made, or if there are too few workers.
+/// Starts a thread for each worker that receives, in order. None if one of them can't be made.
 fn start_workers<
     's,
     E,
@@ -180,18 +180,15 @@ fn start_workers<
 >(
     scope: &'s Scope<'s, E>,
     shared: &'s Shared<'s, P, D, T, U, V, R, G>,
-    receivers: Vec<N>,
-    workers: Vec<Worker<D, T, U, V, C>>,
+    posts: Vec<Post<D, T, U, V, N, C>>,
 ) -> Option<Vec<JoinHandle<WorkerRecord<D, T, U, V>>>>
-    ensures { IfSome result (λ handles. vec_len handles ≡ vec_len receivers) }
+    ensures { IfSome result (λ handles. vec_len handles ≡ vec_len posts) }
 {
-    let Ok(mut handles) = Vec::with_capacity(shared.alloc, receivers.len()) else {
+    let Ok(mut handles) = Vec::with_capacity(shared.alloc, posts.len()) else {
         return None;
     };
-    let mut workers = workers.into_iter();
-    for end in receivers {
-        let worker = workers.next()?;
-        handles.push_reserved(start_worker(scope, shared, end, worker)?);
+    for post in posts {
+        handles.push_reserved(start_worker(scope, shared, post)?);
     }
     Some(handles)
 }
@@ -214,8 +211,15 @@ fn join_all<X: Drop, R: Threads + Wait>(
     records
 }
 
-/// Starts the thread of a receiving end, whose steps are recorded if the plan wants it. None if no
-/// thread can be made.
+/// Waits for those who look at the server.
+fn join_watchers<R: Threads + Wait>(rt: &R, handles: Vec<JoinHandle<()>>) {
+    for handle in handles {
+        handle.join(rt);
+    }
+}
+
+/// Starts the thread of a worker that receives, whose steps are recorded if the plan wants it. None
+/// if no thread can be made.
 fn start_worker<
     's,
     E,
@@ -231,13 +235,12 @@ fn start_worker<
 >(
     scope: &'s Scope<'s, E>,
     shared: &'s Shared<'s, P, D, T, U, V, R, G>,
-    end: N,
-    worker: Worker<D, T, U, V, C>,
+    post: Post<D, T, U, V, N, C>,
 ) -> Option<JoinHandle<WorkerRecord<D, T, U, V>>> {
     if shared.plan.is_recorded() {
-        return scope.spawn(move || work_recorded(shared, end, worker)).ok();
+        return scope.spawn(move || work_recorded(shared, post)).ok();
     }
-    scope.spawn(move || work(shared, end, worker)).ok()
+    scope.spawn(move || work(shared, post)).ok()
 }
 
 /// Starts the thread of the expiry worker. None if no thread can be made.

@@ -90,6 +90,6 @@ impl<P: Pool, D: Hall, T: Ledger, U: Ledger, V: Ledger, R: Wait> RunningZone
     }
 
     fn has_ended(&self) -> bool {
-        self.board.have_ended(self.rt, self.workers)
+        self.board.have_ended(self.rt, self.workers).is_some()
     }
 }

@@ -1,7 +1,7 @@
 //! One who makes steps of the zone, and hands the replies to the sender.
 
 ghost use Rattle.std.specs.Prelude.{◌≡◌, ◌<◌, ◌+◌, ◌++◌, ◌∷◌, ◌↔◌, [], min, IfErr, IfOk};
-ghost use Rattle.std.specs.Prelude.{IsTrue, OnErr, OnOk};
+ghost use Rattle.std.specs.Prelude.{IsTrue, OnOk};
 ghost use Rattle.std.specs.Prelude.{Some, is_some, true, vec_capacity, vec_len};
 ghost use Rattle.std.specs.Option.{ForSome};
 ghost use Rattle.ras_machine.specs.Steps.{HasFewOctets};
@@ -113,18 +113,6 @@ impl Counts {
             | ReplaceFault::NoPool
             | ReplaceFault::NotIdle
             | ReplaceFault::NotLent => {}
-        }
-    }
-
-    /// Counts a chapter that was due as refused, if it could not end.
-    pub(crate) fn count_chapter(&mut self, ended: Result<(), AllocError>)
-        ensures ended { OnOk ended (self.new ≡ self.old) }
-        ensures refused { OnErr ended (self.new.refused ≡ fault_count self.old.refused) }
-        ensures dropped { self.new.dropped ≡ self.old.dropped }
-        ensures faults { self.new.faults ≡ self.old.faults }
-    {
-        if ended.is_err() {
-            self.refuse();
         }
     }
 

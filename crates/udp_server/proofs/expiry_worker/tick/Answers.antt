@@ -1,6 +1,8 @@
 use Rattle.std.proofs.Common.{◌≡◌, ◌∙◌, subst, sym}
 use Rattle.std.specs.Prelude.{Bool, false, true}
+use Rattle.udp_server.specs.KeptChapters.{kept_of}
 use Rattle.udp_server.specs.Plans.{has_history}
+use Rattle.udp_server.specs.Ticks.{recording}
 use Rattle.udp_server.specs.WholeTicks.{AreTurnsOfTick}
 use Rattle.udp_server.specs.Working.{standing}
 use Rattle.udp_server.proofs.expiry_worker.tick.Goals as goal
@@ -14,7 +16,9 @@ returns-then-is_recorded-clause-tick g c =
     record {
       then = standing then.seat then.outlet then.counts;
       orders = c.carry_out.ensures.tried;
-      turns = subst (λ (r : Bool). AreTurnsOfTick g.D.Hall.opened g.C.Moments.tells r
-          c.goes_on_recorded.result (standing then.seat then.outlet then.counts)
-          (standing new.seat new.outlet new.counts)) (sym is) c.goes_on_recorded.ensures.tick;
+      turns = subst (λ (r : Bool). AreTurnsOfTick g.D.Hall.opened g.C.Moments.tells
+          c.args.shared.now.plan r c.goes_on_recorded.result
+          (recording (standing then.seat then.outlet then.counts) (kept_of c.args.chapters.now))
+          (recording (standing new.seat new.outlet new.counts)
+          (kept_of c.goes_on_recorded.new.chapters))) (sym is) c.goes_on_recorded.ensures.tick;
     }

@@ -1,5 +1,6 @@
 use Rattle.std.proofs.Common.{◌∙◌, sym, arith, rules}
 use Rattle.std.proofs.lemmas.Grind.{common_steps}
+use Rattle.udp_server.proofs.Sent.{with_next}
 use Rattle.udp_server.proofs.Sends.{looked_at_more, one_more_at_most, taken_before, taken_here}
 use Rattle.udp_server.proofs.sender.Sender.has_sent.Goals as goal
 use Rattle.udp_server.proofs.sender.Sender.has_sent.Goals.{else-has_sent_next, then-has_sent_next}
@@ -24,4 +25,5 @@ loop-inlet-preserved g c =
           c.has_sent_next.ensures.ring;
       rest = grind (arith, common_steps);
       once = search (rules, one_more_at_most);
+      counted = search (rules, with_next);
     }

@@ -2,7 +2,7 @@ use Rattle.std.proofs.Common.{◌≡◌, ◌≤◌, ◌+◌, ◌<◌, [], ℕ, g
 use Rattle.std.specs.Prelude.{IsFalse, IsTrue}
 use Rattle.reply_queues.specs.Rings.{datagrams_seen}
 use Rattle.reply_queues.specs.declared.inlet.Inlet.{Inlet}
-use Rattle.udp_server.specs.Sending.{IsLookedAt, IsTaken, all_counted}
+use Rattle.udp_server.specs.Sending.{AreSendsCounted, IsLookedAt, IsTaken, all_counted}
 use Rattle.udp_server.proofs.sender.Sender.has_sent.Given as goal
 
 -- If none was sent so far, none was seen in the rings so far, and none is counted; else one was
@@ -19,4 +19,5 @@ invariant-loop-inlet g l = record {
   rest : (k : ℕ) (none : Inlet) → l.inlet-index ≤ k
       → get_or l.inlets k none ≡ get_or l.fn.inlets k none;
   once : all_counted l.self.sent ≤ all_counted l.fn.self.sent + l.inlet-index;
+  counted : AreSendsCounted l.fn.inlets l.inlets l.fn.self.sent l.self.sent;
 }
