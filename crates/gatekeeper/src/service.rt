@@ -24,8 +24,8 @@ pub struct Task<'a, S: Stop> {
 }
 
 /// What is set for the server besides its zone: how many threads receive, how often each of them
-/// receives, if that is limited, the buffer to ask for, in octets, whether it has a status page, and
-/// the plan.
+/// receives, if that is limited, the buffer to ask for, in octets, whether there is a status page,
+/// and the plan.
 #[derive(Clone, Copy)]
 pub struct Service {
     pub receivers: usize,
