@@ -1,6 +1,6 @@
 //! The workers that receive datagrams.
 
-ghost use Rattle.std.specs.Prelude.{IfOk, false, true};
+ghost use Rattle.std.specs.Prelude.{◌≡◌, IfOk, false, true};
 ghost use Rattle.udp_server.specs.Working.{IsEventNow, IsReceived, IsTold, IsTurnOfLoop};
 ghost use Rattle.udp_server.specs.Working.{failures, standing};
 
@@ -49,6 +49,17 @@ impl<D: Hall, T: Ledger, U: Ledger, V: Ledger, N: Datagrams, C: Moments> Drop
     }
 }
 
+impl<D: Hall, T: Ledger, U: Ledger, V: Ledger, N: Datagrams, C: Moments> Post<D, T, U, V, N, C> {
+    /// The end, and the worker.
+    fn into_parts(self) -> (N, Worker<D, T, U, V, C>)
+        ensures end { result.0 ≡ self.end }
+        ensures worker { result.1 ≡ self.worker }
+    {
+        let Post { end, worker } = self;
+        (end, worker)
+    }
+}
+
 /// What a receive came to.
 #[derive(Drop)]
 enum Next {
@@ -76,7 +87,7 @@ pub(crate) fn work<
     shared: &Shared<'_, P, D, T, U, V, R, G>,
     post: Post<D, T, U, V, N, C>,
 ) -> WorkerRecord<D, T, U, V> {
-    let Post { end, mut worker } = post;
+    let (end, mut worker) = post.into_parts();
     let mut receiver = Receiver::new(end);
     if shared.board.may_begin(shared.rt) {
         for _ in shared.rt.forever() {
@@ -142,7 +153,7 @@ pub(crate) fn work_recorded<
     shared: &Shared<'_, P, D, T, U, V, R, G>,
     post: Post<D, T, U, V, N, C>,
 ) -> WorkerRecord<D, T, U, V> {
-    let Post { end, mut worker } = post;
+    let (end, mut worker) = post.into_parts();
     let mut receiver = Receiver::new(end);
     if shared.board.may_begin(shared.rt) {
         for _ in shared.rt.forever() {
