@@ -2,7 +2,7 @@
 use Rattle.std.specs.Prelude.{ℕ, ◌++◌, List, [], Option, Some, None, codes, string_bytes}
 use Rattle.std.specs.Fmt.{decimal}
 use Rattle.std.specs.Option.{option_copied}
-use Rattle.settings.specs.declared.unknown.UnknownKey.{UnknownKey}
+use Rattle.settings.specs.declared.unknown_key.UnknownKey.{UnknownKey}
 use Rattle.commands.specs.declared.settings_input.PassedOver.{PassedOver}
 
 -- on which line it stands, if that is known

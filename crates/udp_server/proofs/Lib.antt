@@ -2,7 +2,6 @@ pub mod Carrying
 pub mod Counts
 pub mod Each
 pub mod Numbers
-pub mod Posts
 pub mod Sends
 pub mod Sent
 pub mod Steps

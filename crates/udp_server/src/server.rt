@@ -1,7 +1,6 @@
 //! Running a server.
 
-ghost use Rattle.std.specs.Prelude.{◌≡◌, ◌≢◌, ◌≤◌, ◌+◌, ◌++◌, ◌∷◌, ◌↔◌, [], Err, IfOk, map};
-ghost use Rattle.std.specs.Prelude.{vec_len};
+ghost use Rattle.std.specs.Prelude.{◌≡◌, ◌≢◌, ◌≤◌, ◌++◌, ◌∷◌, ◌↔◌, [], Err, IfOk, map, vec_len};
 ghost use Rattle.udp_server.specs.Faults.{AreCounts, AreCountsOfEnds};
 ghost use Rattle.udp_server.specs.OrderNumbers.{order_numbers};
 ghost use Rattle.udp_server.specs.Orders.{AreOfOrders, numbers_back, numbers_ordered};
@@ -16,7 +15,6 @@ use crate::joint::report_of;
 use crate::moments::Moments;
 use crate::orders::{Orders, PoolOrder};
 use crate::plan::Plan;
-use crate::receiver::Post;
 use crate::report::{Report, ServeFault};
 use crate::tally::Tallies;
 use crate::threads::{Crew, run};
@@ -232,10 +230,6 @@ fn begin_history<P: Pool, D: Hall, T: Ledger, U: Ledger, V: Ledger, R: Wait>(
 
 /// Who makes steps, each with a seat, in order, the worker of the timers with the last one, and
 /// with a ring; and the other ends of the rings.
-///
-/// promise each-end-has-its-seat: The worker that receives at an end has the seat at that end's
-/// place, and the number of that place (`numbers_below`).
-#[tactic(auto, using(std::proofs::lemmas::Grind::common_steps, crate::proofs::Posts::seats_of_posts, crate::proofs::Posts::numbers_of_posts))]
 fn gather<P: Pool, D: Hall, T: Ledger, U: Ledger, V: Ledger, N: Datagrams, C: Moments>(
     alloc: Global,
     seats: Vec<Seat<D, T, U, V>>,
@@ -245,48 +239,26 @@ fn gather<P: Pool, D: Hall, T: Ledger, U: Ledger, V: Ledger, N: Datagrams, C: Mo
     plan: Plan,
 ) -> Result<(Crew<P, D, T, U, V, N, C>, Vec<Inlet>), AllocError>
     requires seats { vec_len seats ≤ 16 }
-    requires one_more { vec_len seats ≡ vec_len receivers + 1 }
     requires plan { IsPlan plan }
     ensures orders { IfOk result (λ made. order_numbers made.0.orders
         ≡ numbers_ordered orders.items) }
-    ensures receivers { IfOk result (λ made. map (λ post. post.end) made.0.posts.items
-        ≡ receivers.items) }
-    ensures seats { IfOk result (λ made. map (λ post. post.worker.seat) made.0.posts.items
+    ensures receivers { IfOk result (λ made. made.0.receivers ≡ receivers) }
+    ensures seats { IfOk result (λ made. map (λ worker. worker.seat) made.0.workers.items
         ++ made.0.expiry.seat ∷ [] ≡ seats.items) }
-    ensures numbers { IfOk result (λ made. map (λ post. post.worker.number) made.0.posts.items
+    ensures numbers { IfOk result (λ made. map (λ worker. worker.number) made.0.workers.items
         ++ made.0.expiry.number ∷ [] ≡ numbers_below (vec_len seats)) }
 {
     let (outlets, inlets) = rings(alloc, seats.len(), plan.ring)?;
     let mut workers = workers_of(alloc, seats, clocks, outlets)?;
     let expiry = workers.pop().ok_or(AllocError)?;
-    let posts = posts_of(alloc, receivers, workers)?;
     let orders = Orders::new(alloc, orders)?;
     let crew = Crew {
-        posts,
+        receivers,
+        workers,
         expiry,
         orders,
     };
     Ok((crew, inlets))
-}
-
-/// Each worker with the end at its place: the first one receives at the first end, and so on.
-fn posts_of<D: Hall, T: Ledger, U: Ledger, V: Ledger, N: Datagrams, C: Moments>(
-    alloc: Global,
-    receivers: Vec<N>,
-    workers: Vec<Worker<D, T, U, V, C>>,
-) -> Result<Vec<Post<D, T, U, V, N, C>>, AllocError>
-    requires { vec_len receivers ≡ vec_len workers }
-    ensures ends { IfOk result (λ posts. map (λ post. post.end) posts.items ≡ receivers.items) }
-    ensures workers { IfOk result (λ posts. map (λ post. post.worker) posts.items
-        ≡ workers.items) }
-{
-    let mut posts = Vec::with_capacity(alloc, receivers.len())?;
-    let mut workers = workers.into_iter();
-    for end in receivers {
-        let worker = workers.next().ok_or(AllocError)?;
-        posts.push(Post { end, worker }).map_err(AllocError::from)?;
-    }
-    Ok(posts)
 }
 
 /// A worker for each seat, with its clock and its ring. They are numbered from 0 on, in order.

@@ -1,7 +1,7 @@
 //! The threads of a server: they begin together, and are joined.
 
 ghost use Rattle.std.specs.Prelude.{◌≡◌, ◌≤◌, ◌<◌, ◌+◌, IfSome, vec_capacity, vec_len};
-ghost use Rattle.std.specs.Prelude.{IfOk};
+ghost use Rattle.std.specs.Prelude.{IfOk, map};
 ghost use Rattle.udp_server.specs.OrderNumbers.{order_numbers};
 ghost use Rattle.udp_server.specs.Orders.{numbers_back};
 
@@ -18,7 +18,7 @@ use crate::watcher::Watcher;
 use crate::worker::{Shared, Worker, WorkerRecord};
 use pools::Pool;
 use reply_queues::Inlet;
-use std::alloc::AllocError;
+use std::alloc::{AllocError, Global};
 use std::marker::PhantomData;
 use std::rt::Clock;
 use std::sync::Wait;
@@ -39,7 +39,8 @@ pub(crate) struct Crew<
     N: Datagrams,
     C: Moments,
 > {
-    pub(crate) posts: Vec<Post<D, T, U, V, N, C>>,
+    pub(crate) receivers: Vec<N>,
+    pub(crate) workers: Vec<Worker<D, T, U, V, C>>,
     pub(crate) expiry: Worker<D, T, U, V, C>,
     pub(crate) orders: Orders<P>,
 }
@@ -124,10 +125,12 @@ fn run_in<
     ensures awaited { IfSome result (λ left. left.awaited ≡ vec_len left.workers) }
 {
     let Crew {
-        posts,
+        receivers,
+        workers,
         expiry,
         orders,
     } = crew;
+    let posts = posts_of(shared.alloc, receivers, workers)?;
     let Some(all) = posts.len().checked_add(1) else {
         return None;
     };
@@ -138,9 +141,12 @@ fn run_in<
         shared.board.cancel(shared.rt);
         return None;
     };
-    let others = handles.len();
     let expiry = start_expiry::<_, P, D, T, U, V, R, G, C, O>(
-        scope, shared, others, expiry, orders,
+        scope,
+        shared,
+        handles.len(),
+        expiry,
+        orders,
     );
     let Some(last) = expiry else {
         shared.board.cancel(shared.rt);
@@ -162,6 +168,35 @@ fn run_in<
         sent: sent.counts,
         awaited: sent.awaited,
     })
+}
+
+/// Each worker with the end at its place: the first one receives at the first end, and so on. None
+/// if there aren't as many of both, or if there is no memory.
+///
+/// promise each-end-has-its-worker: Of as many ends and workers, each worker receives at the end at
+/// its own place.
+fn posts_of<D: Hall, T: Ledger, U: Ledger, V: Ledger, N: Datagrams, C: Moments>(
+    alloc: Global,
+    receivers: Vec<N>,
+    workers: Vec<Worker<D, T, U, V, C>>,
+) -> Option<Vec<Post<D, T, U, V, N, C>>>
+    ensures ends { IfSome result (λ posts. map (λ post. post.end) posts.items
+        ≡ receivers.items) }
+    ensures workers { IfSome result (λ posts. map (λ post. post.worker) posts.items
+        ≡ workers.items) }
+{
+    if receivers.len() != workers.len() {
+        return None;
+    }
+    let Ok(mut posts) = Vec::with_capacity(alloc, receivers.len()) else {
+        return None;
+    };
+    let mut workers = workers.into_iter();
+    for end in receivers {
+        let worker = workers.next()?;
+        posts.push(Post { end, worker }).ok()?;
+    }
+    Some(posts)
 }
 
 /// Starts a thread for each worker that receives, in order. None if one of them can't be made.

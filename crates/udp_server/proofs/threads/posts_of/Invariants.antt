@@ -1,6 +1,6 @@
 use Rattle.std.proofs.Common.{◌≡◌, ◌++◌, map}
 use Rattle.std.specs.Vec.Iter.{into_iter_items}
-use Rattle.udp_server.proofs.server.posts_of.Given as goal
+use Rattle.udp_server.proofs.threads.posts_of.Given as goal
 
 -- the ends and the workers of the posts so far, and those that are still to come
 abbrev pub invariant-loop-end : goal.invariant-loop-end
