@@ -48,6 +48,17 @@ def lock(names):
     return toolchain().lock([it for it in crates() if it.name in names])
 
 
+def sums_of(asked):
+    """Returns, by the names of these crates, a sum of all that each one's library is made from."""
+    kind = toolchain().Crate
+    # (rt sums what stands below a crate again for each way that leads there)
+    plain, kind.stamp = kind.stamp, functools.cache(kind.stamp)
+    try:
+        return {it.name: it.stamp() for it in asked}
+    finally:
+        kind.stamp = plain
+
+
 def stands(crate):
     """Returns whether the crate's library or program is newer than all that it is made of."""
     made = f"{crate.folder}/out/{crate.name}" if crate.is_program else crate.rlib
