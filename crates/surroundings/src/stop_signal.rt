@@ -138,8 +138,8 @@ impl<S: Signals> StopSignal<S> {
     /// Whether a signal has asked the program to end.
     ///
     /// promise stop-signal-is-seen: That a signal has come is told only if the system told so; that
-    /// none has, only if it told that, or within 100 milliseconds behind a look (`HasAsked`,
-    /// `HasNotAsked`, `IsPause`).
+    /// none has, only if it was asked and didn't tell so, or within 100 milliseconds behind a look
+    /// (`HasAsked`, `HasNotAsked`, `IsPause`).
     pub fn has_come(&self) -> bool
         ensures asked { IsTrue result → HasAsked S.told }
         ensures unasked { IsFalse result → HasNotAsked S.told ⊎ IsPause S.passed }
