@@ -1,8 +1,10 @@
 //! Records whose stream fails.
 
 use crate::writing::fixtures::{
-    LINES_OF_THE_ZONE, STEPS, audited, record_call, record_within, recorded_zone,
+    Call, LINES_OF_THE_ZONE, STEPS, audited, empty_record, record_call, record_within,
+    recorded_zone,
 };
+use facts::{all_hold, ensure};
 use record_audit::Audited;
 use recording::{RecordWriter, Recorded};
 use script::Output;
@@ -62,40 +64,97 @@ fn of_front(front: &[u8]) -> Audited {
     }
 }
 
-/// Records a call on a stream that fails behind this count of octets; what is there is the front of
-/// the whole record, and passes its audit.
-fn fails_behind(alloc: Global, whole: &[u8], most: usize) -> Result<(), Fail> {
-    let zone = recorded_zone(alloc)?;
-    let out = Short::new(alloc, most);
-    let mut record = RecordWriter::begin(alloc, Output::new(out), &zone, u64::MAX)?;
-    let call = record_call(alloc, &mut record)?;
-    if call.count(None) != 1 || record.is_open() {
-        return Err("one failed write, which closes the record".into());
+/// How many steps of a call were recorded, how many came behind the record's end, and how many
+/// writes failed.
+#[derive(Clone, Copy)]
+struct Counts {
+    written: usize,
+    closed: usize,
+    failed: usize,
+}
+
+impl Counts {
+    fn of(call: &Call) -> Self {
+        Counts {
+            written: call.count(Some(Recorded::Written)),
+            closed: call.count(Some(Recorded::Closed)),
+            failed: call.count(None),
+        }
     }
-    let steps = record.steps();
-    let written = call.count(Some(Recorded::Written));
-    let closed = call.count(Some(Recorded::Closed));
-    if written as u64 != steps || written.saturating_add(closed).saturating_add(1) != STEPS {
-        return Err("nothing behind the step that failed".into());
-    }
+}
+
+/// A record whose stream failed.
+#[derive(Drop)]
+struct CutOff {
+    counts: Counts,
+    steps: u64,
+    is_open: bool,
+    text: Vec<u8>,
+}
+
+/// Records a call on a stream that fails behind this count of octets.
+fn cut_off(alloc: Global, most: usize) -> Result<CutOff, Fail> {
+    let mut record = empty_record(alloc, Short::new(alloc, most), u64::MAX)?;
+    let counts = Counts::of(&record_call(alloc, &mut record)?);
+    let (steps, is_open) = (record.steps(), record.is_open());
     let text = record.into_output().into_writer().into_text();
-    if text.len() != most || !whole.starts_with(&text) {
-        return Err("the front of the record".into());
-    }
-    let report = audited(alloc, &text).map_err(|_| "a record that passes")?;
-    if report != of_front(&text) || report.steps < steps {
-        return Err("as many steps as are there".into());
-    }
-    Ok(())
+    Ok(CutOff {
+        counts,
+        steps,
+        is_open,
+        text,
+    })
+}
+
+/// A write failed behind this count of octets, which closed the record. What is there is the front
+/// of the whole record, and passes its audit.
+fn compare(alloc: Global, cut: &CutOff, whole: &[u8], most: usize) -> Result<(), Fail> {
+    let Counts {
+        written,
+        closed,
+        failed,
+    } = cut.counts;
+    all_hold(&[
+        (
+            failed == 1 && !cut.is_open,
+            "one write fails, which closes the record",
+        ),
+        (
+            written as u64 == cut.steps,
+            "each step that was written is counted",
+        ),
+        (
+            written.saturating_add(closed).saturating_add(1) == STEPS,
+            "nothing is written behind the step that failed",
+        ),
+        (
+            cut.text.len() == most && whole.starts_with(&cut.text),
+            "the front of the whole record is there",
+        ),
+    ])?;
+    let report = audited(alloc, &cut.text)?;
+    ensure(
+        report == of_front(&cut.text) && report.steps >= cut.steps,
+        "the audit finds as many steps as are there",
+    )
+}
+
+/// Records a call on such a stream, and looks at what is there.
+fn fails_behind(alloc: Global, whole: &[u8], most: usize) -> Result<(), Fail> {
+    let cut = cut_off(alloc, most)?;
+    compare(alloc, &cut, whole, most)
+}
+
+/// How many octets the lines of the zone have.
+fn octets_of_the_zone(alloc: Global) -> Result<usize, Fail> {
+    let record = empty_record(alloc, Vec::new(alloc), u64::MAX)?;
+    Ok(record.into_output().into_writer().len())
 }
 
 #[test]
 fn a_stream_fails_in_midway(rt: HostRuntime) -> Result<(), Fail> {
     let (whole, _) = record_within(rt.alloc(), u64::MAX)?;
-    let zone = recorded_zone(rt.alloc())?;
-    let out = Output::new(Vec::new(rt.alloc()));
-    let record = RecordWriter::begin(rt.alloc(), out, &zone, u64::MAX)?;
-    let head = record.into_output().into_writer().len();
+    let head = octets_of_the_zone(rt.alloc())?;
     for most in (head..whole.len()).step_by(STRIDE) {
         fails_behind(rt.alloc(), &whole, most)?;
     }

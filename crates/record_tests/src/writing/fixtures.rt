@@ -31,6 +31,16 @@ pub fn recorded_zone(alloc: Global) -> Result<RecordedZone, Fail> {
     Ok(RecordedZone::new(config, PoolSpecs::from_vec(pools))?)
 }
 
+/// A record of the worked zone within a bound, without steps.
+pub fn empty_record<W: Write + Drop>(
+    alloc: Global,
+    out: W,
+    most: u64,
+) -> Result<RecordWriter<W>, Fail> {
+    let zone = recorded_zone(alloc)?;
+    Ok(RecordWriter::begin(alloc, Output::new(out), &zone, most)?)
+}
+
 /// Two endpoints register, the first one calls the second, its request comes again, a turn finds
 /// nothing that is due, and the call ends.
 fn event_of(alloc: Global, step: usize) -> Result<Event, Fail> {
@@ -125,8 +135,7 @@ pub fn entries_of_call(alloc: Global) -> Result<Vec<Entry>, Fail> {
 
 /// The record of a call, within a bound, and what became of each step.
 pub fn record_within(alloc: Global, most: u64) -> Result<(Vec<u8>, Call), Fail> {
-    let zone = recorded_zone(alloc)?;
-    let mut record = RecordWriter::begin(alloc, Output::new(Vec::new(alloc)), &zone, most)?;
+    let mut record = empty_record(alloc, Vec::new(alloc), most)?;
     let call = record_call(alloc, &mut record)?;
     record.flush()?;
     Ok((record.into_output().into_writer(), call))

@@ -1,11 +1,10 @@
 //! Records that are written to their end, or up to their bound.
 
 use crate::writing::fixtures::{
-    Call, LINES_OF_THE_ZONE, STEPS, audited, record_call, record_within, recorded_zone,
+    Call, LINES_OF_THE_ZONE, STEPS, audited, empty_record, record_call, record_within,
 };
 use record_audit::Audited;
-use recording::{End, RecordWriter, Recorded};
-use script::Output;
+use recording::{End, Recorded};
 use std::alloc::Global;
 use std::test::Fail;
 
@@ -82,14 +81,20 @@ fn a_record_ends_at_its_bound(rt: HostRuntime) -> Result<(), Fail> {
     Ok(())
 }
 
+/// How many steps a record tells before a call and behind it. None: it isn't open.
+fn steps_told(alloc: Global) -> Result<Option<(u64, u64)>, Fail> {
+    let mut record = empty_record(alloc, Vec::new(alloc), u64::MAX)?;
+    if !record.is_open() {
+        return Ok(None);
+    }
+    let before = record.steps();
+    record_call(alloc, &mut record)?;
+    Ok(Some((before, record.steps())))
+}
+
 #[test]
 fn a_record_tells_how_far_it_is(rt: HostRuntime) -> Result<(), Fail> {
-    let zone = recorded_zone(rt.alloc())?;
-    let out = Output::new(Vec::new(rt.alloc()));
-    let mut record = RecordWriter::begin(rt.alloc(), out, &zone, u64::MAX)?;
-    assert!(rt; record.is_open());
-    assert!(rt; record.steps() == 0);
-    record_call(rt.alloc(), &mut record)?;
-    assert!(rt; record.steps() == 7);
+    let told = steps_told(rt.alloc())?;
+    assert!(rt; told == Some((0, 7)));
     Ok(())
 }
