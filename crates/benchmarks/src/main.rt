@@ -11,7 +11,7 @@ mod steps;
 mod storms;
 mod zones;
 
-use anyhow::{Context, Result, bail};
+use anyhow::{Result, bail};
 use snapshots::Sizes;
 use std::alloc::Global;
 use std::env;
@@ -30,45 +30,90 @@ fn main(rt: HostRuntime) -> Result<()> {
     chosen(&rt, alloc, words.as_slice())
 }
 
+/// A measurement, with its sizes.
+#[derive(Clone, Copy)]
+enum Measurement {
+    Days(u64),
+    Replays { endpoints: usize, steps: usize },
+    Serve(u64),
+    Snapshot(Sizes),
+    Steps(Sizes),
+    Storm(u64),
+}
+
 fn chosen<R: Threads + Wait + Clock + Files + Print + Sync>(
     rt: &R,
     alloc: Global,
     words: &[String],
 ) -> Result<()> {
-    match words {
-        [] | [_] => Ok(()),
-        [_, name, days] if name.as_str() == "days" => {
-            let days = days.parse::<u64>().context("DAYS")?;
-            days::measure(rt, alloc, days)
-        }
-        [_, name] if name.as_str() == "replays" => replays::measure(rt, alloc, 1_000, 100_000),
-        [_, name, endpoints, steps] if name.as_str() == "replays" => {
-            let endpoints = endpoints.parse::<usize>().context("ENDPOINTS")?;
-            let steps = steps.parse::<usize>().context("STEPS")?;
-            replays::measure(rt, alloc, endpoints, steps)
-        }
-        [_, name, datagrams] if name.as_str() == "serve" => {
-            let datagrams = datagrams.parse::<u64>().context("DATAGRAMS")?;
-            servers::measure(rt, alloc, datagrams)
-        }
-        [_, name, endpoints, calls, replies] if name.as_str() == "snapshot" => {
-            snapshots::measure(rt, alloc, sizes_of(endpoints, calls, replies)?)
-        }
-        [_, name, endpoints, calls, replies] if name.as_str() == "steps" => {
-            steps::measure(rt, alloc, sizes_of(endpoints, calls, replies)?)
-        }
-        [_, name, endpoints] if name.as_str() == "storm" => {
-            let endpoints = endpoints.parse::<u16>().context("ENDPOINTS")?;
-            storms::measure(rt, alloc, endpoints)
-        }
-        _ => bail!("{USAGE}"),
+    let Some(name) = words.get(1) else {
+        return Ok(());
+    };
+    let numbers = numbers_of(alloc, &words[2..])?;
+    match named(name, numbers.as_slice()) {
+        Some(measurement) => measure(rt, alloc, measurement),
+        None => bail!("{USAGE}"),
     }
 }
 
-fn sizes_of(endpoints: &String, calls: &String, replies: &String) -> Result<Sizes> {
-    Ok(Sizes {
-        endpoints: endpoints.parse::<usize>().context("ENDPOINTS")?,
-        calls: calls.parse::<usize>().context("CALLS")?,
-        replies: replies.parse::<usize>().context("REPLIES")?,
-    })
+/// The numbers that these words write.
+fn numbers_of(alloc: Global, words: &[String]) -> Result<Vec<u64>> {
+    let mut numbers = Vec::new(alloc);
+    for word in words {
+        let Ok(number) = word.parse::<u64>() else {
+            bail!("{word} is no number");
+        };
+        numbers.push(number)?;
+    }
+    Ok(numbers)
+}
+
+/// The measurement of this name with these numbers, if there is one.
+fn named(name: &str, numbers: &[u64]) -> Option<Measurement> {
+    match numbers {
+        [days] if name == "days" => Some(Measurement::Days(*days)),
+        [] if name == "replays" => Some(Measurement::Replays {
+            endpoints: 1_000,
+            steps: 100_000,
+        }),
+        [endpoints, steps] if name == "replays" => Some(Measurement::Replays {
+            endpoints: *endpoints as usize,
+            steps: *steps as usize,
+        }),
+        [datagrams] if name == "serve" => Some(Measurement::Serve(*datagrams)),
+        [endpoints, calls, replies] => named_of_sizes(
+            name,
+            Sizes {
+                endpoints: *endpoints as usize,
+                calls: *calls as usize,
+                replies: *replies as usize,
+            },
+        ),
+        [endpoints] if name == "storm" => Some(Measurement::Storm(*endpoints)),
+        _ => None,
+    }
+}
+
+/// The measurement of this name of a zone with these sizes, if there is one.
+fn named_of_sizes(name: &str, sizes: Sizes) -> Option<Measurement> {
+    match name {
+        "snapshot" => Some(Measurement::Snapshot(sizes)),
+        "steps" => Some(Measurement::Steps(sizes)),
+        _ => None,
+    }
+}
+
+fn measure<R: Threads + Wait + Clock + Files + Print + Sync>(
+    rt: &R,
+    alloc: Global,
+    measurement: Measurement,
+) -> Result<()> {
+    match measurement {
+        Measurement::Days(days) => days::measure(rt, alloc, days),
+        Measurement::Replays { endpoints, steps } => replays::measure(rt, alloc, endpoints, steps),
+        Measurement::Serve(datagrams) => servers::measure(rt, alloc, datagrams),
+        Measurement::Snapshot(sizes) => snapshots::measure(rt, alloc, sizes),
+        Measurement::Steps(sizes) => steps::measure(rt, alloc, sizes),
+        Measurement::Storm(endpoints) => storms::measure(rt, alloc, endpoints),
+    }
 }

@@ -77,8 +77,9 @@ fn storms(
 }
 
 /// This many endpoints register in a zone without any, and then twice anew by other datagrams.
-pub fn measure(rt: &(impl Clock + Print), alloc: Global, endpoints: u16) -> Result<()> {
+pub fn measure(rt: &(impl Clock + Print), alloc: Global, endpoints: u64) -> Result<()> {
     ensure!(endpoints <= 20_000, "ENDPOINTS is 20000 at most");
+    let endpoints = endpoints as u16;
     let mut zone = zone_of(alloc, MOST_KEPT)?;
     let measured = storms(rt, alloc, &mut zone, endpoints);
     drop(zone);
