@@ -78,6 +78,25 @@ def build_below(above):
     return next((it.name for it in below if it.build_rlib(["--jobs", "2"], anew=False)), None)
 
 
+def sum_once(crate):
+    """Has each crate's sources summed once before the prover is called for this crate, and once behind.
+
+    rt sums what stands below a crate again for each way that leads there, which took a minute for
+    the program. The sums behind tell of what was changed meanwhile.
+    """
+    kind = toolchain().Crate
+    kind.stamp = functools.cache(kind.stamp)
+    plain = crate.call
+
+    def call(*words):
+        try:
+            return plain(*words)
+        finally:
+            kind.stamp.cache_clear()
+
+    crate.call = call
+
+
 def build_statements(crate, flags):
     """Proves a library, if it has changed, and writes what others can cite of it. Returns rt's status.
 
@@ -108,6 +127,7 @@ def build(name, jobs):
             # checks, each of which loads all that stands below)
             tool.KEPT = []
             flags, crate.held = ["--jobs", str(jobs)], []
+            sum_once(crate)
             if crate.is_program:
                 return crate.build_and_run(flags, ["--version"], False)
             return build_statements(crate, flags)
