@@ -75,8 +75,17 @@ impl Gathered {
         }
     }
 
-    /// Keeps a receipt. Whether it is that of this request and call, at this place.
-    fn keep(&mut self, receipt: Receipt, request: Request, call: usize, place: usize) -> bool {
+    /// Keeps a receipt, if there is one. Whether it is that of this request and call, at this place.
+    fn keep(
+        &mut self,
+        receipt: Option<Receipt>,
+        request: Request,
+        call: usize,
+        place: usize,
+    ) -> bool {
+        let Some(receipt) = receipt else {
+            return false;
+        };
         let is_placed = receipt.call == call && receipt.place == place;
         let is_told = is_placed && is_answered(&receipt.outcome, request);
         self.receipts.push(receipt).is_ok() && is_told
@@ -97,7 +106,7 @@ impl Gathered {
     }
 }
 
-/// The seat makes a step of this request.
+/// The seat makes a step of this request. Its receipt, if there is memory for it.
 fn apply<D: Hall, T: Ledger, U: Ledger, V: Ledger>(
     rt: &impl Wait,
     alloc: Global,
@@ -106,6 +115,20 @@ fn apply<D: Hall, T: Ledger, U: Ledger, V: Ledger>(
     request: Request,
 ) -> Option<Receipt> {
     lock.apply(rt, seat, prepared(alloc, request)?).ok()
+}
+
+/// A chapter is cut. Whether it begins at this place, with so many entries.
+fn cut<D: Hall, T: Ledger, U: Ledger, V: Ledger>(
+    rt: &impl Wait,
+    lock: &ZoneLock<FixedPool, D, T, U, V>,
+    gathered: &mut Gathered,
+    first: usize,
+    entries: usize,
+) -> bool {
+    match lock.cut(rt) {
+        Ok(chapter) => gathered.keep_chapter(chapter, first, entries),
+        Err(_) => false,
+    }
 }
 
 /// The seat makes so many steps of this request. Whether each gets its reply.
@@ -135,17 +158,18 @@ pub fn step<D: Hall, T: Ledger, U: Ledger, V: Ledger>(
 /// have their turn.
 const LATE: u64 = 40_000;
 
-/// Whether these are so many questions for a sign of life.
-fn are_questions(sent: &[Datagram], count: usize) -> bool {
+/// How many questions for a sign of life these are, if they are nothing else.
+fn questions(sent: &[Datagram]) -> Option<usize> {
     for datagram in sent {
         if !is_sent(datagram, &IRQ) {
-            return false;
+            return None;
         }
     }
-    sent.len() == count
+    Some(sent.len())
 }
 
-/// The seat makes turns, at most so many. Why there were no more, and what they sent.
+/// The seat makes turns, at most so many. Why there were no more, and how many questions for a sign
+/// of life they sent, if they sent nothing else.
 fn turn<D: Hall, T: Ledger, U: Ledger, V: Ledger>(
     rt: &impl Wait,
     alloc: Global,
@@ -153,12 +177,12 @@ fn turn<D: Hall, T: Ledger, U: Ledger, V: Ledger>(
     seat: &mut Seat<D, T, U, V>,
     counts: &mut Counts,
     most: usize,
-) -> Option<(TurnsEnd, Vec<Datagram>)> {
+) -> Option<(TurnsEnd, usize)> {
     let late = Moment::new(LATE)?;
     let mut outcome = Outcome::noted(Note::Idle, None);
     let mut sent = Vec::with_capacity(alloc, most).ok()?;
     let end = lock.turns(rt, seat, late, most, &mut outcome, &mut sent, counts);
-    Some((end, sent))
+    Some((end, questions(&sent)?))
 }
 
 /// The entries leave, into whose place the room of those that left before comes. The place of the
@@ -215,26 +239,19 @@ fn perform<D: Hall, T: Ledger, U: Ledger, V: Ledger>(
     act: Act,
 ) -> Looked {
     let is_so = match act {
-        Act::Apply(request, call, place) => match apply(rt, alloc, lock, seat, request) {
-            Some(receipt) => gathered.keep(receipt, request, call, place),
-            None => false,
-        },
+        Act::Apply(request, call, place) => {
+            gathered.keep(apply(rt, alloc, lock, seat, request), request, call, place)
+        }
         Act::Step(request, times) => step(rt, alloc, lock, seat, request, times),
         Act::Turn(most, end, count) => {
-            match turn(rt, alloc, lock, seat, &mut gathered.counts, most) {
-                Some((ended, sent)) => ended == end && are_questions(&sent, count),
-                None => false,
-            }
+            turn(rt, alloc, lock, seat, &mut gathered.counts, most) == Some((end, count))
         }
         Act::Turned(deed, count) => gathered.counts.get(Count::Turn(deed)) == count,
         Act::Sent(reply, count) => gathered.counts.get(Count::Reply(reply)) == count,
         Act::Offer(pool, limit, fault) => {
             return offer(rt, lock, seat, &mut gathered.receipts, pool, limit, fault);
         }
-        Act::Cut(first, count) => match lock.cut(rt) {
-            Ok(chapter) => gathered.keep_chapter(chapter, first, count),
-            Err(_) => false,
-        },
+        Act::Cut(first, count) => cut(rt, lock, gathered, first, count),
         Act::CutInVain => matches!(lock.cut(rt), Err(CutFault::NoBase)),
         Act::Discard(count, has_base) => discard(rt, alloc, lock) == (count, has_base),
         Act::HandOut(first, count, is_recorded) => {

@@ -45,19 +45,48 @@ pub fn look<D: Hall, T: Ledger, U: Ledger, V: Ledger>(
     alloc: Global,
     lock: &ZoneLock<FixedPool, D, T, U, V>,
 ) -> Looked {
-    let memory = "memory for rows";
-    let mut pools = Vec::with_capacity(alloc, 16).ok().ok_or(memory)?;
+    look_at_figures(rt, alloc, lock)?;
+    look_at_endpoints(rt, alloc, lock)?;
+    look_at_calls(rt, alloc, lock)
+}
+
+const MEMORY: &str = "memory for rows";
+
+/// Compares figures with those of two endpoints and of one call.
+fn look_at_figures<D: Hall, T: Ledger, U: Ledger, V: Ledger>(
+    rt: &impl Wait,
+    alloc: Global,
+    lock: &ZoneLock<FixedPool, D, T, U, V>,
+) -> Looked {
+    let mut pools = Vec::with_capacity(alloc, 16).ok().ok_or(MEMORY)?;
     let figures = lock.figures(rt, &mut pools);
-    let mut endpoints = Vec::with_capacity(alloc, 1).ok().ok_or(memory)?;
-    let place = lock.endpoints_below(rt, usize::MAX, &mut endpoints);
-    let last = endpoints.pop().ok_or("a row for which there is room")?;
-    let end = lock.endpoints_below(rt, place, &mut endpoints);
-    let mut calls = Vec::with_capacity(alloc, 64).ok().ok_or(memory)?;
-    let no_more = lock.calls_below(rt, usize::MAX, &mut calls);
-    let are_told = compare_figures(&figures, &pools);
-    let is_once = expect((place, end, no_more) == (1, 0, 0), "each row comes once");
-    let are_rows = compare_rows(&last, &endpoints, &calls);
-    are_told.and(is_once).and(are_rows)
+    compare_figures(&figures, &pools)
+}
+
+/// Compares the rows of two endpoints, of which each comes where there is room for one.
+fn look_at_endpoints<D: Hall, T: Ledger, U: Ledger, V: Ledger>(
+    rt: &impl Wait,
+    alloc: Global,
+    lock: &ZoneLock<FixedPool, D, T, U, V>,
+) -> Looked {
+    let mut upper = Vec::with_capacity(alloc, 1).ok().ok_or(MEMORY)?;
+    let mut lower = Vec::with_capacity(alloc, 1).ok().ok_or(MEMORY)?;
+    let place = lock.endpoints_below(rt, usize::MAX, &mut upper);
+    let end = lock.endpoints_below(rt, place, &mut lower);
+    expect((place, end) == (1, 0), "each endpoint's row comes once")?;
+    compare_endpoints(&lower, &upper)
+}
+
+/// Compares the rows of calls with that of one call.
+fn look_at_calls<D: Hall, T: Ledger, U: Ledger, V: Ledger>(
+    rt: &impl Wait,
+    alloc: Global,
+    lock: &ZoneLock<FixedPool, D, T, U, V>,
+) -> Looked {
+    let mut calls = Vec::with_capacity(alloc, 64).ok().ok_or(MEMORY)?;
+    let end = lock.calls_below(rt, usize::MAX, &mut calls);
+    expect(end == 0, "the call's row comes once")?;
+    compare_calls(&calls)
 }
 
 /// Compares figures with those of two endpoints and of one call.
@@ -78,14 +107,18 @@ fn compare_figures(figures: &ZoneFigures, pools: &[Figures]) -> Looked {
     ])
 }
 
-/// Compares rows with those of 101, who called, of 102, and of their call.
-fn compare_rows(last: &EndpointRow, endpoints: &[EndpointRow], calls: &[CallRow]) -> Looked {
-    let ([first], [call]) = (endpoints, calls) else {
-        return Err("there is a row of 101, and one of the call");
+/// The identifiers 0001 and 0002.
+const FIRST: [u16; 4] = [48, 48, 48, 49];
+
+const LAST: [u16; 4] = [48, 48, 48, 50];
+
+/// Compares rows with those of 101, who called, and of 102.
+fn compare_endpoints(lower: &[EndpointRow], upper: &[EndpointRow]) -> Looked {
+    let ([first], [last]) = (lower, upper) else {
+        return Err("there is a row of 101, and one of 102");
     };
-    let is_first = first.identifier.as_slice() == [48, 48, 48, 49].as_slice();
-    let is_last = last.identifier.as_slice() == [48, 48, 48, 50].as_slice();
-    let takes_part = call.first == first.identifier;
+    let is_first = first.identifier.as_slice() == FIRST.as_slice();
+    let is_last = last.identifier.as_slice() == LAST.as_slice();
     all_hold(&[
         (is_first, "the first row is that of 0001"),
         (first.alias_count == 1, "0001 has one alias"),
@@ -93,6 +126,16 @@ fn compare_rows(last: &EndpointRow, endpoints: &[EndpointRow], calls: &[CallRow]
         (first.legs == 1, "0001 has one leg"),
         (is_last, "the last row is that of 0002"),
         (last.legs == 0, "0002 has no leg"),
+    ])
+}
+
+/// Compares rows with that of the call of 101.
+fn compare_calls(calls: &[CallRow]) -> Looked {
+    let [call] = calls else {
+        return Err("there is a row of the call");
+    };
+    let takes_part = call.first.as_slice() == FIRST.as_slice();
+    all_hold(&[
         (u64::from(call.units) == CALL, "the call has its units"),
         (takes_part, "0001 takes part in the call"),
         (call.second.is_none(), "nobody else takes part in it"),

@@ -29,11 +29,7 @@ pub fn offer<D: Hall, T: Ledger, U: Ledger, V: Ledger>(
 ) -> Looked {
     match lock.replace(rt, seat, pool, FixedPool::new(limit), Moment::START) {
         Ok((receipt, old)) => {
-            let is_old = all_hold(&[
-                (fault.is_none(), "the fresh pool takes its place"),
-                (is_idle(&old, POOL), "the old pool has nothing lent"),
-                (old.refusals() == 0, "it refused nothing"),
-            ]);
+            let is_old = compare_old(&old, fault);
             let is_told = compare_receipt(&receipt, receipts.len(), pool, limit);
             let is_kept = expect(receipts.push(receipt).is_ok(), "memory for a receipt");
             is_old.and(is_told).and(is_kept)
@@ -43,6 +39,15 @@ pub fn offer<D: Hall, T: Ledger, U: Ledger, V: Ledger>(
             (is_idle(&fresh, limit), "the fresh pool has nothing lent"),
         ]),
     }
+}
+
+/// Compares a pool that came back, and the fault that was expected, with those of a replacement.
+fn compare_old(old: &FixedPool, fault: Option<ReplaceFault>) -> Looked {
+    all_hold(&[
+        (fault.is_none(), "the fresh pool takes its place"),
+        (is_idle(old, POOL), "the old pool has nothing lent"),
+        (old.refusals() == 0, "it refused nothing"),
+    ])
 }
 
 /// Whether a pool that came back has this limit and nothing lent.

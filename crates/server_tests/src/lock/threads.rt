@@ -36,6 +36,19 @@ fn discovery(thread: usize, step: usize) -> [u8; 20] {
     bytes
 }
 
+/// One step. None if memory was refused.
+fn step<D: Hall, T: Ledger, U: Ledger, V: Ledger>(
+    rt: &impl Wait,
+    alloc: Global,
+    lock: &ZoneLock<FixedPool, D, T, U, V>,
+    place: &mut Place<D, T, U, V>,
+    discovery: &[u8],
+) -> Option<()> {
+    let prepared = datagram(alloc, discovery)?;
+    let receipt = lock.apply(rt, &mut place.seat, prepared).ok()?;
+    place.gathered.receipts.push(receipt).ok()
+}
+
 /// One step, and a chapter if one is due.
 fn go_on<D: Hall, T: Ledger, U: Ledger, V: Ledger>(
     rt: &impl Wait,
@@ -45,11 +58,10 @@ fn go_on<D: Hall, T: Ledger, U: Ledger, V: Ledger>(
     thread: usize,
     step: usize,
 ) -> Option<()> {
-    let prepared = datagram(alloc, &discovery(thread, step))?;
-    let receipt = lock.apply(rt, &mut place.seat, prepared).ok()?;
-    place.gathered.receipts.push(receipt).ok()?;
+    self::step(rt, alloc, lock, place, &discovery(thread, step))?;
     if thread == 0 && step % CHAPTER == CHAPTER - 1 {
-        place.gathered.chapters.push(lock.cut(rt).ok()?).ok()?;
+        let chapter = lock.cut(rt).ok()?;
+        place.gathered.chapters.push(chapter).ok()?;
     }
     Some(())
 }

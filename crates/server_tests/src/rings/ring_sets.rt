@@ -29,18 +29,31 @@ fn is_emptied(inlet: &mut Inlet, first: u16, behind: u16) -> bool {
 /// From which number on the two datagrams of three rings are counted.
 const FIRST: [u16; 3] = [0, 10, 20];
 
+/// Whether the two datagrams of each ring find their places, and one more finds none.
+fn are_filled(alloc: Global, outlets: &mut [Outlet]) -> bool {
+    let mut are_filled = true;
+    for (first, outlet) in FIRST.iter().zip(outlets.iter_mut()) {
+        are_filled = is_filled(alloc, outlet, *first, first.saturating_add(2)) && are_filled;
+    }
+    are_filled
+}
+
+/// Whether the two datagrams of each ring come out in order, and nothing else.
+fn are_emptied(inlets: &mut [Inlet]) -> bool {
+    let mut are_emptied = true;
+    for (first, inlet) in FIRST.iter().zip(inlets.iter_mut()) {
+        are_emptied = is_emptied(inlet, *first, first.saturating_add(2)) && are_emptied;
+    }
+    are_emptied
+}
+
 #[test]
 fn three_rings_are_apart(rt: HostRuntime) -> Result<(), Fail> {
     let alloc = rt.alloc();
     let (mut outlets, mut inlets) = rings(alloc, 3, 2)?;
     let counts = (outlets.len(), inlets.len());
-    let (mut are_filled, mut are_emptied) = (true, true);
-    for (first, outlet) in FIRST.iter().zip(outlets.iter_mut()) {
-        are_filled = is_filled(alloc, outlet, *first, first.saturating_add(2)) && are_filled;
-    }
-    for (first, inlet) in FIRST.iter().zip(inlets.iter_mut()) {
-        are_emptied = is_emptied(inlet, *first, first.saturating_add(2)) && are_emptied;
-    }
+    let are_filled = are_filled(alloc, &mut outlets);
+    let are_emptied = are_emptied(&mut inlets);
     all_hold(&[
         (counts == (3, 3), "there are three rings"),
         (are_filled, "each has places of its own"),

@@ -4,7 +4,7 @@ ghost use Rattle.udp_server.specs.Plans.{IsPlan};
 
 use crate::server::clocks::clocks;
 use crate::server::ends::{Giver, Room, givers};
-use crate::server::fixtures::{Looked, NOT_SERVED, PLAN, all_hold, zone};
+use crate::server::fixtures::{Looked, NOT_SERVED, PLAN, all_hold, served};
 use book_audit::audit;
 use pools::FixedPool;
 use std::alloc::Global;
@@ -12,7 +12,7 @@ use std::rt::Clock;
 use std::sync::Wait;
 use std::sync::atomic::Ordering;
 use std::thread::Threads;
-use udp_server::{Open, Plan, Report, serve_zone};
+use udp_server::{Open, Plan, Report};
 
 /// How many datagrams each of four ends gives.
 const DATAGRAMS: u64 = 100;
@@ -145,22 +145,10 @@ fn report<R: Threads + Wait + Clock + Sync>(
 ) -> Option<Report<FixedPool>>
     requires { IsPlan plan }
 {
-    let zone = zone(alloc)?;
-    let receivers = givers(alloc, room, 4, DATAGRAMS, 3)?;
-    let clocks = clocks(alloc, 4, &room.reads)?;
+    let receivers = givers(alloc, room, 4, DATAGRAMS, 3);
+    let clocks = clocks(alloc, 4, &room.reads);
     let sender = Giver::new(room, 0, 0, 0);
-    serve_zone(
-        rt,
-        alloc,
-        zone,
-        receivers,
-        sender,
-        &Open,
-        clocks,
-        Vec::new(alloc),
-        plan,
-    )
-    .ok()
+    served(rt, alloc, receivers, sender, &Open, clocks, plan)
 }
 
 /// Serves by this plan, and looks at what is left.

@@ -6,7 +6,7 @@ ghost use Rattle.udp_server.specs.Plans.{IsPlan};
 
 use crate::server::clocks::clocks;
 use crate::server::fixtures::{
-    ENDPOINT, Looked, NOT_SERVED, PLAN, all_hold, discovery, outputs, zone,
+    ENDPOINT, Looked, NOT_SERVED, PLAN, all_hold, discovery, outputs, served, zone,
 };
 use pools::FixedPool;
 use std::alloc::Global;
@@ -91,7 +91,7 @@ impl Datagrams for Faulty {
 }
 
 /// What a server over one such end leaves, of which the sender's every second send fails.
-fn served<R: Threads + Wait + Clock + Sync>(
+fn served_faultily<R: Threads + Wait + Clock + Sync>(
     rt: &R,
     alloc: Global,
     deeds: &'static [Deed],
@@ -100,22 +100,10 @@ fn served<R: Threads + Wait + Clock + Sync>(
     requires { IsPlan plan }
 {
     let reads = AtomicU64::new(0);
-    let zone = zone(alloc)?;
-    let mut receivers = Vec::new(alloc);
-    receivers.push(Faulty::new(deeds)).ok()?;
-    let clocks = clocks(alloc, 1, &reads)?;
-    serve_zone(
-        rt,
-        alloc,
-        zone,
-        receivers,
-        Faulty::new(&[]),
-        &Open,
-        clocks,
-        Vec::new(alloc),
-        plan,
-    )
-    .ok()
+    let receivers = vec![in alloc; Faulty::new(deeds)].ok();
+    let clocks = clocks(alloc, 1, &reads);
+    let sender = Faulty::new(&[]);
+    served(rt, alloc, receivers, sender, &Open, clocks, plan)
 }
 
 /// Two failed receives, which a quiet one parts from three more; what comes behind isn't received.
@@ -149,7 +137,7 @@ fn failed_receives<R: Threads + Wait + Clock + Sync>(
     deeds: &'static [Deed],
 ) -> Option<(u64, u64)> {
     let plan = Plan { faults: 3, ..PLAN };
-    let report = served(rt, alloc, deeds, plan)?;
+    let report = served_faultily(rt, alloc, deeds, plan)?;
     Some((report.datagrams, report.receive_faults))
 }
 
@@ -169,7 +157,7 @@ fn a_datagram_parts_failed_receives(rt: HostRuntime) {
 /// has 4,097 octets.
 fn too_much<R: Threads + Wait + Clock + Sync>(rt: &R, alloc: Global) -> Option<(u64, u64)> {
     const DEEDS: [Deed; 2] = [Deed::GivesTooMuch, Deed::Gives];
-    let report = served(rt, alloc, &DEEDS, PLAN)?;
+    let report = served_faultily(rt, alloc, &DEEDS, PLAN)?;
     Some((report.datagrams, outputs(&report)))
 }
 
@@ -188,17 +176,21 @@ const GIVING: [Deed; MANY as usize] = [Deed::Gives; MANY as usize];
 /// place, or was lost by a failed send.
 fn count_replies<R: Threads + Wait + Clock + Sync>(rt: &R, alloc: Global) -> Looked {
     let plan = Plan { ring: 1, ..PLAN };
-    let report = served(rt, alloc, &GIVING, plan).ok_or(NOT_SERVED)?;
+    let report = served_faultily(rt, alloc, &GIVING, plan);
+    compare_counts(report.as_ref())
+}
+
+/// Compares a report with that of such a server.
+fn compare_counts(report: Option<&Report<FixedPool>>) -> Looked {
+    let report = report.ok_or(NOT_SERVED)?;
     let (sent, failed) = (report.sent, report.send_faults);
     let counted = sent.saturating_add(report.dropped).saturating_add(failed);
     let is_half = sent == failed || sent == failed.saturating_add(1);
-    let looked = all_hold(&[
-        (outputs(&report) == MANY, "each datagram is answered"),
+    all_hold(&[
+        (outputs(report) == MANY, "each datagram is answered"),
         (counted == MANY, "each reply is counted once"),
         (is_half, "every second send failed"),
-    ]);
-    drop(report);
-    looked
+    ])
 }
 
 #[test]

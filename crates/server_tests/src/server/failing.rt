@@ -4,7 +4,7 @@ ghost use Rattle.std.specs.Prelude.{◌≡◌};
 ghost use Rattle.udp_server.specs.Ends.{fault_count};
 
 use crate::server::clocks::clocks;
-use crate::server::fixtures::{ENDPOINT, Looked, NOT_SERVED, PLAN, all_hold, outputs, zone};
+use crate::server::fixtures::{ENDPOINT, Looked, NOT_SERVED, PLAN, all_hold, outputs, served};
 use book_audit::audit;
 use pools::FixedPool;
 use ras_core::Note;
@@ -15,7 +15,7 @@ use std::sync::atomic::{AtomicBool, AtomicU64, Ordering};
 use std::thread;
 use std::thread::Threads;
 use std::time::Duration;
-use udp_server::{Datagrams, DeviceFault, Gate, Open, Received, Report, Stage, serve_zone};
+use udp_server::{Datagrams, DeviceFault, Gate, Open, Received, Report, Stage};
 use vectors::replies::GCF;
 use vectors::requests::{GRQ, GRQ_OF_XX};
 use zone_events::{Change, Datagram, Event};
@@ -145,36 +145,24 @@ impl Datagrams for Failing<'_> {
 }
 
 /// What a server over one such end leaves.
-fn served<R: Threads + Wait + Clock + Sync>(
+fn served_failing<'a, R: Threads + Wait + Clock + Sync>(
     rt: &R,
     alloc: Global,
-    receiver: &Record,
-    sender: &Record,
+    receiver: &'a Record,
+    sender: &'a Record,
     discoveries: &'static [Discovery],
 ) -> Option<Report<FixedPool>> {
     let reads = AtomicU64::new(0);
-    let zone = zone(alloc)?;
-    let mut receivers = Vec::new(alloc);
-    receivers.push(Failing::new(receiver, discoveries)).ok()?;
-    let clocks = clocks(alloc, 1, &reads)?;
+    let receivers = vec![in alloc; Failing::new(receiver, discoveries)].ok();
+    let clocks = clocks(alloc, 1, &reads);
     let sender = Failing::new(sender, &[]);
-    serve_zone(
-        rt,
-        alloc,
-        zone,
-        receivers,
-        sender,
-        &Open,
-        clocks,
-        Vec::new(alloc),
-        PLAN,
-    )
-    .ok()
+    served(rt, alloc, receivers, sender, &Open, clocks, PLAN)
 }
 
 /// Compares a report in which this count of calls has failed: each output was sent, dropped or lost
 /// by a failed send, and the receipts pass their audit.
-fn compare_failed(report: &Report<FixedPool>, failed: u64) -> Looked {
+fn compare_failed(report: Option<&Report<FixedPool>>, failed: u64) -> Looked {
+    let report = report.ok_or(NOT_SERVED)?;
     let tried = report.sent.saturating_add(report.send_faults);
     let became = tried.saturating_add(report.dropped);
     let faults = report.receive_faults.saturating_add(report.send_faults);
@@ -204,12 +192,9 @@ fn serve_failing<R: Threads + Wait + Clock + Sync>(
     send: u64,
 ) -> Result<bool, &'static str> {
     let (receiver, sender) = (Record::new(receive), Record::new(send));
-    let report = served(rt, alloc, &receiver, &sender, &REPEATED).ok_or(NOT_SERVED)?;
+    let report = served_failing(rt, alloc, &receiver, &sender, &REPEATED);
     let failed = receiver.failed().saturating_add(sender.failed());
-    let compared = compare_failed(&report, failed);
-    drop(report);
-    compared?;
-    Ok(failed > 0)
+    compare_failed(report.as_ref(), failed).map(|()| failed > 0)
 }
 
 /// Which call is tried at most, of those that fail one after the other.
@@ -270,7 +255,7 @@ fn between<R: Threads + Wait + Clock + Sync>(
 ) -> Option<(u64, u64, u64, u64, u64, u64)> {
     const TWO: [Discovery; 2] = [Discovery::Confirmed, Discovery::Rejected];
     let (receiver, sender) = (Record::new(1), Record::new(NEVER));
-    let report = served(rt, alloc, &receiver, &sender, &TWO)?;
+    let report = served_failing(rt, alloc, &receiver, &sender, &TWO)?;
     Some(counts(&report))
 }
 
@@ -299,24 +284,28 @@ fn note_behind(report: &Report<FixedPool>, before: usize) -> Option<Note> {
 fn send_again<R: Threads + Wait + Clock + Sync>(rt: &R, alloc: Global) -> Looked {
     const TWICE: [Discovery; 2] = [Discovery::Confirmed, Discovery::Confirmed];
     let (receiver, sender) = (Record::new(NEVER), Record::new(0));
-    let report = served(rt, alloc, &receiver, &sender, &TWICE).ok_or(NOT_SERVED)?;
-    let looked = all_hold(&[
+    let report = served_failing(rt, alloc, &receiver, &sender, &TWICE);
+    compare_repeat(report.as_ref(), sender.confirms())
+}
+
+/// Compares a report and a count of confirms with those of such a server.
+fn compare_repeat(report: Option<&Report<FixedPool>>, confirms: u64) -> Looked {
+    let report = report.ok_or(NOT_SERVED)?;
+    all_hold(&[
         (
-            counts(&report) == (2, 1, 0, 0, 0, 1),
+            counts(report) == (2, 1, 0, 0, 0, 1),
             "one of two replies is sent, and the other one lost",
         ),
         (
-            note_behind(&report, 0) == Some(Note::Served),
+            note_behind(report, 0) == Some(Note::Served),
             "the request is served",
         ),
         (
-            note_behind(&report, 1) == Some(Note::Kept),
+            note_behind(report, 1) == Some(Note::Kept),
             "its repeat gets the kept reply",
         ),
-        (sender.confirms() == 1, "the confirm is sent once"),
-    ]);
-    drop(report);
-    looked
+        (confirms == 1, "the confirm is sent once"),
+    ])
 }
 
 #[test]
@@ -353,28 +342,14 @@ fn outlasting<R: Threads + Wait + Clock + Sync>(
     const ONE: [Discovery; 1] = [Discovery::Confirmed];
     let reads = AtomicU64::new(0);
     let (first, second, sender) = (Record::new(NEVER), Record::new(NEVER), Record::new(NEVER));
-    let zone = zone(alloc)?;
-    let mut receivers = Vec::new(alloc);
-    receivers.push(Failing::new(&first, &ONE)).ok()?;
-    receivers.push(Failing::new(&second, &[])).ok()?;
-    let clocks = clocks(alloc, 2, &reads)?;
+    let receivers = vec![in alloc; Failing::new(&first, &ONE), Failing::new(&second, &[])].ok();
+    let clocks = clocks(alloc, 2, &reads);
     let gate = UntilStopped {
         rt,
         record: &second,
     };
     let sender = Failing::new(&sender, &[]);
-    let report = serve_zone(
-        rt,
-        alloc,
-        zone,
-        receivers,
-        sender,
-        &gate,
-        clocks,
-        Vec::new(alloc),
-        PLAN,
-    )
-    .ok()?;
+    let report = served(rt, alloc, receivers, sender, &gate, clocks, PLAN)?;
     Some(counts(&report))
 }
 

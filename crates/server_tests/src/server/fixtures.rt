@@ -1,9 +1,15 @@
 //! The zone of the worked examples, and how it is served.
 
+ghost use Rattle.udp_server.specs.Plans.{IsPlan};
+
 pub use crate::shared::{CALL, Looked, all_hold};
 use pools::FixedPool;
 use ras_module::{Address, Source};
-use udp_server::{Plan, Report};
+use std::alloc::Global;
+use std::rt::Clock;
+use std::sync::Wait;
+use std::thread::Threads;
+use udp_server::{Datagrams, Gate, Moments, Plan, Report, serve_zone};
 use vectors::requests::GRQ;
 pub use worked_zone::{CALL_LIMIT, ENDPOINT, POOL, zone};
 
@@ -26,6 +32,32 @@ pub const PLAN: Plan = Plan {
     receipts: true,
     hands_out: false,
 };
+
+/// What a server of the zone leaves over these ends and clocks, if there was memory for them. None
+/// if it didn't run.
+pub fn served<
+    R: Threads + Wait + Clock + Sync,
+    N: Datagrams + Send,
+    G: Gate + Sync,
+    C: Moments + Send,
+>(
+    rt: &R,
+    alloc: Global,
+    receivers: Option<Vec<N>>,
+    sender: N,
+    gate: &G,
+    clocks: Option<Vec<C>>,
+    plan: Plan,
+) -> Option<Report<FixedPool>>
+    requires { IsPlan plan }
+{
+    let (zone, receivers, clocks) = (zone(alloc)?, receivers?, clocks?);
+    let orders = Vec::new(alloc);
+    serve_zone(
+        rt, alloc, zone, receivers, sender, gate, clocks, orders, plan,
+    )
+    .ok()
+}
 
 /// A discovery whose number is told by the end that gives it and by how many are to come.
 pub fn discovery(end: u8, left: u64) -> [u8; 20] {

@@ -97,6 +97,21 @@ fn report<R: Threads + Wait + Clock + Sync>(
     .ok()
 }
 
+/// Compares a report with that of a server of which each entry was taken, once and in order.
+fn compare(report: Option<&Report<FixedPool>>, is_followed: bool, taken: u64) -> Looked {
+    let report = report.ok_or(NOT_SERVED)?;
+    let steps = report.datagrams.saturating_add(report.turns);
+    all_hold(&[
+        (
+            report.datagrams == 4 * DATAGRAMS,
+            "all datagrams are served",
+        ),
+        (is_followed, "entries follow one another"),
+        (taken == steps, "each step is taken once"),
+        (report.finished.entries().is_empty(), "nothing is left"),
+    ])
+}
+
 /// Serves while entries are taken: each is, once, in order, and none is left.
 fn serve_and_take<R: Threads + Wait + Clock + Sync>(rt: &R, alloc: Global) -> Looked {
     let (room, taken, has_gap) = (Room::new(rt), AtomicU64::new(0), AtomicBool::new(false));
@@ -106,21 +121,9 @@ fn serve_and_take<R: Threads + Wait + Clock + Sync>(rt: &R, alloc: Global) -> Lo
         taken: &taken,
         has_gap: &has_gap,
     };
-    let report = report(rt, alloc, &room, taker).ok_or(NOT_SERVED)?;
-    let steps = report.datagrams.saturating_add(report.turns);
+    let report = report(rt, alloc, &room, taker);
     let is_followed = !has_gap.load(Ordering::SeqCst);
-    let taken = taken.load(Ordering::SeqCst);
-    let looked = all_hold(&[
-        (
-            report.datagrams == 4 * DATAGRAMS,
-            "all datagrams are served",
-        ),
-        (is_followed, "entries follow one another"),
-        (taken == steps, "each step is taken once"),
-        (report.finished.entries().is_empty(), "nothing is left"),
-    ]);
-    drop(report);
-    looked
+    compare(report.as_ref(), is_followed, taken.load(Ordering::SeqCst))
 }
 
 #[test]

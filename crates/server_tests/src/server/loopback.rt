@@ -1,8 +1,9 @@
 //! A server over a UDP socket of this machine.
 
 use crate::server::clocks::clocks;
-use crate::server::fixtures::{Looked, NOT_SERVED, PLAN, zone};
+use crate::server::fixtures::{Looked, NOT_SERVED, PLAN, served};
 use facts::expect;
+use pools::FixedPool;
 use ras_module::Address;
 use std::alloc::Global;
 use std::net::{IpAddr, Ipv4Addr, Net, SocketAddr, UdpSocket};
@@ -11,8 +12,8 @@ use std::sync::Wait;
 use std::sync::atomic::{AtomicBool, AtomicU64};
 use std::thread::Threads;
 use std::time::Duration;
-use udp_server::{Open, serve_zone};
-use udp_socket::{BindFault, BoundSocket, bind_zone};
+use udp_server::{Open, Report};
+use udp_socket::{BindFault, BoundSocket, SocketEnd, bind_zone};
 use vectors::replies::GCF;
 use vectors::requests::GRQ;
 
@@ -49,37 +50,34 @@ fn receive_confirm(client: &UdpSocket) -> Looked {
     )
 }
 
-/// Serves a socket by two ends that receive three times each. It receives one datagram, and sends
-/// one.
-fn serve<R: Threads + Wait + Clock + Sync>(rt: &R, alloc: Global, socket: &BoundSocket) -> Looked {
-    let (reads, is_over) = (AtomicU64::new(0), AtomicBool::new(false));
-    let zone = zone(alloc).ok_or(NOT_SERVED)?;
-    let mut receivers = Vec::new(alloc);
-    for _end in 0..2 {
-        let end = socket.end(Some(3), &is_over);
-        receivers.push(end).ok().ok_or(NOT_SERVED)?;
-    }
-    let clocks = clocks(alloc, 2, &reads).ok_or(NOT_SERVED)?;
-    let sender = socket.end(None, &is_over);
-    let report = serve_zone(
-        rt,
-        alloc,
-        zone,
-        receivers,
-        sender,
-        &Open,
-        clocks,
-        Vec::new(alloc),
-        PLAN,
-    )
-    .ok()
-    .ok_or(NOT_SERVED)?;
+/// Two ends of the socket that receive three times each.
+fn ends<'a>(
+    alloc: Global,
+    socket: &'a BoundSocket,
+    is_over: &'a AtomicBool,
+) -> Option<Vec<SocketEnd<'a, AtomicBool>>> {
+    let (first, second) = (socket.end(Some(3), is_over), socket.end(Some(3), is_over));
+    vec![in alloc; first, second].ok()
+}
+
+/// Compares a report with that of a server that received one datagram, and sent one.
+fn compare(report: Option<&Report<FixedPool>>) -> Looked {
+    let report = report.ok_or(NOT_SERVED)?;
     let counts = (report.datagrams, report.sent, report.receive_faults);
-    drop(report);
     expect(
         counts == (1, 1, 0),
         "one datagram is received, and one reply sent",
     )
+}
+
+/// Serves a socket by two ends.
+fn serve<R: Threads + Wait + Clock + Sync>(rt: &R, alloc: Global, socket: &BoundSocket) -> Looked {
+    let (reads, is_over) = (AtomicU64::new(0), AtomicBool::new(false));
+    let receivers = ends(alloc, socket, &is_over);
+    let clocks = clocks(alloc, 2, &reads);
+    let sender = socket.end(None, &is_over);
+    let report = served(rt, alloc, receivers, sender, &Open, clocks, PLAN);
+    compare(report.as_ref())
 }
 
 /// Answers the discovery of a client over a socket.

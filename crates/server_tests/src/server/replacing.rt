@@ -32,21 +32,28 @@ fn order(at: u64, pool: usize, limit: u64) -> Option<PoolOrder<FixedPool>> {
     })
 }
 
+/// Orders of these: from which millisecond on, for which pool, and a pool of which limit.
+fn orders(alloc: Global, rows: &[(u64, usize, u64)]) -> Option<Vec<PoolOrder<FixedPool>>> {
+    let mut orders = Vec::new(alloc);
+    for (at, pool, limit) in rows {
+        orders.push(order(*at, *pool, *limit)?).ok()?;
+    }
+    Some(orders)
+}
+
 /// What a server leaves that was given the three requests, and these orders: its timers' clock
 /// stands a second behind the start once all three were answered.
 fn report<R: Threads + Wait + Clock + Sync>(
     rt: &R,
     alloc: Global,
-    orders: Vec<PoolOrder<FixedPool>>,
+    orders: &[(u64, usize, u64)],
 ) -> Option<Report<FixedPool>> {
     let sent = AtomicU64::new(0);
-    let zone = zone(alloc)?;
-    let mut receivers = Vec::new(alloc);
-    receivers
-        .push(Caller::new(rt, &sent, REQUESTS, REQUESTS))
-        .ok()?;
+    let receivers = vec![in alloc; Caller::new(rt, &sent, REQUESTS, REQUESTS)].ok();
+    let clocks = leaps(alloc, &sent, u64::MAX, REQUESTS, SECOND);
     let sender = Caller::new(rt, &sent, REQUESTS, 0);
-    let clocks = leaps(alloc, &sent, u64::MAX, REQUESTS, SECOND)?;
+    let orders = self::orders(alloc, orders);
+    let (zone, receivers, clocks, orders) = (zone(alloc)?, receivers?, clocks?, orders?);
     serve_zone(
         rt, alloc, zone, receivers, sender, &Open, clocks, orders, PLAN,
     )
@@ -99,14 +106,14 @@ fn compare_one_box(boxes: &[(usize, FixedPool, bool)]) -> Looked {
 
 /// Carries out one order once the call is open: the old pool comes back.
 fn carry_out<R: Threads + Wait + Clock + Sync>(rt: &R, alloc: Global) -> Looked {
-    let mut orders = Vec::new(alloc);
-    let order = order(1, 0, FRESH).ok_or("an order")?;
-    orders.push(order).ok().ok_or(NOT_SERVED)?;
-    let report = report(rt, alloc, orders).ok_or(NOT_SERVED)?;
-    let has_old = compare_one_box(&report.boxes);
-    let compared = compare_report(&report);
-    drop(report);
-    has_old.and(compared)
+    let report = report(rt, alloc, &[(1, 0, FRESH)]);
+    compare_one_order(report.as_ref())
+}
+
+/// Compares a report with that of one order, which was carried out.
+fn compare_one_order(report: Option<&Report<FixedPool>>) -> Looked {
+    let report = report.ok_or(NOT_SERVED)?;
+    compare_one_box(&report.boxes).and(compare_report(report))
 }
 
 #[test]
@@ -137,25 +144,25 @@ fn compare_four_boxes(boxes: &[(usize, FixedPool, bool)]) -> Looked {
     ])
 }
 
-/// Hands back the fresh pools of orders that can't be carried out: for a pool that isn't there, of
-/// fewer units than are lent, and at a moment that doesn't come. The one between them is carried
-/// out.
+/// Orders that can't be carried out: for a pool that isn't there, of fewer units than are lent, and
+/// at a moment that doesn't come. The one between them is carried out.
+const FOUR: [(u64, usize, u64); 4] = [
+    (1, 7, 900),
+    (2, 0, FRESH),
+    (3, 0, CALL - 1),
+    (60_000, 0, 5_000),
+];
+
+/// Hands back the fresh pools of those that can't be carried out.
 fn hand_back<R: Threads + Wait + Clock + Sync>(rt: &R, alloc: Global) -> Looked {
-    let mut orders = Vec::new(alloc);
-    for (at, pool, limit) in [
-        (1, 7, 900),
-        (2, 0, FRESH),
-        (3, 0, CALL - 1),
-        (60_000, 0, 5_000),
-    ] {
-        let order = order(at, pool, limit).ok_or("an order")?;
-        orders.push(order).ok().ok_or(NOT_SERVED)?;
-    }
-    let report = report(rt, alloc, orders).ok_or(NOT_SERVED)?;
-    let are_back = compare_four_boxes(&report.boxes);
-    let compared = compare_report(&report);
-    drop(report);
-    are_back.and(compared)
+    let report = report(rt, alloc, &FOUR);
+    compare_four_orders(report.as_ref())
+}
+
+/// Compares a report with that of the four orders.
+fn compare_four_orders(report: Option<&Report<FixedPool>>) -> Looked {
+    let report = report.ok_or(NOT_SERVED)?;
+    compare_four_boxes(&report.boxes).and(compare_report(report))
 }
 
 #[test]

@@ -5,7 +5,7 @@ ghost use Rattle.udp_server.specs.Plans.{IsPlan};
 
 use crate::server::clocks::leaps;
 use crate::server::ends::{Caller, given};
-use crate::server::fixtures::{ENDPOINT, Looked, NOT_SERVED, PLAN, all_hold, zone};
+use crate::server::fixtures::{ENDPOINT, Looked, NOT_SERVED, PLAN, all_hold, served};
 use pools::{FixedPool, Pool};
 use ras_core::{Change, Event, Moment};
 use std::alloc::Global;
@@ -15,7 +15,7 @@ use std::sync::atomic::{AtomicBool, AtomicU64, Ordering};
 use std::thread;
 use std::thread::Threads;
 use std::time::Duration;
-use udp_server::{Datagrams, DeviceFault, Gate, Open, Plan, Received, Report, Stage, serve_zone};
+use udp_server::{Datagrams, DeviceFault, Gate, Open, Plan, Received, Report, Stage};
 use vectors::requests::GRQ;
 use zone_events::Datagram;
 
@@ -68,37 +68,21 @@ fn do_all<R: Threads + Wait + Clock + Sync>(rt: &R, alloc: Global, plan: Plan) -
     requires { IsPlan plan }
 {
     let (sent, was_held) = (AtomicU64::new(0), AtomicBool::new(false));
-    let mut receivers = Vec::new(alloc);
-    receivers
-        .push(Caller::new(rt, &sent, REQUESTS, REQUESTS))
-        .ok()
-        .ok_or(NOT_SERVED)?;
-    let clocks = leaps(alloc, &sent, u64::MAX, REQUESTS, AHEAD).ok_or(NOT_SERVED)?;
+    let receivers = vec![in alloc; Caller::new(rt, &sent, REQUESTS, REQUESTS)].ok();
+    let clocks = leaps(alloc, &sent, u64::MAX, REQUESTS, AHEAD);
     let sender = Caller::new(rt, &sent, REQUESTS, 0);
     let gate = Late {
         rt,
         sent: &sent,
         was_held: &was_held,
     };
-    let zone = zone(alloc).ok_or(NOT_SERVED)?;
-    let report = serve_zone(
-        rt,
-        alloc,
-        zone,
-        receivers,
-        sender,
-        &gate,
-        clocks,
-        Vec::new(alloc),
-        plan,
-    )
-    .ok()
-    .ok_or(NOT_SERVED)?;
-    compare_done(&report)
+    let report = served(rt, alloc, receivers, sender, &gate, clocks, plan);
+    compare_done(report.as_ref())
 }
 
 /// Compares a report with that of a server that did all that was due.
-fn compare_done(report: &Report<FixedPool>) -> Looked {
+fn compare_done(report: Option<&Report<FixedPool>>) -> Looked {
+    let report = report.ok_or(NOT_SERVED)?;
     let ahead = Moment::new(AHEAD).ok_or("there is such a moment")?;
     let due = report.finished.zone().machine().due(ahead);
     all_hold(&[
@@ -163,31 +147,16 @@ impl Datagrams for Waiting<'_> {
 /// began to wait.
 fn serve_one<R: Threads + Wait + Clock + Sync>(rt: &R, alloc: Global) -> Looked {
     let passed = AtomicU64::new(0);
-    let mut receivers = Vec::new(alloc);
-    receivers
-        .push(Waiting::new(&passed, false))
-        .ok()
-        .ok_or(NOT_SERVED)?;
-    let clocks = leaps(alloc, &passed, 1, 1, AHEAD).ok_or(NOT_SERVED)?;
-    let zone = zone(alloc).ok_or(NOT_SERVED)?;
-    let report = serve_zone(
-        rt,
-        alloc,
-        zone,
-        receivers,
-        Waiting::new(&passed, true),
-        &Open,
-        clocks,
-        Vec::new(alloc),
-        PLAN,
-    )
-    .ok()
-    .ok_or(NOT_SERVED)?;
-    compare_moment(&report)
+    let receivers = vec![in alloc; Waiting::new(&passed, false)].ok();
+    let clocks = leaps(alloc, &passed, 1, 1, AHEAD);
+    let sender = Waiting::new(&passed, true);
+    let report = served(rt, alloc, receivers, sender, &Open, clocks, PLAN);
+    compare_moment(report.as_ref())
 }
 
 /// Compares a report with that of one datagram, which came when the clock was ahead.
-fn compare_moment(report: &Report<FixedPool>) -> Looked {
+fn compare_moment(report: Option<&Report<FixedPool>>) -> Looked {
+    let report = report.ok_or(NOT_SERVED)?;
     let came = Moment::new(AHEAD).ok_or("there is such a moment")?;
     let mut is_late = true;
     for entry in report.finished.entries() {

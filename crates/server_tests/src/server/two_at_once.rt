@@ -2,14 +2,15 @@
 //! anywhere.
 
 use crate::server::clocks::clocks;
-use crate::server::fixtures::{Looked, NOT_SERVED, PLAN, all_hold, zone};
+use crate::server::fixtures::{Looked, NOT_SERVED, PLAN, all_hold, served};
 use crate::server::meeting::{Guest, Held, Meeting};
+use pools::FixedPool;
 use std::alloc::Global;
 use std::rt::Clock;
 use std::sync::Wait;
 use std::sync::atomic::{AtomicU64, Ordering};
 use std::thread::Threads;
-use udp_server::{Stage, serve_zone};
+use udp_server::{Report, Stage};
 
 /// Each place where a worker or the sender may be held, by its name.
 const PLACES: [(&str, Held); 9] = [
@@ -42,6 +43,17 @@ const PLACES: [(&str, Held); 9] = [
     ("sender, in its first send", Held::Send),
 ];
 
+/// Compares a report with that of two datagrams that were answered, while nobody was held for too
+/// long.
+fn compare(report: Option<&Report<FixedPool>>, impatient: u64) -> Looked {
+    let report = report.ok_or(NOT_SERVED)?;
+    all_hold(&[
+        (report.datagrams == 2, "both datagrams are served"),
+        (report.sent == 2, "both are answered"),
+        (impatient == 0, "nobody is held for too long"),
+    ])
+}
+
 /// Serves two datagrams. Both are answered, and who is held isn't held for too long.
 fn serve_two<R: Threads + Wait + Clock + Sync>(
     rt: &R,
@@ -49,39 +61,11 @@ fn serve_two<R: Threads + Wait + Clock + Sync>(
     meeting: &Meeting<'_, R>,
 ) -> Looked {
     let reads = AtomicU64::new(0);
-    let zone = zone(alloc).ok_or(NOT_SERVED)?;
-    let mut receivers = Vec::new(alloc);
-    receivers
-        .push(Guest::new(meeting, 0))
-        .ok()
-        .ok_or(NOT_SERVED)?;
-    receivers
-        .push(Guest::new(meeting, 1))
-        .ok()
-        .ok_or(NOT_SERVED)?;
-    let clocks = clocks(alloc, 2, &reads).ok_or(NOT_SERVED)?;
+    let receivers = vec![in alloc; Guest::new(meeting, 0), Guest::new(meeting, 1)].ok();
+    let clocks = clocks(alloc, 2, &reads);
     let sender = Guest::new(meeting, 2);
-    let report = serve_zone(
-        rt,
-        alloc,
-        zone,
-        receivers,
-        sender,
-        meeting,
-        clocks,
-        Vec::new(alloc),
-        PLAN,
-    )
-    .ok()
-    .ok_or(NOT_SERVED)?;
-    let impatient = meeting.impatient.load(Ordering::SeqCst);
-    let looked = all_hold(&[
-        (report.datagrams == 2, "both datagrams are served"),
-        (report.sent == 2, "both are answered"),
-        (impatient == 0, "nobody is held for too long"),
-    ]);
-    drop(report);
-    looked
+    let report = served(rt, alloc, receivers, sender, meeting, clocks, PLAN);
+    compare(report.as_ref(), meeting.impatient.load(Ordering::SeqCst))
 }
 
 /// Does so while one is held at this place.
