@@ -1,5 +1,6 @@
 //! Tests of settings: keys of texts that give none, and the numbers of faults.
 
+use crate::printed::is_printed;
 use settings::{SettingsFault, unknown_keys};
 use std::test::Fail;
 
@@ -47,10 +48,8 @@ const FAULTS: [(SettingsFault, u8, &str); 5] = [
 #[test]
 fn a_fault_is_told_by_its_number_its_name_and_its_key(rt: HostRuntime) -> Result<(), Fail> {
     for (fault, number, text) in FAULTS {
-        let told = format!(in rt.alloc(); "{fault}")?;
-        let passed = told.as_str() == text && fault.number() == number;
-        drop(told);
-        assert!(rt; passed, "{text}");
+        let is_told = is_printed(rt.alloc(), &fault, text)?;
+        assert!(rt; is_told && fault.number() == number, "{text}");
     }
     Ok(())
 }

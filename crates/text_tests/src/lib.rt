@@ -8,4 +8,6 @@ mod documents;
 #[cfg(test)]
 mod pages;
 #[cfg(test)]
+mod printed;
+#[cfg(test)]
 mod scripts;

@@ -57,22 +57,32 @@ pub(crate) fn call_row(last: u8, first: EndpointId, second: Option<EndpointId>) 
     }
 }
 
-/// A zone with the endpoints 0005, 0001, 0003, 0001, 0004, 0002 and the calls 3, 1, 2, 1.
-pub(crate) fn small_zone(alloc: Global) -> Result<MemoryZone, Fail> {
-    let mut zone = MemoryZone {
-        endpoints: Vec::new(alloc),
-        calls: Vec::new(alloc),
-    };
+/// The endpoints 0005, 0001, 0003, 0001, 0004, 0002.
+fn endpoints(alloc: Global) -> Result<Vec<EndpointId>, Fail> {
+    let mut endpoints = Vec::new(alloc);
     for text in ["0005", "0001", "0003", "0001", "0004", "0002"] {
-        zone.endpoints
-            .push(identifier(text)?)
+        endpoints.push(identifier(text)?).map_err(AllocError::from)?;
+    }
+    Ok(endpoints)
+}
+
+/// The calls 3, 1, 2, 1 of the endpoint 0001.
+fn calls(alloc: Global) -> Result<Vec<CallRow>, Fail> {
+    let caller = identifier("0001")?;
+    let mut calls = Vec::new(alloc);
+    for last in [3, 1, 2, 1] {
+        calls
+            .push(call_row(last, caller, None))
             .map_err(AllocError::from)?;
     }
-    for last in [3, 1, 2, 1] {
-        let row = call_row(last, identifier("0001")?, None);
-        zone.calls.push(row).map_err(AllocError::from)?;
-    }
-    Ok(zone)
+    Ok(calls)
+}
+
+/// A zone with these endpoints and calls.
+pub(crate) fn small_zone(alloc: Global) -> Result<MemoryZone, Fail> {
+    let endpoints = endpoints(alloc)?;
+    let calls = calls(alloc)?;
+    Ok(MemoryZone { endpoints, calls })
 }
 
 /// It tells one row at a time.

@@ -1,13 +1,15 @@
 //! Scripts whose fresh pools aren't fresh, or are too many or too few.
 
+use crate::scripts::fixtures::{Answer, Ran, run_with, script_of};
+use facts::all_hold;
 use pools::{Lend, Pool, PoolSpec, StandardPool};
-use script::{Input, Output, RunFault, read_script, run_script};
+use script::{RunFault, Script};
 use std::alloc::{AllocError, Global};
 use std::test::Fail;
 
 /// Two endpoints register, and the first one calls the second one with 1,280 units. Two fresh pools
 /// are offered, and then the call asks for 2,000 units.
-const SCRIPT: &[u8] = b"zone gk 10.0.0.1:1719
+const TWO_REPLACED: &[u8] = b"zone gk 10.0.0.1:1719
 set limit 3000
 set call_limit 2000
 set pool_turn 86400000
@@ -36,55 +38,86 @@ const PRINTED: &[u8] =
 6 served lent 720 > 10.0.0.5:1719 3400064007D0
 ";
 
+/// The pool that is described, which has lent this much.
+fn pool_of(spec: PoolSpec, lent: u32) -> StandardPool {
+    let mut pool = StandardPool::new(spec);
+    if lent > 0 {
+        let _: Lend = pool.lend(u64::from(lent));
+    }
+    pool
+}
+
 /// The pools that are described, of which each has lent this much.
 fn pools_of(alloc: Global, specs: &[PoolSpec], lent: u32) -> Result<Vec<StandardPool>, AllocError> {
     let mut pools = Vec::new(alloc);
     for spec in specs {
-        let mut pool = StandardPool::new(*spec);
-        if lent > 0 {
-            let _: Lend = pool.lend(u64::from(lent));
-        }
-        pools.push(pool)?;
+        pools.push(pool_of(*spec, lent))?;
     }
     Ok(pools)
 }
 
-#[test]
-fn a_fresh_pool_that_has_lent_something_is_refused(rt: HostRuntime) -> Result<(), Fail> {
-    let alloc = rt.alloc();
-    let script = read_script(alloc, &mut Input::new(SCRIPT))?;
-    let pools = pools_of(alloc, script.pools.as_slice(), 0)?;
+/// The fresh pools that a script names, of which each has lent this much.
+fn fresh_pools(alloc: Global, script: &Script, lent: u32) -> Result<Vec<StandardPool>, AllocError> {
     let specs = script.events.fresh_pools(alloc)?;
-    let fresh = pools_of(alloc, specs.as_slice(), 1)?;
-    let mut out = Output::new(Vec::new(alloc));
-    run_script(alloc, script, pools, fresh, &mut out)?;
-    assert!(rt; out.into_writer().as_slice() == PRINTED);
-    Ok(())
+    pools_of(alloc, specs.as_slice(), lent)
 }
 
-/// What a run that is to replace one pool returns with this count of fresh pools, and how many
-/// octets it writes.
-fn answer_with(alloc: Global, count: usize) -> Result<(Result<(), RunFault>, usize), Fail> {
-    let text: &[u8] = b"zone gk 10.0.0.1:1719\nturn 0\nreplace 0 0 fixed 1\n";
-    let script = read_script(alloc, &mut Input::new(text))?;
+/// Runs that script, each of whose fresh pools has lent one unit.
+fn run_with_used_pools(alloc: Global) -> Result<Ran, Fail> {
+    let script = script_of(alloc, TWO_REPLACED)?;
     let pools = pools_of(alloc, script.pools.as_slice(), 0)?;
-    let mut fresh = Vec::new(alloc);
-    for _ in 0..count {
-        fresh.push(StandardPool::new(PoolSpec::Fixed { limit: 1 }))?;
-    }
-    let mut out = Output::new(Vec::new(alloc));
-    let answer = run_script(alloc, script, pools, fresh, &mut out);
-    Ok((answer, out.into_writer().len()))
+    let fresh = fresh_pools(alloc, &script, 1)?;
+    Ok(run_with(alloc, script, pools, fresh))
 }
+
+/// A run came to its end, and printed that both pools are refused.
+fn compare(ran: &Ran) -> Result<(), Fail> {
+    all_hold(&[
+        (ran.answer == Ok(()), "the script is run to its end"),
+        (ran.text.as_slice() == PRINTED, "both pools are refused"),
+    ])
+}
+
+#[test]
+fn a_fresh_pool_that_has_lent_something_is_refused(rt: HostRuntime) -> Result<(), Fail> {
+    let ran = run_with_used_pools(rt.alloc())?;
+    compare(&ran)
+}
+
+/// A script that replaces one pool.
+const ONE_REPLACED: &[u8] = b"zone gk 10.0.0.1:1719\nturn 0\nreplace 0 0 fixed 1\n";
+
+/// This many fixed pools of one unit.
+fn fixed_pools(alloc: Global, count: usize) -> Result<Vec<StandardPool>, AllocError> {
+    let mut pools = Vec::new(alloc);
+    for _ in 0..count {
+        pools.push(StandardPool::new(PoolSpec::Fixed { limit: 1 }))?;
+    }
+    Ok(pools)
+}
+
+/// What a run that is to replace one pool returns with this count of fresh pools.
+fn answer_with(alloc: Global, count: usize) -> Result<Answer, Fail> {
+    let script = script_of(alloc, ONE_REPLACED)?;
+    let pools = pools_of(alloc, script.pools.as_slice(), 0)?;
+    let fresh = fixed_pools(alloc, count)?;
+    Ok(run_with(alloc, script, pools, fresh).counted())
+}
+
+/// A count of fresh pools, and what the run then returns.
+const ANSWERS: [(usize, Answer); 3] = [
+    (0, (Err(RunFault::WrongPools), 0)),
+    (2, (Err(RunFault::WrongPools), 0)),
+    (1, (Ok(()), 20)),
+];
 
 #[test]
 fn another_number_of_fresh_pools_is_refused_before_anything_is_written(
     rt: HostRuntime,
 ) -> Result<(), Fail> {
-    for count in [0, 2] {
+    for (count, expected) in ANSWERS {
         let answer = answer_with(rt.alloc(), count)?;
-        assert!(rt; answer == (Err(RunFault::WrongPools), 0), "{count}");
+        assert!(rt; answer == expected, "{count}");
     }
-    assert!(rt; answer_with(rt.alloc(), 1)? == (Ok(()), 20));
     Ok(())
 }
