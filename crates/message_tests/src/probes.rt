@@ -1,5 +1,6 @@
 //! What a probe asks, and what is told of its answers.
 
+use facts::all_hold;
 use probing::{DiscoveryReply, RejectReason, discovery_request, push_told, read_reply};
 use ras_module::Address;
 use std::alloc::{AllocError, Global};
@@ -25,22 +26,28 @@ fn told(alloc: Global, octets: &[u8]) -> Result<(String, bool), AllocError> {
     Ok((words, is_found))
 }
 
+/// Whether these words are told of an answer, and whether it confirms.
+fn is_told(alloc: Global, octets: &[u8], text: &str, confirms: bool) -> Result<bool, AllocError> {
+    let (words, is_found) = told(alloc, octets)?;
+    Ok(is_found == confirms && words.as_str() == text)
+}
+
+/// A confirm that names no gatekeeper.
+const WITHOUT_A_NAME: [u8; 18] = [
+    0x04, 0x00, 0x00, 0x00, 0x06, 0x00, 0x08, 0x91, 0x4A, 0x00, 0x02, 0x00, 0x0A, 0x00, 0x00, 0x01,
+    0x06, 0xB7,
+];
+
 #[test]
 fn confirms(rt: HostRuntime) -> Result<(), Fail> {
-    let (words, is_found) = told(rt.alloc(), &GCF)?;
-    assert!(rt; is_found && words.as_str() == "gk at 10.0.0.1:1719 answers after 12.3 ms\n");
-    // one that names no gatekeeper
-    let bare = [
-        0x04, 0x00, 0x00, 0x00, 0x06, 0x00, 0x08, 0x91, 0x4A, 0x00, 0x02, 0x00, 0x0A, 0x00, 0x00,
-        0x01, 0x06, 0xB7,
-    ];
-    let (words, is_found) = told(rt.alloc(), &bare)?;
-    assert!(rt;
-        is_found
-            && words.as_str()
-                == "a gatekeeper without a name at 10.0.0.1:1719 answers after 12.3 ms\n"
-    );
-    Ok(())
+    let words = "gk at 10.0.0.1:1719 answers after 12.3 ms\n";
+    let named = is_told(rt.alloc(), &GCF, words, true)?;
+    let words = "a gatekeeper without a name at 10.0.0.1:1719 answers after 12.3 ms\n";
+    let bare = is_told(rt.alloc(), &WITHOUT_A_NAME, words, true)?;
+    all_hold(&[
+        (named, "a gatekeeper is told by its name"),
+        (bare, "one without a name is told"),
+    ])
 }
 
 /// Whether an answer rejects for this reason.
@@ -51,29 +58,42 @@ fn rejects_for(reply: &DiscoveryReply, reason: RejectReason) -> bool {
     }
 }
 
+/// securityDenial, the first reason behind the extension marker.
+const DENIED: [u8; 14] = [
+    0x08, 0x00, 0x00, 0x00, 0x06, 0x00, 0x08, 0x91, 0x4A, 0x00, 0x02, 0x80, 0x01, 0x00,
+];
+
+/// Whether octets are read as an answer that rejects for this reason.
+fn is_reject(alloc: Global, octets: &[u8], reason: RejectReason) -> bool {
+    match read_reply(alloc, octets) {
+        Ok(reply) => rejects_for(&reply, reason),
+        Err(_) => false,
+    }
+}
+
 #[test]
 fn rejects(rt: HostRuntime) -> Result<(), Fail> {
-    let (words, is_found) = told(rt.alloc(), &GRJ)?;
-    assert!(rt; !is_found && words.as_str() == "rejected: terminalExcluded\n");
-    // securityDenial, the first reason behind the extension marker
-    let denied = [
-        0x08, 0x00, 0x00, 0x00, 0x06, 0x00, 0x08, 0x91, 0x4A, 0x00, 0x02, 0x80, 0x01, 0x00,
-    ];
-    let is_read = match read_reply(rt.alloc(), &denied) {
-        Ok(reply) => rejects_for(&reply, RejectReason::SecurityDenial),
-        Err(_) => false,
-    };
-    assert!(rt; is_read);
-    Ok(())
+    let words = "rejected: terminalExcluded\n";
+    let excluded = is_told(rt.alloc(), &GRJ, words, false)?;
+    let denied = is_reject(rt.alloc(), &DENIED, RejectReason::SecurityDenial);
+    all_hold(&[
+        (excluded, "the reason is told"),
+        (denied, "a reason behind the extension marker is read"),
+    ])
 }
 
 #[test]
 fn others(rt: HostRuntime) -> Result<(), Fail> {
     let mut of_another = GCF;
     of_another[3] = 1;
-    for octets in [&ACF_1280[..], &of_another[..], &GCF[..22], &[]] {
-        let (words, is_found) = told(rt.alloc(), octets)?;
-        assert!(rt; !is_found && words.as_str() == "not a confirm\n");
+    for (answer, octets) in [
+        ("another message", &ACF_1280[..]),
+        ("a confirm of another request", &of_another[..]),
+        ("a confirm that is cut short", &GCF[..22]),
+        ("no octets", &[]),
+    ] {
+        let is_told = is_told(rt.alloc(), octets, "not a confirm\n", false)?;
+        assert!(rt; is_told, "{answer}");
     }
     Ok(())
 }

@@ -1,5 +1,6 @@
 //! Replies: octets that were written by hand from the standards.
 
+use facts::{all_hold, ensure};
 use ras_codec::{LentConfirm, write_confirm, write_into, write_reserved};
 use ras_module::{
     Address, AdmissionRejectReason, Alias, AliasList, BandRejectReason, BmpString, Boxed, Delay,
@@ -51,8 +52,8 @@ fn is_written(alloc: Global, reply: Reply, expected: &[u8]) -> Result<bool, Allo
     }
 }
 
-#[test]
-fn replies_about_the_gatekeeper(rt: HostRuntime) -> Result<(), Fail> {
+/// The gatekeeper gk answers a discovery.
+fn gatekeeper_confirm(alloc: Global) -> Result<Reply, AllocError> {
     let confirm = GatekeeperConfirm {
         seq: seq(1),
         gatekeeper: Name::new(&[0x67, 0x6B]).unwrap(),
@@ -61,14 +62,25 @@ fn replies_about_the_gatekeeper(rt: HostRuntime) -> Result<(), Fail> {
             port: 1719,
         },
     };
-    let confirm = Reply::Gcf(Boxed::new(rt.alloc(), confirm)?);
-    assert!(rt; is_written(rt.alloc(), confirm, &GCF)?);
-    let reject = Reply::Grj {
+    Ok(Reply::Gcf(Boxed::new(alloc, confirm)?))
+}
+
+fn gatekeeper_reject() -> Reply {
+    Reply::Grj {
         seq: seq(1),
         reason: GatekeeperRejectReason::TerminalExcluded,
-    };
-    assert!(rt; is_written(rt.alloc(), reject, &GRJ)?);
-    Ok(())
+    }
+}
+
+#[test]
+fn replies_about_the_gatekeeper(rt: HostRuntime) -> Result<(), Fail> {
+    let alloc = rt.alloc();
+    let confirm = is_written(alloc, gatekeeper_confirm(alloc)?, &GCF)?;
+    let reject = is_written(alloc, gatekeeper_reject(), &GRJ)?;
+    all_hold(&[
+        (confirm, "a gatekeeper is confirmed"),
+        (reject, "a terminal is excluded"),
+    ])
 }
 
 fn confirm_of(alloc: Global, host: u8, last: u8) -> Result<RegistrationConfirm, Fail> {
@@ -86,95 +98,145 @@ fn registration_confirm(alloc: Global, host: u8, last: u8) -> Result<Reply, Fail
     Ok(Reply::Rcf(Boxed::new(alloc, confirm_of(alloc, host, last)?)?))
 }
 
-#[test]
-fn replies_about_a_registration(rt: HostRuntime) -> Result<(), Fail> {
-    let alloc = rt.alloc();
-    assert!(rt; is_written(alloc, registration_confirm(alloc, 5, b'1')?, &RCF_0001)?);
-    assert!(rt; is_written(alloc, registration_confirm(alloc, 6, b'2')?, &RCF_0002)?);
-    let full = Reply::Rrj {
-        seq: seq(2),
-        reason: RegistrationRejectReason::FullRegistrationRequired,
-    };
-    assert!(rt; is_written(alloc, full, &RRJ_FULL)?);
-    let duplicate = Reply::Rrj {
-        seq: seq(3),
-        reason: RegistrationRejectReason::DuplicateAlias(alias_list(alloc, b'1')?),
-    };
-    assert!(rt; is_written(alloc, duplicate, &RRJ_DUPLICATE)?);
-    let confirm = Reply::Ucf { seq: seq(6) };
-    assert!(rt; is_written(alloc, confirm, &UCF)?);
-    let reject = Reply::Urj {
+fn registration_reject(number: u16, reason: RegistrationRejectReason) -> Reply {
+    Reply::Rrj {
+        seq: seq(number),
+        reason,
+    }
+}
+
+/// Registrations are confirmed.
+fn compare_confirms(alloc: Global) -> Result<(), Fail> {
+    let first = is_written(alloc, registration_confirm(alloc, 5, b'1')?, &RCF_0001)?;
+    let second = is_written(alloc, registration_confirm(alloc, 6, b'2')?, &RCF_0002)?;
+    all_hold(&[
+        (first, "the endpoint 0001 is confirmed"),
+        (second, "the endpoint 0002 is confirmed"),
+    ])
+}
+
+/// Registrations are rejected.
+fn compare_rejects(alloc: Global) -> Result<(), Fail> {
+    let reason = RegistrationRejectReason::FullRegistrationRequired;
+    let full = is_written(alloc, registration_reject(2, reason), &RRJ_FULL)?;
+    let reason = RegistrationRejectReason::DuplicateAlias(alias_list(alloc, b'1')?);
+    let duplicate = is_written(alloc, registration_reject(3, reason), &RRJ_DUPLICATE)?;
+    all_hold(&[
+        (full, "a full registration is required"),
+        (duplicate, "an alias is another endpoint's"),
+    ])
+}
+
+fn unregistration_reject() -> Reply {
+    Reply::Urj {
         seq: seq(5),
         reason: UnregRejectReason::CallInProgress,
-    };
-    assert!(rt; is_written(alloc, reject, &URJ)?);
-    Ok(())
+    }
+}
+
+/// The ends of registrations are confirmed and rejected.
+fn compare_ends(alloc: Global) -> Result<(), Fail> {
+    let confirm = is_written(alloc, Reply::Ucf { seq: seq(6) }, &UCF)?;
+    let reject = is_written(alloc, unregistration_reject(), &URJ)?;
+    all_hold(&[
+        (confirm, "the end of a registration is confirmed"),
+        (reject, "an endpoint with a call stays registered"),
+    ])
+}
+
+#[test]
+fn replies_about_a_registration(rt: HostRuntime) -> Result<(), Fail> {
+    compare_confirms(rt.alloc())?;
+    compare_rejects(rt.alloc())?;
+    compare_ends(rt.alloc())
+}
+
+/// The admission of an endpoint to a call with 10.0.0.6.
+fn admission_confirm(number: u16, units: u32) -> Reply {
+    Reply::Acf {
+        seq: seq(number),
+        units,
+        dest: endpoint_address(6),
+    }
+}
+
+/// The octets of admissions, with their numbers and units.
+const ADMISSIONS: [(&[u8], u16, u32); 3] = [
+    (&ACF_1280, 3, 1280),
+    (&ACF_900, 4, 900),
+    (&ACF_1220, 7, 1220),
+];
+
+fn admission_reject() -> Reply {
+    Reply::Arj {
+        seq: seq(7),
+        reason: AdmissionRejectReason::RequestDenied,
+    }
 }
 
 #[test]
 fn replies_about_an_admission(rt: HostRuntime) -> Result<(), Fail> {
-    let alloc = rt.alloc();
-    let dest = endpoint_address(6);
-    let confirm = Reply::Acf {
-        seq: seq(3),
-        units: 1280,
-        dest,
-    };
-    assert!(rt; is_written(alloc, confirm, &ACF_1280)?);
-    let answered = Reply::Acf {
-        seq: seq(4),
-        units: 900,
-        dest,
-    };
-    assert!(rt; is_written(alloc, answered, &ACF_900)?);
-    let part = Reply::Acf {
+    for (octets, number, units) in ADMISSIONS {
+        let is_same = is_written(rt.alloc(), admission_confirm(number, units), octets)?;
+        assert!(rt; is_same, "{units} units");
+    }
+    let reject = is_written(rt.alloc(), admission_reject(), &ARJ)?;
+    ensure(reject, "an admission is denied")
+}
+
+fn bandwidth_confirm() -> Reply {
+    Reply::Bcf {
         seq: seq(7),
-        units: 1220,
-        dest,
-    };
-    assert!(rt; is_written(alloc, part, &ACF_1220)?);
-    let reject = Reply::Arj {
+        units: 2000,
+    }
+}
+
+fn bandwidth_reject() -> Reply {
+    Reply::Brj {
         seq: seq(7),
-        reason: AdmissionRejectReason::RequestDenied,
-    };
-    assert!(rt; is_written(alloc, reject, &ARJ)?);
-    Ok(())
+        reason: BandRejectReason::InsufficientResources,
+        allowed: 1280,
+    }
+}
+
+fn disengage_reject() -> Reply {
+    Reply::Drj {
+        seq: seq(10),
+        reason: DisengageRejectReason::RequestToDropOther,
+    }
 }
 
 #[test]
 fn replies_about_the_bandwidth_and_the_end_of_a_call(rt: HostRuntime) -> Result<(), Fail> {
     let alloc = rt.alloc();
-    let more = Reply::Bcf {
+    let more = is_written(alloc, bandwidth_confirm(), &BCF)?;
+    let no_more = is_written(alloc, bandwidth_reject(), &BRJ)?;
+    let end = is_written(alloc, Reply::Dcf { seq: seq(9) }, &DCF)?;
+    let other = is_written(alloc, disengage_reject(), &DRJ)?;
+    all_hold(&[
+        (more, "more bandwidth is confirmed"),
+        (no_more, "more bandwidth is rejected"),
+        (end, "the end of a call is confirmed"),
+        (other, "the end of another's call is rejected"),
+    ])
+}
+
+/// A request is delayed by half a second.
+fn delay() -> Reply {
+    Reply::Rip {
         seq: seq(7),
-        units: 2000,
-    };
-    assert!(rt; is_written(alloc, more, &BCF)?);
-    let no_more = Reply::Brj {
-        seq: seq(7),
-        reason: BandRejectReason::InsufficientResources,
-        allowed: 1280,
-    };
-    assert!(rt; is_written(alloc, no_more, &BRJ)?);
-    let end = Reply::Dcf { seq: seq(9) };
-    assert!(rt; is_written(alloc, end, &DCF)?);
-    let other = Reply::Drj {
-        seq: seq(10),
-        reason: DisengageRejectReason::RequestToDropOther,
-    };
-    assert!(rt; is_written(alloc, other, &DRJ)?);
-    Ok(())
+        delay: Delay::new(500).unwrap(),
+    }
 }
 
 #[test]
 fn an_info_request_and_a_delay(rt: HostRuntime) -> Result<(), Fail> {
-    let ask = Reply::Irq { seq: seq(1) };
-    assert!(rt; is_written(rt.alloc(), ask, &IRQ)?);
-    let wait = Reply::Rip {
-        seq: seq(7),
-        delay: Delay::new(500).unwrap(),
-    };
-    assert!(rt; is_written(rt.alloc(), wait, &RIP)?);
-    Ok(())
+    let ask = is_written(rt.alloc(), Reply::Irq { seq: seq(1) }, &IRQ)?;
+    let wait = is_written(rt.alloc(), delay(), &RIP)?;
+    all_hold(&[
+        (ask, "an endpoint is asked for its state"),
+        (wait, "a request is delayed"),
+    ])
 }
 
 /// A confirm with as many aliases as a reply may have, each of its texts and numbers at its

@@ -1,5 +1,6 @@
 //! Requests of endpoints: octets that were written by hand from the standards, with their values.
 
+use facts::{all_hold, ensure};
 use ras_codec::{ReadFault, read};
 use ras_module::{
     Address, AdmissionRequest, Alias, AliasList, BandwidthRequest, BmpString, Boxed, CallKey,
@@ -53,21 +54,25 @@ pub fn is_read(alloc: Global, octets: &[u8], expected: Request) -> Result<bool, 
     }
 }
 
+/// A discovery of this gatekeeper, or of any.
+fn discovery(alloc: Global, gatekeeper: Option<Name>) -> Result<Request, AllocError> {
+    let request = GatekeeperRequest {
+        seq: seq(1),
+        gatekeeper,
+    };
+    Ok(Request::Grq(Boxed::new(alloc, request)?))
+}
+
 #[test]
 fn gatekeeper_requests(rt: HostRuntime) -> Result<(), Fail> {
-    let any = GatekeeperRequest {
-        seq: seq(1),
-        gatekeeper: None,
-    };
-    let any = Request::Grq(Boxed::new(rt.alloc(), any)?);
-    assert!(rt; is_read(rt.alloc(), &GRQ, any)?);
-    let other = GatekeeperRequest {
-        seq: seq(1),
-        gatekeeper: Name::new(&[0x78, 0x78]),
-    };
-    let other = Request::Grq(Boxed::new(rt.alloc(), other)?);
-    assert!(rt; is_read(rt.alloc(), &GRQ_OF_XX, other)?);
-    Ok(())
+    let alloc = rt.alloc();
+    let any = is_read(alloc, &GRQ, discovery(alloc, None)?)?;
+    let named = discovery(alloc, Name::new(&[0x78, 0x78]))?;
+    let other = is_read(alloc, &GRQ_OF_XX, named)?;
+    all_hold(&[
+        (any, "any gatekeeper is asked for"),
+        (other, "the gatekeeper xx is asked for"),
+    ])
 }
 
 fn registration(alloc: Global, number: u16, host: u8, last: &[u8]) -> Result<Request, AllocError> {
@@ -84,13 +89,9 @@ fn registration(alloc: Global, number: u16, host: u8, last: &[u8]) -> Result<Req
     Ok(Request::Rrq(Boxed::new(alloc, request)?))
 }
 
-#[test]
-fn registration_requests(rt: HostRuntime) -> Result<(), Fail> {
-    let alloc = rt.alloc();
-    assert!(rt; is_read(alloc, &RRQ_101, registration(alloc, 2, 5, b"1")?)?);
-    assert!(rt; is_read(alloc, &RRQ_102, registration(alloc, 2, 6, b"2")?)?);
-    assert!(rt; is_read(alloc, &RRQ_109_101, registration(alloc, 3, 7, b"91")?)?);
-    let kept = RegistrationRequest {
+/// A registration that is to be kept alive.
+fn keep_alive(alloc: Global) -> Result<Request, AllocError> {
+    let request = RegistrationRequest {
         seq: seq(2),
         call_signal: Some(address(5, 1720)),
         ras: Some(address(5, 1719)),
@@ -100,92 +101,166 @@ fn registration_requests(rt: HostRuntime) -> Result<(), Fail> {
         keep_alive: true,
         endpoint: Some(endpoint(b'9')),
     };
-    let kept = Request::Rrq(Boxed::new(alloc, kept)?);
-    assert!(rt; is_read(alloc, &KEEP_ALIVE, kept)?);
-    Ok(())
+    Ok(Request::Rrq(Boxed::new(alloc, request)?))
 }
 
+/// Octets of registrations, with their number, the last octet of their address, and the last digit
+/// of each of their aliases.
+const REGISTRATIONS: [(&[u8], u16, u8, &[u8]); 3] = [
+    (&RRQ_101, 2, 5, b"1"),
+    (&RRQ_102, 2, 6, b"2"),
+    (&RRQ_109_101, 3, 7, b"91"),
+];
+
 #[test]
-fn unregistration_requests(rt: HostRuntime) -> Result<(), Fail> {
-    let expected = UnregistrationRequest {
+fn registration_requests(rt: HostRuntime) -> Result<(), Fail> {
+    let alloc = rt.alloc();
+    for (octets, number, host, last) in REGISTRATIONS {
+        let expected = registration(alloc, number, host, last)?;
+        let is_same = is_read(alloc, octets, expected)?;
+        assert!(rt; is_same, "the registration of 10.0.0.{host}");
+    }
+    let is_kept = is_read(alloc, &KEEP_ALIVE, keep_alive(alloc)?)?;
+    ensure(is_kept, "a registration is kept alive")
+}
+
+/// A registration that is to end.
+fn unregistration(alloc: Global) -> Result<Request, AllocError> {
+    let request = UnregistrationRequest {
         seq: seq(5),
         call_signal: Some(address(5, 1720)),
         endpoint: Some(endpoint(b'1')),
     };
-    let expected = Request::Urq(Boxed::new(rt.alloc(), expected)?);
-    assert!(rt; is_read(rt.alloc(), &URQ, expected)?);
-    Ok(())
+    Ok(Request::Urq(Boxed::new(alloc, request)?))
 }
 
 #[test]
+fn unregistration_requests(rt: HostRuntime) -> Result<(), Fail> {
+    let is_same = is_read(rt.alloc(), &URQ, unregistration(rt.alloc())?)?;
+    ensure(is_same, "the end of a registration is asked for")
+}
+
+/// A call with 102 to which an endpoint asks to be admitted.
+#[derive(Clone, Copy)]
+struct Admission {
+    number: u16,
+    /// The last digit of its identifier.
+    endpoint: u8,
+    units: u32,
+    /// The octet of which the call's identifier consists.
+    call: u8,
+    answer: bool,
+}
+
+impl Admission {
+    fn request(self, alloc: Global) -> Result<Request, AllocError> {
+        let request = AdmissionRequest {
+            seq: seq(self.number),
+            endpoint: endpoint(self.endpoint),
+            dest: aliases(alloc, b"2")?,
+            dest_address: None,
+            asked: self.units,
+            call: CallKey {
+                octets: [self.call; 16],
+            },
+            answer: self.answer,
+        };
+        Ok(Request::Arq(Boxed::new(alloc, request)?))
+    }
+}
+
+/// Octets of admissions, and what they ask for.
+const ADMISSIONS: [(&[u8], Admission); 3] = [
+    (
+        &ARQ,
+        Admission {
+            number: 3,
+            endpoint: b'1',
+            units: 1280,
+            call: 0x11,
+            answer: false,
+        },
+    ),
+    (
+        &ARQ_ANSWER,
+        Admission {
+            number: 4,
+            endpoint: b'2',
+            units: 900,
+            call: 0x11,
+            answer: true,
+        },
+    ),
+    (
+        &ARQ_OF_A_SECOND_CALL,
+        Admission {
+            number: 7,
+            endpoint: b'1',
+            units: 1280,
+            call: 0x22,
+            answer: false,
+        },
+    ),
+];
+
+#[test]
 fn admission_requests(rt: HostRuntime) -> Result<(), Fail> {
-    let alloc = rt.alloc();
-    let first = AdmissionRequest {
-        seq: seq(3),
-        endpoint: endpoint(b'1'),
-        dest: aliases(alloc, b"2")?,
-        dest_address: None,
-        asked: 1280,
-        call: CallKey { octets: [0x11; 16] },
-        answer: false,
-    };
-    let first = Request::Arq(Boxed::new(alloc, first)?);
-    assert!(rt; is_read(alloc, &ARQ, first)?);
-    let answer = AdmissionRequest {
-        seq: seq(4),
-        endpoint: endpoint(b'2'),
-        dest: aliases(alloc, b"2")?,
-        dest_address: None,
-        asked: 900,
-        call: CallKey { octets: [0x11; 16] },
-        answer: true,
-    };
-    let answer = Request::Arq(Boxed::new(alloc, answer)?);
-    assert!(rt; is_read(alloc, &ARQ_ANSWER, answer)?);
-    let second = AdmissionRequest {
+    for (octets, admission) in ADMISSIONS {
+        let expected = admission.request(rt.alloc())?;
+        let is_same = is_read(rt.alloc(), octets, expected)?;
+        assert!(rt; is_same, "the admission of number {}", admission.number);
+    }
+    Ok(())
+}
+
+/// The worked call.
+const CALL: CallKey = CallKey { octets: [0x11; 16] };
+
+/// A request for more bandwidth of the worked call.
+fn more_bandwidth(alloc: Global) -> Result<Request, AllocError> {
+    let request = BandwidthRequest {
         seq: seq(7),
         endpoint: endpoint(b'1'),
-        dest: aliases(alloc, b"2")?,
-        dest_address: None,
-        asked: 1280,
-        call: CallKey { octets: [0x22; 16] },
-        answer: false,
+        call: CALL,
+        asked: 2000,
     };
-    let second = Request::Arq(Boxed::new(alloc, second)?);
-    assert!(rt; is_read(alloc, &ARQ_OF_A_SECOND_CALL, second)?);
-    Ok(())
+    Ok(Request::Brq(Boxed::new(alloc, request)?))
+}
+
+/// A request to leave the worked call.
+fn end_of_call(alloc: Global) -> Result<Request, AllocError> {
+    let request = DisengageRequest {
+        seq: seq(9),
+        endpoint: endpoint(b'1'),
+        call: CALL,
+    };
+    Ok(Request::Drq(Boxed::new(alloc, request)?))
 }
 
 #[test]
 fn requests_about_a_call(rt: HostRuntime) -> Result<(), Fail> {
-    let call = CallKey { octets: [0x11; 16] };
-    let more = BandwidthRequest {
-        seq: seq(7),
+    let alloc = rt.alloc();
+    let more = is_read(alloc, &BRQ, more_bandwidth(alloc)?)?;
+    let end = is_read(alloc, &DRQ, end_of_call(alloc)?)?;
+    all_hold(&[
+        (more, "more bandwidth is asked for"),
+        (end, "the end of the call is asked for"),
+    ])
+}
+
+/// A sign of life.
+fn alive(alloc: Global) -> Result<Request, AllocError> {
+    let response = InfoRequestResponse {
+        seq: seq(1),
         endpoint: endpoint(b'1'),
-        call,
-        asked: 2000,
     };
-    let more = Request::Brq(Boxed::new(rt.alloc(), more)?);
-    assert!(rt; is_read(rt.alloc(), &BRQ, more)?);
-    let end = DisengageRequest {
-        seq: seq(9),
-        endpoint: endpoint(b'1'),
-        call,
-    };
-    let end = Request::Drq(Boxed::new(rt.alloc(), end)?);
-    assert!(rt; is_read(rt.alloc(), &DRQ, end)?);
-    Ok(())
+    Ok(Request::Irr(Boxed::new(alloc, response)?))
 }
 
 #[test]
 fn a_sign_of_life(rt: HostRuntime) -> Result<(), Fail> {
-    let alive = InfoRequestResponse {
-        seq: seq(1),
-        endpoint: endpoint(b'1'),
-    };
-    let alive = Request::Irr(Boxed::new(rt.alloc(), alive)?);
-    assert!(rt; is_read(rt.alloc(), &IRR, alive)?);
-    Ok(())
+    let is_alive = is_read(rt.alloc(), &IRR, alive(rt.alloc())?)?;
+    ensure(is_alive, "a sign of life is read")
 }
 
 /// The octets of `RRQ_101` with an alias of another kind before its own.
@@ -203,16 +278,16 @@ fn an_alias_of_another_kind_is_passed_over(rt: HostRuntime) -> Result<(), Fail> 
     Ok(())
 }
 
-#[test]
-fn a_call_identifier_of_zeros_is_none(rt: HostRuntime) -> Result<(), Fail> {
+/// The octets of `DRQ` with a call identifier of zeros.
+fn without_identifier() -> [u8; 50] {
     let mut octets = DRQ;
     octets[34..].copy_from_slice(&[0; 16]);
-    let end = DisengageRequest {
-        seq: seq(9),
-        endpoint: endpoint(b'1'),
-        call: CallKey { octets: [0x11; 16] },
-    };
-    let end = Request::Drq(Boxed::new(rt.alloc(), end)?);
-    assert!(rt; is_read(rt.alloc(), &octets, end)?);
-    Ok(())
+    octets
+}
+
+#[test]
+fn a_call_identifier_of_zeros_is_none(rt: HostRuntime) -> Result<(), Fail> {
+    let octets = without_identifier();
+    let is_same = is_read(rt.alloc(), &octets, end_of_call(rt.alloc())?)?;
+    ensure(is_same, "the call is that of the conference")
 }

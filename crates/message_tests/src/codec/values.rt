@@ -1,5 +1,6 @@
 //! The values of messages: copies, orders, and what is refused.
 
+use facts::{all_hold, ensure};
 use ras_module::{
     Address, AdmissionRequest, Alias, AliasList, BandRejectReason, BandwidthRequest, BmpString,
     Boxed, CallKey, Delay, DialledDigits, DisengageRequest, EndpointId, GatekeeperConfirm,
@@ -236,15 +237,35 @@ fn a_registration_confirm_equals_its_copy(rt: HostRuntime) -> Result<(), Fail> {
     Ok(())
 }
 
+/// A boxed confirm, its copy off the heap, and whether the two were equal.
+#[derive(Clone, Copy)]
+struct BoxedTwice {
+    value: GatekeeperConfirm,
+    copy: GatekeeperConfirm,
+    are_equal: bool,
+}
+
+/// Boxes a confirm, and copies it.
+fn box_twice(alloc: Global, confirm: GatekeeperConfirm) -> Result<BoxedTwice, AllocError> {
+    let boxed = Boxed::new(alloc, confirm)?;
+    let copy = boxed.copy()?;
+    let are_equal = copy == boxed;
+    Ok(BoxedTwice {
+        value: *boxed.get(),
+        copy: copy.into_inner(),
+        are_equal,
+    })
+}
+
 #[test]
 fn a_boxed_value_comes_and_goes(rt: HostRuntime) -> Result<(), Fail> {
     let confirm = gatekeeper_confirm();
-    let boxed = Boxed::new(rt.alloc(), confirm)?;
-    let copy = boxed.copy()?;
-    assert!(rt; copy == boxed);
-    assert!(rt; *boxed.get() == confirm);
-    assert!(rt; copy.into_inner() == confirm);
-    Ok(())
+    let boxed = box_twice(rt.alloc(), confirm)?;
+    all_hold(&[
+        (boxed.are_equal, "a boxed value equals its copy"),
+        (boxed.value == confirm, "it is the value that was boxed"),
+        (boxed.copy == confirm, "so is its copy, off the heap"),
+    ])
 }
 
 #[test]
@@ -254,13 +275,20 @@ fn a_33rd_alias_is_too_many(rt: HostRuntime) -> Result<(), Fail> {
     Ok(())
 }
 
+/// One alias, in memory for many.
+fn few_in_much_memory(alloc: Global, alias: Alias) -> Result<ReplyAliases, Fail> {
+    let mut items = Vec::with_capacity(alloc, 1350)?;
+    items.push(alias)?;
+    Ok(ReplyAliases::new(AliasList::from_vec(items))?.ok_or("one alias is few")?)
+}
+
 #[test]
 fn one_alias_of_a_list_with_memory_for_many_is_kept(rt: HostRuntime) -> Result<(), Fail> {
-    let mut items = Vec::with_capacity(rt.alloc(), 1350)?;
-    items.push(digits("101")?)?;
-    let few = ReplyAliases::new(AliasList::from_vec(items))?.ok_or("one alias is few")?;
-    assert!(rt; few.as_slice() == [digits("101")?].as_slice());
-    Ok(())
+    let few = few_in_much_memory(rt.alloc(), digits("101")?)?;
+    ensure(
+        few.as_slice() == [digits("101")?].as_slice(),
+        "the alias is kept",
+    )
 }
 
 #[test]
@@ -269,30 +297,51 @@ fn a_text_in_the_array_that_keeps_it(rt: HostRuntime) {
     assert!(rt; text.as_slice() == [103, 107].as_slice());
 }
 
+/// Whether a text may be dialled.
+fn is_dialled(text: &str) -> Result<bool, Fail> {
+    Ok(DialledDigits::new(name(text)?).is_some())
+}
+
 #[test]
 fn what_may_be_dialled(rt: HostRuntime) -> Result<(), Fail> {
-    assert!(rt; DialledDigits::new(name("0123456789#*,")?).is_some());
     for other in ["/", ":", "+", "-", "a", "."] {
-        assert!(rt; DialledDigits::new(name(other)?).is_none(), "{other}");
+        let is_dialled = is_dialled(other)?;
+        assert!(rt; !is_dialled, "{other}");
     }
-    Ok(())
+    ensure(
+        is_dialled("0123456789#*,")?,
+        "digits, hashes, asterisks and commas may be dialled",
+    )
+}
+
+/// Whether the identifier that is written first stands before the other one.
+fn is_before(first: &str, second: &str) -> Result<bool, Fail> {
+    Ok(EndpointId::new(name(first)?) < EndpointId::new(name(second)?))
 }
 
 #[test]
 fn identifiers_are_ordered_by_their_characters(rt: HostRuntime) -> Result<(), Fail> {
-    let first = EndpointId::new(name("0009")?);
-    let second = EndpointId::new(name("001")?);
-    let third = EndpointId::new(name("0010")?);
-    assert!(rt; first < second);
-    assert!(rt; second < third);
+    assert!(rt; is_before("0009", "001")?);
+    assert!(rt; is_before("001", "0010")?);
     Ok(())
+}
+
+/// Whether a copy of octets equals them, and the octets of the copy.
+fn copied(alloc: Global, octets: &[u8]) -> Result<(bool, Vec<u8>), AllocError> {
+    let octets = Octets::from_vec(octets.to_vec(alloc)?);
+    let copy = octets.copy()?;
+    let are_equal = copy == octets;
+    Ok((are_equal, copy.into_vec()))
 }
 
 #[test]
 fn octets_come_and_go_as_vectors(rt: HostRuntime) -> Result<(), Fail> {
-    let octets = Octets::from_vec([1, 2, 3].to_vec(rt.alloc())?);
-    let copy = octets.copy()?;
-    assert!(rt; copy == octets);
-    assert!(rt; copy.into_vec().as_slice() == [1, 2, 3].as_slice());
-    Ok(())
+    let (are_equal, octets) = copied(rt.alloc(), &[1, 2, 3])?;
+    all_hold(&[
+        (are_equal, "octets equal their copy"),
+        (
+            octets.as_slice() == [1, 2, 3].as_slice(),
+            "the copy is of the same octets",
+        ),
+    ])
 }
