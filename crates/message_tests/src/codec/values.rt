@@ -55,80 +55,96 @@ fn aliases(alloc: Global, alias: &Alias, count: usize) -> Result<AliasList, Allo
     Ok(list)
 }
 
-/// Discovery, and a registration that comes and goes, with these aliases.
-fn requests_of_the_zone(
-    alloc: Global,
-    aliases: AliasList,
-) -> Result<(Request, Request, Request), AllocError> {
-    let discovery = GatekeeperRequest {
+fn discovery(alloc: Global) -> Result<Request, AllocError> {
+    let request = GatekeeperRequest {
         seq: seq(),
         gatekeeper: Some(gatekeeper()),
     };
-    let coming = RegistrationRequest {
+    Ok(Request::Grq(Boxed::new(alloc, request)?))
+}
+
+/// A registration that has an alias twice.
+fn registration(alloc: Global, alias: &Alias) -> Result<Request, AllocError> {
+    let request = RegistrationRequest {
         seq: seq(),
         call_signal: Some(ADDRESS),
         ras: None,
-        aliases,
+        aliases: aliases(alloc, alias, 2)?,
         gatekeeper: None,
         time_to_live: TimeToLive::new(60),
         keep_alive: true,
         endpoint: Some(endpoint()),
     };
-    let going = UnregistrationRequest {
+    Ok(Request::Rrq(Boxed::new(alloc, request)?))
+}
+
+fn unregistration(alloc: Global) -> Result<Request, AllocError> {
+    let request = UnregistrationRequest {
         seq: seq(),
         call_signal: None,
         endpoint: Some(endpoint()),
     };
-    Ok((
-        Request::Grq(Boxed::new(alloc, discovery)?),
-        Request::Rrq(Boxed::new(alloc, coming)?),
-        Request::Urq(Boxed::new(alloc, going)?),
-    ))
+    Ok(Request::Urq(Boxed::new(alloc, request)?))
 }
 
-/// A call to this destination, from its admission to its end, and a sign of life.
-fn requests_of_a_call(
-    alloc: Global,
-    dest: AliasList,
-) -> Result<(Request, Request, Request, Request), AllocError> {
-    let seq = seq();
-    let endpoint = endpoint();
-    let admission = AdmissionRequest {
-        seq,
-        endpoint,
-        dest,
+/// The admission of a call to an alias.
+fn admission(alloc: Global, alias: &Alias) -> Result<Request, AllocError> {
+    let request = AdmissionRequest {
+        seq: seq(),
+        endpoint: endpoint(),
+        dest: aliases(alloc, alias, 1)?,
         dest_address: Some(ADDRESS),
         asked: 1280,
         call: CALL,
         answer: true,
     };
-    let more = BandwidthRequest {
-        seq,
-        endpoint,
+    Ok(Request::Arq(Boxed::new(alloc, request)?))
+}
+
+fn more_bandwidth(alloc: Global) -> Result<Request, AllocError> {
+    let request = BandwidthRequest {
+        seq: seq(),
+        endpoint: endpoint(),
         call: CALL,
         asked: 2000,
     };
-    let end = DisengageRequest {
-        seq,
-        endpoint,
-        call: CALL,
-    };
-    let alive = InfoRequestResponse { seq, endpoint };
-    Ok((
-        Request::Arq(Boxed::new(alloc, admission)?),
-        Request::Brq(Boxed::new(alloc, more)?),
-        Request::Drq(Boxed::new(alloc, end)?),
-        Request::Irr(Boxed::new(alloc, alive)?),
-    ))
+    Ok(Request::Brq(Boxed::new(alloc, request)?))
 }
 
-fn requests(alloc: Global) -> Result<[Request; 7], Fail> {
+fn end_of_call(alloc: Global) -> Result<Request, AllocError> {
+    let request = DisengageRequest {
+        seq: seq(),
+        endpoint: endpoint(),
+        call: CALL,
+    };
+    Ok(Request::Drq(Boxed::new(alloc, request)?))
+}
+
+fn sign_of_life(alloc: Global) -> Result<Request, AllocError> {
+    let response = InfoRequestResponse {
+        seq: seq(),
+        endpoint: endpoint(),
+    };
+    Ok(Request::Irr(Boxed::new(alloc, response)?))
+}
+
+/// A request of each kind.
+fn requests(alloc: Global) -> Result<Vec<Request>, Fail> {
     let alias = digits("101")?;
-    let two = aliases(alloc, &alias, 2)?;
-    let one = aliases(alloc, &alias, 1)?;
-    let (grq, rrq, urq) = requests_of_the_zone(alloc, two)?;
-    let (arq, brq, drq, irr) = requests_of_a_call(alloc, one)?;
-    Ok([grq, rrq, urq, arq, brq, drq, irr])
+    let mut all = Vec::new(alloc);
+    push_requests(alloc, &mut all, &alias)?;
+    Ok(all)
+}
+
+fn push_requests(alloc: Global, all: &mut Vec<Request>, alias: &Alias) -> Result<(), AllocError> {
+    all.push(discovery(alloc)?)?;
+    all.push(registration(alloc, alias)?)?;
+    all.push(unregistration(alloc)?)?;
+    all.push(admission(alloc, alias)?)?;
+    all.push(more_bandwidth(alloc)?)?;
+    all.push(end_of_call(alloc)?)?;
+    all.push(sign_of_life(alloc)?)?;
+    Ok(())
 }
 
 /// Compares the copy of each request with the request, which it equals, and with all others.
