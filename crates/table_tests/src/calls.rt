@@ -1,6 +1,6 @@
 //! Calls, their legs, and the bandwidth that they use.
 
-use crate::fixtures::{address, endpoint};
+use crate::fixtures::{all_hold_of, endpoint, leg, open};
 use admission::{Call, CallFault, CallList, Calls, Left, Leg, Legs};
 use facts::{all_hold, ensure};
 use ras_module::CallKey;
@@ -26,27 +26,6 @@ const MANY: u8 = 20;
 
 const FEW_UNITS: u32 = 10;
 
-fn leg(last: u8) -> Leg {
-    Leg {
-        endpoint: endpoint(last),
-        told: address(last),
-    }
-}
-
-/// Opens a call; None if one has its key.
-fn open(
-    calls: &mut Calls,
-    key: CallKey,
-    pool: usize,
-    units: u32,
-    leg: Leg,
-) -> Option<Result<(), CallFault>> {
-    if calls.get(&key).is_some() {
-        return None;
-    }
-    Some(calls.open(key, pool, units, leg))
-}
-
 /// Joins a call; None if the endpoint has a leg there.
 fn join(calls: &mut Calls, key: CallKey, leg: Leg) -> Option<Result<(), CallFault>> {
     if calls.leg(&key, &leg.endpoint).is_some() {
@@ -55,116 +34,169 @@ fn join(calls: &mut Calls, key: CallKey, leg: Leg) -> Option<Result<(), CallFaul
     Some(calls.join(key, leg))
 }
 
-/// What `open` and `join` return if a call was opened or joined.
-const DONE: Option<Result<(), CallFault>> = Some(Ok(()));
-
-const fn refused(fault: CallFault) -> Option<Result<(), CallFault>> {
-    Some(Err(fault))
-}
-
 const fn key(octet: u8) -> CallKey {
     CallKey {
         octets: [octet; 16],
     }
 }
 
-/// Makes a call of two endpoints, with key 1 and pool 2.
-fn admit_two(calls: &mut Calls) -> Result<(), Fail> {
-    calls.reserve(1)?;
-    let is_open = open(calls, key(1), 2, UNITS, leg(FIRST)) == DONE;
-    let has_joined = join(calls, key(1), leg(SECOND)) == DONE;
-    all_hold(&[
-        (is_open, "the call is opened"),
-        (has_joined, "the second endpoint joins it"),
-        (calls.len() == 1, "there is one call"),
-        (calls.total() == u64::from(UNITS), "its units are in use"),
-    ])
+/// What is done with the call of that octet.
+#[derive(Clone, Copy)]
+enum Deed {
+    /// It is opened with a pool and units, by an endpoint.
+    Open(u8, usize, u32, u8),
+    /// An endpoint joins it.
+    Join(u8, u8),
+    /// It gets these units.
+    SetUnits(u8, u32),
+    /// An endpoint leaves it.
+    Leave(u8, u8),
 }
 
-/// Gives the call half of its units.
-fn halve(calls: &mut Calls) -> Result<(), Fail> {
-    let is_there = calls.set_units(&key(1), HALF).is_ok();
-    all_hold(&[
-        (is_there, "the call is there"),
-        (
-            calls.total() == u64::from(HALF),
-            "half of its units are in use",
-        ),
-    ])
+/// What is answered to it.
+type Answer = Result<Left, CallFault>;
+
+/// It is done, and no call ends.
+const GOES_ON: Answer = Ok(Left { ended: None });
+
+/// A deed by its name, its answer, and then how many calls are open, and how many units in use.
+type Row = (&'static str, Deed, Answer, usize, u32);
+
+/// Does a deed; None if the call is open already, or the endpoint takes part already.
+fn answer_of(calls: &mut Calls, deed: Deed) -> Option<Answer> {
+    let done = match deed {
+        Deed::Open(octet, pool, units, last) => open(
+            calls,
+            key(octet),
+            pool,
+            units,
+            leg(last, last),
+        )?,
+        Deed::Join(octet, last) => join(calls, key(octet), leg(last, last))?,
+        Deed::SetUnits(octet, units) => calls.set_units(&key(octet), units),
+        Deed::Leave(octet, last) => return Some(calls.leave(&key(octet), &endpoint(last))),
+    };
+    match done {
+        Ok(()) => Some(GOES_ON),
+        Err(fault) => Some(Err(fault)),
+    }
 }
 
-/// Lets the first endpoint leave the call, which goes on.
-fn leave_first(calls: &mut Calls) -> Result<(), Fail> {
-    let left = calls.leave(&key(1), &endpoint(FIRST));
-    let again = calls.leave(&key(1), &endpoint(FIRST));
-    all_hold(&[
-        (
-            left == Ok(Left { ended: None }),
-            "the first endpoint leaves",
-        ),
-        (again == Err(CallFault::NoLeg), "it leaves once"),
-        (calls.total() == u64::from(HALF), "the call goes on"),
-    ])
+/// Does a deed, which is answered so.
+fn try_row(calls: &mut Calls, row: &Row) -> Result<(), Fail> {
+    let (name, deed, answer, len, units) = *row;
+    let found = answer_of(calls, deed);
+    all_hold_of(
+        name,
+        &[
+            (found == Some(answer), "it is answered so"),
+            (calls.len() == len, "so many calls are open then"),
+            (
+                calls.total() == u64::from(units),
+                "so many units are in use then",
+            ),
+        ],
+    )
 }
 
-/// Lets the second endpoint leave the call, which ends with it.
-fn leave_second(calls: &mut Calls) -> Result<(), Fail> {
-    let ended = Some((2, HALF));
-    let left = calls.leave(&key(1), &endpoint(SECOND));
-    let again = calls.leave(&key(1), &endpoint(SECOND));
-    all_hold(&[
-        (
-            left == Ok(Left { ended }),
-            "the call ends as the second endpoint leaves",
-        ),
-        (again == Err(CallFault::NoCall), "it ends once"),
-    ])
+/// Does these deeds, one after the other.
+fn try_rows(calls: &mut Calls, rows: &[Row]) -> Result<(), Fail> {
+    for row in rows {
+        try_row(calls, row)?;
+    }
+    Ok(())
 }
 
-/// Lets a call live: it is made, gets other units, and is left by one endpoint after the other.
+/// A call of pool 2 is opened and joined, gets other units, and is left by both endpoints.
+const LIVES: [Row; 7] = [
+    ("a call", Deed::Open(1, 2, UNITS, FIRST), GOES_ON, 1, UNITS),
+    (
+        "a second endpoint",
+        Deed::Join(1, SECOND),
+        GOES_ON,
+        1,
+        UNITS,
+    ),
+    (
+        "half of its units",
+        Deed::SetUnits(1, HALF),
+        GOES_ON,
+        1,
+        HALF,
+    ),
+    (
+        "the first one leaves",
+        Deed::Leave(1, FIRST),
+        GOES_ON,
+        1,
+        HALF,
+    ),
+    (
+        "it leaves once",
+        Deed::Leave(1, FIRST),
+        Err(CallFault::NoLeg),
+        1,
+        HALF,
+    ),
+    (
+        "the second one leaves",
+        Deed::Leave(1, SECOND),
+        Ok(Left {
+            ended: Some((2, HALF)),
+        }),
+        0,
+        0,
+    ),
+    (
+        "the call ends once",
+        Deed::Leave(1, SECOND),
+        Err(CallFault::NoCall),
+        0,
+        0,
+    ),
+];
+
+/// Lets a call live, for which there is room.
 fn live(calls: &mut Calls) -> Result<(), Fail> {
-    admit_two(calls)?;
-    halve(calls)?;
-    leave_first(calls)?;
-    leave_second(calls)?;
-    all_hold(&[
-        (calls.total() == 0, "nothing is in use"),
-        (calls.len() == 0, "there is no call"),
-    ])
+    calls.reserve(1)?;
+    try_rows(calls, &LIVES)
 }
 
 #[test]
 fn a_call_from_admission_to_disengage(rt: HostRuntime) -> Result<(), Fail> {
-    let mut calls = Calls::new(rt.alloc(), 10);
-    let ended = live(&mut calls);
-    drop(calls);
-    ended
+    live(&mut Calls::new(rt.alloc(), 10))
 }
 
-/// Lets two endpoints, and no third one, take part in a call.
-fn join_two(calls: &mut Calls) -> Result<(), Fail> {
-    let is_open = open(calls, key(1), 0, UNITS, leg(FIRST)) == DONE;
-    let nowhere = join(calls, key(2), leg(SECOND));
-    let second = join(calls, key(1), leg(SECOND));
-    let third = join(calls, key(1), leg(THIRD));
-    all_hold(&[
-        (is_open, "the call is opened"),
-        (
-            nowhere == refused(CallFault::NoCall),
-            "no call is joined that isn't there",
-        ),
-        (second == DONE, "the second endpoint joins it"),
-        (
-            third == refused(CallFault::TwoLegs),
-            "no third endpoint joins it",
-        ),
-    ])
-}
+/// Two endpoints, and no third one, take part in a call, and none in one that isn't there.
+const JOINED: [Row; 4] = [
+    ("a call", Deed::Open(1, 0, UNITS, FIRST), GOES_ON, 1, UNITS),
+    (
+        "no call",
+        Deed::Join(2, SECOND),
+        Err(CallFault::NoCall),
+        1,
+        UNITS,
+    ),
+    (
+        "a second endpoint",
+        Deed::Join(1, SECOND),
+        GOES_ON,
+        1,
+        UNITS,
+    ),
+    (
+        "a third endpoint",
+        Deed::Join(1, THIRD),
+        Err(CallFault::TwoLegs),
+        1,
+        UNITS,
+    ),
+];
 
 /// Compares a call with that of the two endpoints.
 fn compare_call_of_two(call: &Call) -> Result<(), Fail> {
     let legs = call.copy().legs;
-    let both = [leg(FIRST), leg(SECOND)];
+    let both = [leg(FIRST, FIRST), leg(SECOND, SECOND)];
     all_hold(&[
         (call.units == UNITS, "it has its units"),
         (call.legs.are_two(), "it has two legs"),
@@ -179,32 +211,35 @@ fn compare_call_of_two(call: &Call) -> Result<(), Fail> {
     ])
 }
 
-/// Finds the second endpoint's leg, and no leg of the third.
-fn find_legs(calls: &Calls) -> Result<(), Fail> {
-    let told = match calls.leg(&key(1), &endpoint(SECOND)) {
+/// The address that an endpoint of the call was told, if it has a leg there.
+fn told(calls: &Calls, last: u8) -> Option<[u8; 4]> {
+    match calls.leg(&key(1), &endpoint(last)) {
         Some(leg) => Some(leg.told.ip),
         None => None,
-    };
-    let third = calls.leg(&key(1), &endpoint(THIRD));
-    let call = calls.call_of(&endpoint(SECOND));
+    }
+}
+
+/// Finds the second endpoint's leg, and no leg of the third.
+fn find_legs(calls: &Calls) -> Result<(), Fail> {
+    let second = calls.call_of(&endpoint(SECOND));
+    let third = calls.call_of(&endpoint(THIRD));
     all_hold(&[
-        (told.is_some(), "the second endpoint has a leg"),
         (
-            told == Some([10, 0, 0, SECOND]),
-            "the second one was told so",
+            told(calls, SECOND) == Some([10, 0, 0, SECOND]),
+            "the second endpoint has a leg, and was told so",
         ),
-        (third.is_none(), "the third endpoint has no leg"),
-        (call == Some(key(1)), "the second endpoint is in the call"),
         (
-            calls.call_of(&endpoint(THIRD)).is_none(),
-            "the third endpoint is in no call",
+            told(calls, THIRD).is_none(),
+            "the third endpoint has no leg",
         ),
+        (second == Some(key(1)), "the second endpoint is in the call"),
+        (third.is_none(), "the third endpoint is in no call"),
     ])
 }
 
 /// Lets two endpoints take part in a call, which is found with their legs.
 fn call_of_two(calls: &mut Calls) -> Result<(), Fail> {
-    join_two(calls)?;
+    try_rows(calls, &JOINED)?;
     match calls.get(&key(1)) {
         Some(call) => compare_call_of_two(call)?,
         None => return Err(Fail::from("the call is found")),
@@ -214,44 +249,49 @@ fn call_of_two(calls: &mut Calls) -> Result<(), Fail> {
 
 #[test]
 fn two_endpoints_take_part_at_most(rt: HostRuntime) -> Result<(), Fail> {
-    let mut calls = Calls::new(rt.alloc(), 10);
-    let ended = call_of_two(&mut calls);
-    drop(calls);
-    ended
+    call_of_two(&mut Calls::new(rt.alloc(), 10))
 }
 
-/// Fills a table of two with a call of each of two pools.
-fn fill(calls: &mut Calls) -> Result<(), Fail> {
-    let first = open(calls, key(1), 0, UNITS, leg(FIRST));
-    let second = open(calls, key(2), 1, REST, leg(FIRST));
-    let third = open(calls, key(3), 1, 1, leg(FIRST));
-    let units = calls.set_units(&key(3), 1);
-    all_hold(&[
-        (first == DONE, "the first call is opened"),
-        (second == DONE, "the second call is opened"),
-        (
-            third == refused(CallFault::Full),
-            "there is no place for a third call",
-        ),
-        (
-            units == Err(CallFault::NoCall),
-            "what isn't there gets no units",
-        ),
-    ])
-}
+/// A table of two is filled with a call of each of two pools.
+const FILLED: [Row; 4] = [
+    (
+        "a first call",
+        Deed::Open(1, 0, UNITS, FIRST),
+        GOES_ON,
+        1,
+        UNITS,
+    ),
+    (
+        "a second call",
+        Deed::Open(2, 1, REST, FIRST),
+        GOES_ON,
+        2,
+        UNITS + REST,
+    ),
+    (
+        "no place",
+        Deed::Open(3, 1, 1, FIRST),
+        Err(CallFault::Full),
+        2,
+        UNITS + REST,
+    ),
+    (
+        "no call",
+        Deed::SetUnits(3, 1),
+        Err(CallFault::NoCall),
+        2,
+        UNITS + REST,
+    ),
+];
 
 /// Fills the table, in which each pool has its part of the sum then, and the first endpoint all
 /// legs.
 fn fill_and_sum(calls: &mut Calls) -> Result<(), Fail> {
-    fill(calls)?;
+    try_rows(calls, &FILLED)?;
     all_hold(&[
         (
-            calls.total() == u64::from(UNITS + REST),
-            "the units of both are in use",
-        ),
-        (
             calls.total_of(0) == u64::from(UNITS),
-            "the first call's are of the first pool",
+            "the first call's units are of the first pool",
         ),
         (
             calls.total_of(1) == u64::from(REST),
@@ -271,127 +311,128 @@ fn fill_and_sum(calls: &mut Calls) -> Result<(), Fail> {
 
 #[test]
 fn each_pool_has_its_part_of_the_sum(rt: HostRuntime) -> Result<(), Fail> {
-    let mut calls = Calls::new(rt.alloc(), 2);
-    let ended = fill_and_sum(&mut calls);
-    drop(calls);
-    ended
+    fill_and_sum(&mut Calls::new(rt.alloc(), 2))
 }
 
-/// Opens a call with each of these keys.
-fn open_all(calls: &mut Calls, octets: &[u8]) -> Result<(), Fail> {
-    for octet in octets {
-        let opened = open(calls, key(*octet), 0, u32::from(*octet), leg(FIRST));
-        ensure(opened == DONE, "each call is opened")?;
+/// Calls are opened in any order of their keys, each with as many units as its key's octets say.
+const IN_ANY_ORDER: [Row; 5] = [
+    ("7", Deed::Open(7, 0, 7, FIRST), GOES_ON, 1, 7),
+    ("3", Deed::Open(3, 0, 3, FIRST), GOES_ON, 2, 10),
+    ("200", Deed::Open(200, 0, 200, FIRST), GOES_ON, 3, 210),
+    ("1", Deed::Open(1, 0, 1, FIRST), GOES_ON, 4, 211),
+    ("9", Deed::Open(9, 0, 9, FIRST), GOES_ON, 5, 220),
+];
+
+/// Whether these are calls of these keys, in this order, each with as many units as its key's octets
+/// say.
+fn are_calls(calls: &[(CallKey, Call)], octets: &[u8]) -> bool {
+    for ((found, call), octet) in calls.iter().zip(octets) {
+        if *found != key(*octet) || call.units != u32::from(*octet) {
+            return false;
+        }
     }
-    Ok(())
-}
-
-/// Compares calls with those of these keys, each with as many units as its key's octets say.
-fn compare_calls(calls: &[(CallKey, Call)], octets: &[u8]) -> Result<(), Fail> {
-    for (entry, octet) in calls.iter().zip(octets) {
-        all_hold(&[
-            (entry.0 == key(*octet), "the keys rise"),
-            (
-                entry.1.units == u32::from(*octet),
-                "each call has its units",
-            ),
-        ])?;
-    }
-    ensure(calls.len() == octets.len(), "each call comes once")
-}
-
-/// Lists the calls, which have to have these keys, in this order.
-fn list_all(calls: &Calls, octets: &[u8]) -> Result<(), Fail> {
-    let list = CallList::from_vec(calls.list()?.into_vec());
-    compare_calls(list.as_slice(), octets)
+    calls.len() == octets.len()
 }
 
 /// Opens calls in any order, and lists them.
 fn open_and_list(calls: &mut Calls) -> Result<(), Fail> {
-    open_all(calls, &[7, 3, 200, 1, 9])?;
-    list_all(calls, &[1, 3, 7, 9, 200])
+    try_rows(calls, &IN_ANY_ORDER)?;
+    let list = CallList::from_vec(calls.list()?.into_vec());
+    ensure(
+        are_calls(list.as_slice(), &[1, 3, 7, 9, 200]),
+        "each call comes once, with its units, and the keys rise",
+    )
 }
 
 #[test]
 fn a_list_is_by_rising_key(rt: HostRuntime) -> Result<(), Fail> {
-    let mut calls = Calls::new(rt.alloc(), 20_000);
-    let ended = open_and_list(&mut calls);
-    drop(calls);
-    ended
+    open_and_list(&mut Calls::new(rt.alloc(), 20_000))
 }
 
 fn call(pool: usize, units: u32, last: u8) -> Call {
     Call {
         pool,
         units,
-        legs: Legs::one(leg(last)),
+        legs: Legs::one(leg(last, last)),
     }
 }
 
 #[test]
-fn calls_are_equal_by_all_that_they_have(rt: HostRuntime) -> Result<(), Fail> {
+fn calls_are_equal_by_all_that_they_have() -> Result<(), Fail> {
     let one = call(1, UNITS, FIRST);
-    assert!(rt; one == one.copy());
-    assert!(rt; one != call(2, UNITS, FIRST));
-    assert!(rt; one != call(1, UNITS + 1, FIRST));
-    assert!(rt; one != call(1, UNITS, SECOND));
-    Ok(())
+    all_hold(&[
+        (one == one.copy(), "a call equals its copy"),
+        (
+            one != call(2, UNITS, FIRST),
+            "it equals none of another pool",
+        ),
+        (
+            one != call(1, UNITS + 1, FIRST),
+            "it equals none of other units",
+        ),
+        (
+            one != call(1, UNITS, SECOND),
+            "it equals none with another endpoint's leg",
+        ),
+    ])
 }
 
 #[test]
-fn legs_are_equal_by_endpoint_and_address(rt: HostRuntime) -> Result<(), Fail> {
-    let told_otherwise = Leg {
-        told: leg(SECOND).told,
-        ..leg(FIRST)
-    };
-    assert!(rt; Legs::one(leg(FIRST)) == Legs::one(leg(FIRST)));
-    assert!(rt; Legs::one(leg(FIRST)) != Legs::one(told_otherwise));
-    Ok(())
+fn legs_are_equal_by_endpoint_and_address() -> Result<(), Fail> {
+    let one = Legs::one(leg(FIRST, FIRST));
+    all_hold(&[
+        (
+            one == Legs::one(leg(FIRST, FIRST)),
+            "legs of one endpoint at one address are equal",
+        ),
+        (
+            one != Legs::one(leg(FIRST, SECOND)),
+            "those at another address are others",
+        ),
+    ])
 }
+
+/// A call of pool 1 is opened.
+const ONE_CALL: [Row; 1] = [("a call", Deed::Open(1, 1, UNITS, FIRST), GOES_ON, 1, UNITS)];
 
 /// Opens a call, whose list equals itself read again, and no list of no call.
 fn compare_lists(calls: &mut Calls, none: &CallList) -> Result<(), Fail> {
-    let opened = open(calls, key(1), 1, UNITS, leg(FIRST));
-    ensure(opened == DONE, "the call is opened")?;
+    try_rows(calls, &ONE_CALL)?;
     let one = calls.list()?;
     let again = calls.list()?;
-    let is_same = one == again;
-    let is_other = one != *none;
-    drop(again);
-    drop(one);
     all_hold(&[
-        (is_same, "a list equals itself read again"),
-        (is_other, "it equals no list of no call"),
+        (one == again, "a list equals itself read again"),
+        (one != *none, "it equals no list of no call"),
     ])
 }
 
 #[test]
 fn lists_are_equal_by_their_calls(rt: HostRuntime) -> Result<(), Fail> {
     let none = CallList::from_vec(Vec::new(rt.alloc()));
-    let mut calls = Calls::new(rt.alloc(), 10);
-    let ended = compare_lists(&mut calls, &none);
-    drop(calls);
-    drop(none);
-    ended
+    compare_lists(&mut Calls::new(rt.alloc(), 10), &none)
 }
 
 /// Opens a call at last: if a request for memory is refused, nothing has changed, and the same call
 /// is opened with memory.
-fn open_at_last(calls: &mut Calls, key: CallKey) -> Result<(), Fail> {
+fn open_at_last(calls: &mut Calls, octet: u8) -> Result<(), Fail> {
+    let deed = Deed::Open(octet, 0, FEW_UNITS, FIRST);
     let before = calls.len();
-    let answer = open(calls, key, 0, FEW_UNITS, leg(FIRST));
-    if answer == DONE {
+    let answer = answer_of(calls, deed);
+    if answer == Some(GOES_ON) {
         return Ok(());
     }
     all_hold(&[
         (
-            answer == refused(CallFault::Memory),
+            answer == Some(Err(CallFault::Memory)),
             "memory alone is wanting",
         ),
         (calls.len() == before, "a refused call changes nothing"),
     ])?;
-    let again = open(calls, key, 0, FEW_UNITS, leg(FIRST));
-    ensure(again == DONE, "the same call is opened with memory")
+    let again = answer_of(calls, deed);
+    ensure(
+        again == Some(GOES_ON),
+        "the same call is opened with memory",
+    )
 }
 
 /// Makes room for further calls at last.
@@ -418,7 +459,7 @@ fn listed_at_last(calls: &Calls) -> Result<usize, AllocError> {
 /// Opens calls, makes room and lists the calls, each at last.
 fn fill_at_last(calls: &mut Calls) -> Result<(), Fail> {
     for octet in 0..MANY {
-        open_at_last(calls, key(octet))?;
+        open_at_last(calls, octet)?;
     }
     reserve_at_last(calls)?;
     let listed = listed_at_last(calls)?;
@@ -431,8 +472,5 @@ fn fill_at_last(calls: &mut Calls) -> Result<(), Fail> {
 
 #[test]
 fn a_refusal_of_memory_changes_nothing(rt: HostRuntime) -> Result<(), Fail> {
-    let mut calls = Calls::new(rt.alloc(), 100);
-    let ended = fill_at_last(&mut calls);
-    drop(calls);
-    ended
+    fill_at_last(&mut Calls::new(rt.alloc(), 100))
 }

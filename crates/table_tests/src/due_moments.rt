@@ -110,14 +110,13 @@ fn change_often(deadlines: &mut Deadlines, plain: &mut [Option<u64>]) -> Result<
 /// Compares a copy with the plain list.
 fn compare_copy(deadlines: &Deadlines, plain: &[Option<u64>]) -> Result<(), Fail> {
     let copy = deadlines.copy()?;
-    let has_room = copy.room() == PLACES;
-    let are_same = are_same(&copy, plain);
-    let is_first = is_first(&copy, plain);
-    drop(copy);
     all_hold(&[
-        (has_room, "the copy has room for the same places"),
-        (are_same, "the copy has the same moments"),
-        (is_first, "the copy has the same first moment"),
+        (
+            copy.room() == PLACES,
+            "the copy has room for the same places",
+        ),
+        (are_same(&copy, plain), "the copy has the same moments"),
+        (is_first(&copy, plain), "the copy has the same first moment"),
     ])
 }
 
@@ -136,10 +135,7 @@ fn agree(deadlines: &mut Deadlines) -> Result<(), Fail> {
 
 #[test]
 fn agrees_with_a_plain_list(rt: HostRuntime) -> Result<(), Fail> {
-    let mut deadlines = Deadlines::new(rt.alloc());
-    let ended = agree(&mut deadlines);
-    drop(deadlines);
-    ended
+    agree(&mut Deadlines::new(rt.alloc()))
 }
 
 /// Gives each of 1,000 places a moment, if there is room for it.
@@ -182,8 +178,5 @@ fn set_and_clear(deadlines: &mut Deadlines) -> Result<(), Fail> {
 
 #[test]
 fn takes_what_is_due_in_order(rt: HostRuntime) -> Result<(), Fail> {
-    let mut deadlines = Deadlines::new(rt.alloc());
-    let ended = set_and_clear(&mut deadlines);
-    drop(deadlines);
-    ended
+    set_and_clear(&mut Deadlines::new(rt.alloc()))
 }

@@ -1,89 +1,103 @@
 //! The registrations of endpoints.
 
-use crate::fixtures::{address, digits, endpoint, enter, no_alias};
+use crate::fixtures::{
+    Change, add, address, all_hold_of, alter, digits, endpoint, enter, registration,
+};
 use facts::{all_hold, ensure, ensure_of};
-use ras_module::{AliasList, BmpString, EndpointId, ReplyAliases};
+use ras_module::{Address, AliasList, BmpString, EndpointId, ReplyAliases};
 use registrations::{AddFault, Registration, RegistrationList, Registrations};
 use std::alloc::Global;
 use std::test::Fail;
 
-/// A registration at an address that ends so, with no alias.
-fn registration(
-    alloc: Global,
-    identifier: EndpointId,
-    last: u8,
-    deadline: u64,
-) -> Option<Registration> {
-    Some(Registration {
-        identifier,
-        call_signal: address(last),
-        ras: address(last),
-        aliases: no_alias(alloc)?,
-        deadline,
-        heard: 0,
-        tries: 0,
-        asked: 0,
-    })
-}
+/// An endpoint that comes, by its name: the last number of its address, and the last digit of the
+/// identifier that it gets, unless the table is full.
+type Newcomer = (&'static str, u8, Option<u8>);
 
-/// What is returned if a registration is added at an address that nobody has.
-fn added(
-    table: &mut Registrations,
-    registration: Registration,
-    taken: &[EndpointId],
-) -> Option<Result<EndpointId, AddFault>> {
-    if table.by_address(registration.call_signal).is_some() {
-        return None;
-    }
-    Some(table.add(registration, taken))
-}
+const FIRST_THREE: [Newcomer; 3] = [
+    ("first endpoint", 1, Some(b'1')),
+    ("second endpoint", 2, Some(b'2')),
+    ("third endpoint", 3, Some(b'3')),
+];
 
-/// Adds an endpoint at this address, which has to get this identifier.
-fn add(
+const FOURTH: [Newcomer; 1] = [("fourth endpoint", 4, Some(b'4'))];
+
+const LAST_TWO: [Newcomer; 2] = [
+    ("fifth endpoint", 5, Some(b'5')),
+    ("sixth endpoint", 6, None),
+];
+
+/// What is answered to an endpoint at this address, where these identifiers are taken.
+fn answer_to(
     table: &mut Registrations,
     alloc: Global,
-    row: &str,
     last: u8,
     taken: &[EndpointId],
-    identifier: EndpointId,
+) -> Result<Option<Result<EndpointId, AddFault>>, Fail> {
+    let new = registration(alloc, endpoint(b'9'), address(last), 10)?;
+    Ok(add(table, new, taken))
+}
+
+/// Adds an endpoint, where these identifiers are taken.
+fn add_one(
+    table: &mut Registrations,
+    alloc: Global,
+    taken: &[EndpointId],
+    newcomer: &Newcomer,
 ) -> Result<(), Fail> {
-    let new = registration(alloc, endpoint(b'9'), last, 10).ok_or("a registration")?;
-    let is_given = matches!(added(table, new, taken), Some(Ok(given)) if given == identifier);
-    ensure_of(row, is_given, "it gets this identifier")
+    let (name, last, given) = *newcomer;
+    let expected = match given {
+        Some(digit) => Ok(endpoint(digit)),
+        None => Err(AddFault::Full),
+    };
+    let answer = answer_to(table, alloc, last, taken)?;
+    ensure_of(
+        name,
+        answer == Some(expected),
+        "it gets this identifier, or the table is full",
+    )
 }
 
-/// Adds an endpoint at this address in vain, since the table is full.
-fn add_in_vain(table: &mut Registrations, alloc: Global, last: u8) -> Result<(), Fail> {
-    let new = registration(alloc, endpoint(b'9'), last, 10).ok_or("a registration")?;
-    let is_full = matches!(added(table, new, &[]), Some(Err(AddFault::Full)));
-    ensure(is_full, "the table is full")
+/// Adds these endpoints, where these identifiers are taken.
+fn add_all(
+    table: &mut Registrations,
+    alloc: Global,
+    taken: &[EndpointId],
+    newcomers: &[Newcomer],
+) -> Result<(), Fail> {
+    for newcomer in newcomers {
+        add_one(table, alloc, taken, newcomer)?;
+    }
+    Ok(())
 }
 
-/// Adds three endpoints, which get the identifiers 1 to 3.
-fn add_three(table: &mut Registrations, alloc: Global) -> Result<(), Fail> {
-    table.reserve(4)?;
-    add(table, alloc, "first endpoint", 1, &[], endpoint(b'1'))?;
-    add(table, alloc, "second endpoint", 2, &[], endpoint(b'2'))?;
-    add(table, alloc, "third endpoint", 3, &[], endpoint(b'3'))?;
-    let second = table.by_address(address(2));
-    let is_found = matches!(second, Some(r) if r.identifier == endpoint(b'2'));
-    all_hold(&[
-        (table.len() == 3, "three endpoints are registered"),
-        (is_found, "the second one is found by its address"),
-    ])
+/// The identifier of who is registered at the address that ends so.
+fn found_at(table: &Registrations, last: u8) -> Option<EndpointId> {
+    match table.by_address(address(last)) {
+        Some(row) => Some(row.identifier),
+        None => None,
+    }
 }
 
-/// Removes the second endpoint, once.
+/// Removes an endpoint. Its address for call signalling, if it was registered.
+fn remove(table: &mut Registrations, id: &EndpointId) -> Option<Address> {
+    match table.remove(id) {
+        Some(gone) => Some(gone.call_signal),
+        None => None,
+    }
+}
+
+/// Removes the second of three endpoints, once.
 fn remove_second(table: &mut Registrations) -> Result<(), Fail> {
     let second = endpoint(b'2');
-    let is_gone = match table.remove(&second) {
-        Some(gone) => gone.call_signal == address(2),
-        None => false,
-    };
-    let is_gone_once = table.remove(&second).is_none();
+    let are_three = table.len() == 3;
+    let is_found = found_at(table, 2) == Some(second);
+    let gone = remove(table, &second);
+    let again = remove(table, &second);
     all_hold(&[
-        (is_gone, "the second endpoint goes"),
-        (is_gone_once, "it goes once"),
+        (are_three, "three endpoints are registered"),
+        (is_found, "the second one is found by its address"),
+        (gone == Some(address(2)), "the second endpoint goes"),
+        (again.is_none(), "it goes once"),
     ])
 }
 
@@ -106,57 +120,52 @@ fn look_for_unused(table: &Registrations) -> Result<(), Fail> {
     ])
 }
 
-/// Fills the table of four. The identifier of the one that went isn't handed out.
-fn fill(table: &mut Registrations, alloc: Global) -> Result<(), Fail> {
-    add(
-        table,
-        alloc,
-        "fourth endpoint",
-        4,
-        &[endpoint(b'2')],
-        endpoint(b'4'),
-    )?;
-    add(table, alloc, "fifth endpoint", 5, &[], endpoint(b'5'))?;
-    add_in_vain(table, alloc, 6)
-}
-
-/// Counts identifiers from one on, over an endpoint that goes, until the table is full.
+/// Counts identifiers from one on, over an endpoint that goes, until the table of four is full. The
+/// identifier of the one that went isn't handed out.
 fn count(table: &mut Registrations, alloc: Global) -> Result<(), Fail> {
-    add_three(table, alloc)?;
+    table.reserve(4)?;
+    add_all(table, alloc, &[], &FIRST_THREE)?;
     remove_second(table)?;
     look_for_unused(table)?;
-    fill(table, alloc)
+    add_all(table, alloc, &[endpoint(b'2')], &FOURTH)?;
+    add_all(table, alloc, &[], &LAST_TWO)
 }
 
 #[test]
 fn identifiers_count_from_one(rt: HostRuntime) -> Result<(), Fail> {
-    let mut table = Registrations::new(rt.alloc(), 4);
-    let ended = count(&mut table, rt.alloc());
-    drop(table);
-    ended
+    count(&mut Registrations::new(rt.alloc(), 4), rt.alloc())
 }
 
-/// Enters a registration with this identifier, if neither it nor its address is registered.
+/// The identifiers `0010`, `0002`, `00100` and `A`, each with the last number of an address.
+const FOUR: [(&[u16], u8); 4] = [
+    (&[48, 48, 49, 48], 1),
+    (&[48, 48, 48, 50], 2),
+    (&[48, 48, 49, 48, 48], 3),
+    (&[65], 4),
+];
+
+/// Enters a registration, if neither it nor its address is registered.
 fn insert(table: &mut Registrations, alloc: Global, text: &[u16], last: u8) -> Result<(), Fail> {
-    let characters = BmpString::new(text).ok_or("an identifier")?;
-    let row = registration(alloc, EndpointId::new(characters), last, 10).ok_or("a registration")?;
-    enter(table, row)
+    let identifier = EndpointId::new(BmpString::new(text).ok_or("an identifier")?);
+    enter(table, registration(alloc, identifier, address(last), 10)?)
 }
 
-/// Enters registrations `0010`, `0002`, `00100` and `A`.
+/// Enters a registration with each of the four identifiers.
 fn insert_four(table: &mut Registrations, alloc: Global) -> Result<(), Fail> {
-    insert(table, alloc, &[48, 48, 49, 48], 1)?;
-    insert(table, alloc, &[48, 48, 48, 50], 2)?;
-    insert(table, alloc, &[48, 48, 49, 48, 48], 3)?;
-    insert(table, alloc, &[65], 4)
+    for (text, last) in FOUR {
+        insert(table, alloc, text, last)?;
+    }
+    Ok(())
 }
 
-/// Compares registrations with those at these addresses, in this order.
-fn compare_order(rows: &[Registration], order: &[u8]) -> Result<(), Fail> {
+/// Whether these are the registrations at these addresses, in this order.
+fn are_at(rows: &[Registration], order: &[u8]) -> bool {
     for (row, last) in rows.iter().zip(order) {
-        ensure(row.call_signal == address(*last), "the identifiers rise")?;
+        if row.call_signal != address(*last) {
+            return false;
+        }
     }
-    ensure(rows.len() == order.len(), "each registration comes once")
+    rows.len() == order.len()
 }
 
 /// Meets each of four registrations once, in whatever order.
@@ -179,15 +188,15 @@ fn insert_and_list(table: &mut Registrations, alloc: Global) -> Result<(), Fail>
     insert_four(table, alloc)?;
     meet_each(table)?;
     let list = RegistrationList::from_vec(table.list()?.into_vec());
-    compare_order(list.as_slice(), &[2, 1, 3, 4])
+    ensure(
+        are_at(list.as_slice(), &[2, 1, 3, 4]),
+        "each registration comes once, and the identifiers rise",
+    )
 }
 
 #[test]
 fn listed_by_rising_identifier(rt: HostRuntime) -> Result<(), Fail> {
-    let mut table = Registrations::new(rt.alloc(), 20000);
-    let ended = insert_and_list(&mut table, rt.alloc());
-    drop(table);
-    ended
+    insert_and_list(&mut Registrations::new(rt.alloc(), 20000), rt.alloc())
 }
 
 /// When the first endpoint's time to live is over, when the second one's is, and when the first
@@ -203,69 +212,79 @@ const HEARD: u64 = 7;
 
 const ASKED: u64 = 8;
 
+/// A change by its name, and then when the registration ends, when it was heard, how often it was
+/// asked, and when.
+type Row = (&'static str, Change, u64, u64, u8, u64);
+
+const RENEWED: [Row; 1] = [("renewed", Change::Renew(RENEWED_END), RENEWED_END, 0, 0, 0)];
+
+const CHANGES: [Row; 3] = [
+    ("heard", Change::Hear(HEARD), RENEWED_END, HEARD, 0, 0),
+    ("asked", Change::Ask(ASKED), RENEWED_END, HEARD, 1, ASKED),
+    ("calm", Change::Calm, RENEWED_END, HEARD, 0, ASKED),
+];
+
 /// Registers two endpoints with these ends.
 fn register_two(table: &mut Registrations, alloc: Global) -> Result<(), Fail> {
-    for (last, deadline) in [(1u8, FIRST_END), (2, SECOND_END)] {
-        let row = registration(alloc, endpoint(b'9'), last, deadline).ok_or("a registration")?;
-        let is_added = matches!(added(table, row, &[]), Some(Ok(_)));
+    for (last, end) in [(1u8, FIRST_END), (2, SECOND_END)] {
+        let new = registration(alloc, endpoint(b'9'), address(last), end)?;
+        let is_added = matches!(add(table, new, &[]), Some(Ok(_)));
         ensure(is_added, "the endpoint is registered")?;
     }
     Ok(())
 }
 
+/// Compares an endpoint behind a change.
+fn compare_changed(table: &Registrations, one: &EndpointId, row: &Row) -> Result<(), Fail> {
+    let (name, _, end, heard, tries, asked) = *row;
+    match table.get(one) {
+        Some(found) => all_hold_of(
+            name,
+            &[
+                (found.deadline == end, "its time to live ends then"),
+                (found.heard == heard, "it was heard then"),
+                (found.tries == tries, "it was asked so often"),
+                (found.asked == asked, "it was asked then"),
+            ],
+        ),
+        None => Err(Fail::from("the endpoint is registered")),
+    }
+}
+
+/// Makes these changes of an endpoint.
+fn make_changes(table: &mut Registrations, one: &EndpointId, rows: &[Row]) -> Result<(), Fail> {
+    for row in rows {
+        alter(table, one, row.1)?;
+        compare_changed(table, one, row)?;
+    }
+    Ok(())
+}
+
+/// Whose time to live is over at this moment: any of them.
+fn over(table: &Registrations, now: u64) -> Option<EndpointId> {
+    match table.over(now) {
+        Some(row) => Some(row.identifier),
+        None => None,
+    }
+}
+
 /// Renews the one that is over first, after which the other one is.
 fn renew(table: &mut Registrations, one: &EndpointId, other: &EndpointId) -> Result<(), Fail> {
-    let is_nobody = table.over(FIRST_END - 1).is_none();
-    let is_over = matches!(table.over(FIRST_END), Some(r) if r.identifier == *one);
-    if table.get(one).is_some() {
-        table.renew(one, RENEWED_END);
-    }
-    let is_next = matches!(table.over(RENEWED_END - 1), Some(r) if r.identifier == *other);
+    let early = over(table, FIRST_END - 1);
+    let first = over(table, FIRST_END);
+    make_changes(table, one, &RENEWED)?;
+    let next = over(table, RENEWED_END - 1);
     all_hold(&[
-        (is_nobody, "nobody is over a moment before"),
-        (is_over, "the one with the earlier end is over first"),
-        (is_next, "the other one is over once the first is renewed"),
+        (early.is_none(), "nobody is over a moment before"),
+        (
+            first == Some(*one),
+            "the one with the earlier end is over first",
+        ),
+        (
+            next == Some(*other),
+            "the other one is over once the first is renewed",
+        ),
     ])
-}
-
-/// Compares an endpoint that was heard, and then asked once.
-fn compare_asked(table: &Registrations, one: &EndpointId) -> Result<(), Fail> {
-    match table.get(one) {
-        Some(r) => all_hold(&[
-            (r.deadline == RENEWED_END, "its time to live stays"),
-            (r.heard == HEARD, "it was heard"),
-            (r.tries == 1, "it was asked once"),
-            (r.asked == ASKED, "it was asked at its moment"),
-        ]),
-        None => Err(Fail::from("the endpoint is registered")),
-    }
-}
-
-/// Hears and asks an endpoint.
-fn hear_and_ask(table: &mut Registrations, one: &EndpointId) -> Result<(), Fail> {
-    if table.get(one).is_some() {
-        table.hear(one, HEARD);
-    }
-    match table.get(one) {
-        Some(r) if r.tries < 16 => table.asked(one, ASKED),
-        _ => return Err(Fail::from("the endpoint may be asked")),
-    }
-    compare_asked(table, one)
-}
-
-/// Calms an endpoint that was asked.
-fn calm(table: &mut Registrations, one: &EndpointId) -> Result<(), Fail> {
-    if table.get(one).is_some() {
-        table.calm(one);
-    }
-    match table.get(one) {
-        Some(r) => all_hold(&[
-            (r.tries == 0, "it is calm"),
-            (r.heard == HEARD, "it was heard as before"),
-            (r.asked == ASKED, "it was asked as before"),
-        ]),
-        None => Err(Fail::from("the endpoint is registered")),
-    }
 }
 
 /// Compares a copy of its registration with it.
@@ -274,10 +293,8 @@ fn compare_copy(table: &Registrations, one: &EndpointId) -> Result<(), Fail> {
         return Err(Fail::from("the endpoint is registered"));
     };
     let copy = row.copy()?;
-    let is_same = copy.identifier == *one && copy.asked == ASKED && copy.aliases == row.aliases;
-    drop(copy);
     ensure(
-        is_same,
+        copy.identifier == *one && copy.asked == ASKED && copy.aliases == row.aliases,
         "its copy has its identifier, its aliases and its moment",
     )
 }
@@ -327,22 +344,24 @@ fn compare_other(table: &Registrations, other: &EndpointId) -> Result<(), Fail> 
     }
 }
 
-/// Changes one of two registrations. The other one stays, and the numbers go on as they would have.
+/// Renews, hears, asks and calms one of two registrations.
 fn change_one(table: &mut Registrations, alloc: Global) -> Result<(), Fail> {
     let (one, other) = (endpoint(b'1'), endpoint(b'2'));
     register_two(table, alloc)?;
     renew(table, &one, &other)?;
-    hear_and_ask(table, &one)?;
-    calm(table, &one)?;
+    make_changes(table, &one, &CHANGES)
+}
+
+/// Rewrites it then. The other one stays, and the numbers go on as they would have.
+fn change_and_rewrite(table: &mut Registrations, alloc: Global) -> Result<(), Fail> {
+    let one = endpoint(b'1');
+    change_one(table, alloc)?;
     rewrite(table, alloc, &one)?;
     compare_copy(table, &one)?;
-    compare_other(table, &other)
+    compare_other(table, &endpoint(b'2'))
 }
 
 #[test]
 fn one_registration_changes(rt: HostRuntime) -> Result<(), Fail> {
-    let mut table = Registrations::new(rt.alloc(), 2);
-    let ended = change_one(&mut table, rt.alloc());
-    drop(table);
-    ended
+    change_and_rewrite(&mut Registrations::new(rt.alloc(), 2), rt.alloc())
 }

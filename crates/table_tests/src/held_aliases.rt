@@ -1,9 +1,9 @@
 //! The aliases that endpoints hold.
 
-use crate::fixtures::{address, digits, endpoint};
+use crate::fixtures::{address, all_hold_of, digits, endpoint};
 use aliases::{AliasTable, SetFault};
-use facts::{all_hold, ensure};
-use ras_module::{Alias, BmpString};
+use facts::{ensure, ensure_of};
+use ras_module::{Alias, BmpString, EndpointId};
 use std::alloc::{AllocError, Global};
 use std::test::Fail;
 
@@ -20,31 +20,49 @@ fn four_digits() -> Result<[Alias; 4], Fail> {
     Ok([one, two, three, four])
 }
 
-/// Enters an alias of this endpoint at this address.
-fn set(table: &mut AliasTable, alias: &Alias, holder: u8, last: u8) -> Result<(), Fail> {
-    let is_set = table.set(*alias, endpoint(holder), address(last)).is_ok();
-    ensure(is_set, "the alias is entered")
-}
-
-/// Enters an alias in vain, which comes back, since another endpoint holds it.
-fn set_in_vain(table: &mut AliasTable, alias: &Alias, holder: u8, last: u8) -> Result<(), Fail> {
+/// Enters an alias of this endpoint at this address. Why it isn't entered: the alias comes back.
+fn fault_of(
+    table: &mut AliasTable,
+    alias: &Alias,
+    holder: u8,
+    last: u8,
+) -> Result<Option<SetFault>, Fail> {
     match table.set(*alias, endpoint(holder), address(last)) {
-        Ok(()) => Err(Fail::from("a duplicate is entered")),
+        Ok(()) => Ok(None),
         Err((back, fault)) => {
-            all_hold(&[
-                (back == *alias, "the alias comes back"),
-                (fault == SetFault::Duplicate, "it is refused as a duplicate"),
-            ])
+            ensure(back == *alias, "the alias comes back")?;
+            Ok(Some(fault))
         }
     }
 }
 
-/// Finds this endpoint as the alias's holder.
-fn find_holder(table: &AliasTable, alias: &Alias, holder: u8) -> Result<(), Fail> {
-    match table.holder(alias) {
-        Some(found) => ensure(*found == endpoint(holder), "the alias has this holder"),
-        None => Err(Fail::from("nobody holds the alias")),
+/// Enters these aliases, each of this endpoint at this address.
+fn set_each(table: &mut AliasTable, aliases: &[(Alias, u8, u8)]) -> Result<(), Fail> {
+    for (alias, holder, last) in aliases {
+        let fault = fault_of(table, alias, *holder, *last)?;
+        ensure(fault.is_none(), "the alias is entered")?;
     }
+    Ok(())
+}
+
+fn holder_of(table: &AliasTable, alias: &Alias) -> Option<EndpointId> {
+    match table.holder(alias) {
+        Some(holder) => Some(*holder),
+        None => None,
+    }
+}
+
+/// Finds each of these aliases held by this endpoint, or by none.
+fn find_holders(table: &AliasTable, aliases: &[(&str, Alias, Option<u8>)]) -> Result<(), Fail> {
+    for (name, alias, holder) in aliases {
+        let expected = match holder {
+            Some(last) => Some(endpoint(*last)),
+            None => None,
+        };
+        let found = holder_of(table, alias);
+        ensure_of(name, found == expected, "it has this holder, or none")?;
+    }
+    Ok(())
 }
 
 /// Finds these aliases, in this order, in conflict with an endpoint at this address.
@@ -55,29 +73,47 @@ fn find_conflicts(
     expected: &[Alias],
 ) -> Result<(), Fail> {
     let held = table.conflicts(asked, address(last))?;
-    let are_found = held.as_slice() == expected;
-    drop(held);
-    ensure(are_found, "these aliases are in conflict, in this order")
+    ensure(
+        held.as_slice() == expected,
+        "these aliases are in conflict, in this order",
+    )
 }
 
-/// Enters a number. The same characters as a name are another alias.
-fn enter(table: &mut AliasTable, number: &Alias, name: &Alias) -> Result<(), Fail> {
-    let is_free = table.holder(number).is_none();
-    set(table, number, b'1', 5)?;
-    find_holder(table, number, b'1')?;
-    all_hold(&[
-        (is_free, "nobody holds the number at first"),
-        (table.holder(name).is_none(), "nobody holds the name"),
-    ])
+/// An endpoint that enters an alias, and the last number of its address; and why it isn't entered.
+type Entered = (&'static str, u8, u8, Option<SetFault>);
+
+/// An alias is entered by an endpoint, in vain by another one, and again by the first one from
+/// another address.
+const ENTERED: [Entered; 3] = [
+    ("first", b'1', 5, None),
+    ("by another endpoint", b'2', 6, Some(SetFault::Duplicate)),
+    ("from another address", b'1', 7, None),
+];
+
+/// Enters a number, of which this comes. Its first holder keeps it.
+fn enter(table: &mut AliasTable, number: &Alias, row: &Entered) -> Result<(), Fail> {
+    let (name, holder, last, expected) = *row;
+    let fault = fault_of(table, number, holder, last)?;
+    all_hold_of(
+        name,
+        &[
+            (fault == expected, "a duplicate alone is refused"),
+            (
+                holder_of(table, number) == Some(endpoint(b'1')),
+                "the first endpoint holds the number",
+            ),
+        ],
+    )
 }
 
-/// Enters a number once, and again by its own holder from another address. The number is in
-/// conflict at another address than its holder's alone.
+/// Enters a number, which is in conflict at another address than its holder's alone. The same
+/// characters as a name are another alias.
 fn hold_once(table: &mut AliasTable, number: &Alias, name: &Alias) -> Result<(), Fail> {
-    enter(table, number, name)?;
-    set_in_vain(table, number, b'2', 6)?;
-    find_holder(table, number, b'1')?;
-    set(table, number, b'1', 7)?;
+    find_holders(table, &[("the number at first", *number, None)])?;
+    for row in &ENTERED {
+        enter(table, number, row)?;
+    }
+    find_holders(table, &[("the name", *name, None)])?;
     find_conflicts(table, &[*number], 7, &[])?;
     find_conflicts(table, &[*number], 5, &[*number])
 }
@@ -86,10 +122,7 @@ fn hold_once(table: &mut AliasTable, number: &Alias, name: &Alias) -> Result<(),
 fn an_alias_has_one_holder(rt: HostRuntime) -> Result<(), Fail> {
     let number = digits(&[52, 55, 49, 49]).ok_or("digits")?;
     let name = named(&[52, 55, 49, 49]).ok_or("a name")?;
-    let mut table = AliasTable::new(rt.alloc());
-    let ended = hold_once(&mut table, &number, &name);
-    drop(table);
-    ended
+    hold_once(&mut AliasTable::new(rt.alloc()), &number, &name)
 }
 
 /// Finds the aliases of two endpoints in conflict in the order in which they are asked, and not
@@ -101,9 +134,7 @@ fn conflict_in_order(
     two: &Alias,
     three: &Alias,
 ) -> Result<(), Fail> {
-    set(table, one, b'1', 1)?;
-    set(table, anna, b'1', 1)?;
-    set(table, two, b'2', 2)?;
+    set_each(table, &[(*one, b'1', 1), (*anna, b'1', 1), (*two, b'2', 2)])?;
     let asked = [*two, *anna, *three, *one, *two];
     find_conflicts(table, &asked, 3, &[*two, *anna, *one, *two])?;
     find_conflicts(table, &asked, 2, &[*anna, *one])
@@ -114,9 +145,7 @@ fn conflicts_stand_as_in_the_list(rt: HostRuntime) -> Result<(), Fail> {
     let [one, two, three, _four] = four_digits()?;
     let anna = named(&[97, 110, 110, 97]).ok_or("a name")?;
     let mut table = AliasTable::new(rt.alloc());
-    let ended = conflict_in_order(&mut table, &one, &anna, &two, &three);
-    drop(table);
-    ended
+    conflict_in_order(&mut table, &one, &anna, &two, &three)
 }
 
 /// A table in which the first endpoint holds two aliases.
@@ -127,46 +156,35 @@ fn table_of_two(alloc: Global, one: &Alias, two: &Alias) -> Result<AliasTable, A
     Ok(table)
 }
 
-/// Finds the holder of two aliases, and enters two more: one of another endpoint, and one of its
-/// own.
-fn enter_two_more(
-    table: &mut AliasTable,
-    own: &[Alias; 2],
-    others: &[Alias; 2],
-) -> Result<(), Fail> {
-    find_holder(table, &own[0], b'1')?;
-    find_holder(table, &own[1], b'1')?;
-    set(table, &others[0], b'2', 2)?;
-    set(table, &others[1], b'1', 1)
-}
-
-/// Drops a holder with its aliases, and with no other. They are free then.
+/// Drops a holder of two aliases that has entered a third one since, as another endpoint has: it goes
+/// with its aliases, and with no other. They are free then.
 fn drop_with_its_aliases(
     table: &mut AliasTable,
     own: &[Alias; 2],
     others: &[Alias; 2],
 ) -> Result<(), Fail> {
-    enter_two_more(table, own, others)?;
+    let held = [
+        ("its first alias", own[0], Some(b'1')),
+        ("its second alias", own[1], Some(b'1')),
+    ];
+    let left = [
+        ("the other endpoint's alias", others[0], Some(b'2')),
+        ("its later alias", others[1], None),
+        ("its first alias", own[0], None),
+        ("its second alias", own[1], None),
+    ];
+    find_holders(table, &held)?;
+    set_each(table, &[(others[0], b'2', 2), (others[1], b'1', 1)])?;
     table.drop_holder(&endpoint(b'1'));
-    find_holder(table, &others[0], b'2')?;
-    all_hold(&[
-        (
-            table.holder(&others[1]).is_none(),
-            "its later alias is gone",
-        ),
-        (table.holder(&own[0]).is_none(), "its first alias is gone"),
-        (table.holder(&own[1]).is_none(), "its second alias is gone"),
-    ])?;
-    set(table, &own[0], b'3', 3)
+    find_holders(table, &left)?;
+    set_each(table, &[(own[0], b'3', 3)])
 }
 
 #[test]
 fn a_holder_goes_with_all_its_aliases(rt: HostRuntime) -> Result<(), Fail> {
     let [one, two, three, four] = four_digits()?;
     let mut table = table_of_two(rt.alloc(), &one, &two)?;
-    let ended = drop_with_its_aliases(&mut table, &[one, two], &[three, four]);
-    drop(table);
-    ended
+    drop_with_its_aliases(&mut table, &[one, two], &[three, four])
 }
 
 /// Gives up the aliases of a list that are the endpoint's own: not its others, and none of another
@@ -177,19 +195,19 @@ fn give_up_its_own(
     other: &Alias,
     free: &Alias,
 ) -> Result<(), Fail> {
-    set(table, other, b'2', 2)?;
+    set_each(table, &[(*other, b'2', 2)])?;
     table.drop_all(&[own[0], *other, *free], &endpoint(b'1'));
-    let is_gone = table.holder(&own[0]).is_none();
-    ensure(is_gone, "its alias of the list is gone")?;
-    find_holder(table, &own[1], b'1')?;
-    find_holder(table, other, b'2')
+    let left = [
+        ("its alias of the list", own[0], None),
+        ("its other alias", own[1], Some(b'1')),
+        ("the other endpoint's alias", *other, Some(b'2')),
+    ];
+    find_holders(table, &left)
 }
 
 #[test]
 fn an_endpoint_gives_up_aliases_of_its_own(rt: HostRuntime) -> Result<(), Fail> {
     let [one, two, three, four] = four_digits()?;
     let mut table = table_of_two(rt.alloc(), &one, &two)?;
-    let ended = give_up_its_own(&mut table, &[one, two], &three, &four);
-    drop(table);
-    ended
+    give_up_its_own(&mut table, &[one, two], &three, &four)
 }

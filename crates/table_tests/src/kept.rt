@@ -1,110 +1,26 @@
 //! Replies that are kept, and requests that wait.
 
-use crate::fixtures::{endpoint, is_confirmed, kept_reply, no_alias, request_octets, seq};
-use facts::{all_hold, ensure, ensure_of};
-use kept_replies::{
-    InProgress, Kept, KeptEntry, KeptKey, KeptList, KeptReply, KeptState, ReserveFault,
+use crate::fixtures::{
+    SOURCE, all_hold_of, confirm, datagram, endpoint, is_confirmed, keep, keep_confirm, kept_reply,
+    no_alias, pend, seq,
 };
-use ras_module::{
-    Address, BandwidthRequest, Boxed, CallKey, Delay, Name, RegistrationConfirm, Reply,
-    ReplyAliases, Request, TimeToLive,
-};
+use facts::{all_hold, ensure};
+use kept_replies::{Kept, KeptEntry, KeptKey, KeptList, KeptReply, KeptState, ReserveFault};
+use ras_module::{Boxed, Name, RegistrationConfirm, Reply, TimeToLive};
 use std::alloc::{AllocError, Global};
 use std::hash::{BuildHasher, BuildHasherDefault, FoldHasher};
 use std::test::Fail;
 
-const SOURCE: Address = Address {
-    ip: [10, 0, 0, 5],
-    port: 1719,
-};
-
-fn single(alloc: Global, octet: u8) -> Result<Vec<u8>, AllocError> {
-    let mut octets = Vec::new(alloc);
-    octets.push(octet)?;
-    Ok(octets)
-}
-
-fn key_of(octets: Vec<u8>) -> Result<KeptKey, Fail> {
-    Ok(KeptKey {
-        source: SOURCE,
-        bytes: request_octets(octets)?,
-    })
-}
-
-fn key(alloc: Global, octet: u8) -> Result<KeptKey, Fail> {
-    key_of(single(alloc, octet)?)
-}
-
-fn confirm(number: u16) -> Reply {
-    Reply::Dcf { seq: seq(number) }
-}
-
-fn progress(number: u16) -> InProgress {
-    InProgress::new(seq(number), Delay::new(1500).unwrap())
-}
-
-fn few(alloc: Global) -> Result<ReplyAliases, Fail> {
-    Ok(no_alias(alloc).ok_or("no alias is few")?)
-}
-
-fn registered(alloc: Global, aliases: ReplyAliases, last: u8) -> Result<Reply, AllocError> {
+fn registered(alloc: Global, last: u8) -> Result<Reply, AllocError> {
     let confirm = RegistrationConfirm {
         seq: seq(1),
         call_signal: SOURCE,
-        aliases,
+        aliases: no_alias(alloc).ok_or(AllocError)?,
         gatekeeper: Name::new(&[103, 107]).unwrap(),
         endpoint: endpoint(last),
         granted: TimeToLive::new(60).unwrap(),
     };
     Ok(Reply::Rcf(Boxed::new(alloc, confirm)?))
-}
-
-fn request(alloc: Global) -> Result<Request, AllocError> {
-    let request = BandwidthRequest {
-        seq: seq(7),
-        endpoint: endpoint(b'1'),
-        call: CallKey { octets: [17; 16] },
-        asked: 1280,
-    };
-    Ok(Request::Brq(Boxed::new(alloc, request)?))
-}
-
-fn keep(
-    kept: &mut Kept,
-    key: KeptKey,
-    born: u64,
-    reply: KeptReply,
-    until: u64,
-) -> Result<(), Fail> {
-    if kept.is_full() && kept.find(&key).is_none() {
-        return Err(Fail::from("there is no place"));
-    }
-    if !kept.is_free(&key, born) {
-        return Err(Fail::from("another entry has that birth"));
-    }
-    kept.reserve(until)?;
-    kept.keep(key, born, reply, until);
-    Ok(())
-}
-
-fn pend(
-    alloc: Global,
-    kept: &mut Kept,
-    key: KeptKey,
-    born: u64,
-    retry: u64,
-    left: u64,
-) -> Result<(), Fail> {
-    kept.reserve(retry)?;
-    if kept.is_full() && kept.find(&key).is_none() {
-        return Err(Fail::from("there is no place"));
-    }
-    if !kept.is_free(&key, born) || left == 0 {
-        return Err(Fail::from("no entry is like this"));
-    }
-    let request = request(alloc)?;
-    kept.pend(key, born, request, progress(7), retry, left);
-    Ok(())
 }
 
 fn postpone(kept: &mut Kept, key: &KeptKey, retry: u64) -> Result<(), Fail> {
@@ -129,25 +45,16 @@ fn answer(alloc: Global, kept: &mut Kept, key: &KeptKey, until: u64) -> Result<(
     Ok(())
 }
 
-/// Keeps a reply to the datagram of one octet.
-fn keep_confirm(
-    alloc: Global,
-    kept: &mut Kept,
-    octet: u8,
-    born: u64,
-    until: u64,
-) -> Result<(), Fail> {
-    let datagram = key(alloc, octet)?;
-    let reply = kept_reply(alloc, &confirm(u16::from(octet)))?;
-    keep(kept, datagram, born, reply, until)
+/// The confirm of a registration, made once more if memory for it was refused.
+fn registered_at_last(alloc: Global, last: u8) -> Result<KeptReply, AllocError> {
+    let reply = match registered(alloc, last) {
+        Ok(reply) => reply,
+        Err(_) => registered(alloc, last)?,
+    };
+    kept_reply(alloc, &reply)
 }
 
-/// The confirm of a registration, as it is kept.
-fn kept_registered(alloc: Global, last: u8) -> Result<KeptReply, Fail> {
-    let reply = registered(alloc, few(alloc)?, last)?;
-    Ok(kept_reply(alloc, &reply)?)
-}
-
+/// Keeps the confirm of a registration as the reply to the datagram of one octet.
 fn keep_registered(
     alloc: Global,
     kept: &mut Kept,
@@ -155,22 +62,29 @@ fn keep_registered(
     last: u8,
     until: u64,
 ) -> Result<(), Fail> {
-    let reply = kept_registered(alloc, last)?;
-    let datagram = key(alloc, octet)?;
-    keep(kept, datagram, u64::from(octet), reply, until)
+    let reply = registered_at_last(alloc, last)?;
+    let key = datagram(alloc, &[octet])?;
+    keep(kept, key, u64::from(octet), reply, until)
 }
 
-/// Finds this confirm as the reply that is kept, which equals its copy.
-fn find_confirm(kept: &Kept, born: u64, number: u16) -> Result<(), Fail> {
-    let (_datagram, entry) = kept.by_born(born).ok_or("it is kept")?;
-    let is_same = entry.copy()? == *entry;
+/// Compares an entry with one of this confirm, and with its copy.
+fn compare_confirm(entry: &KeptEntry, number: u16) -> Result<(), Fail> {
+    let copy = entry.copy()?;
     all_hold(&[
         (
             is_confirmed(entry, number),
             "the confirm with this number is kept",
         ),
-        (is_same, "it equals its copy"),
+        (copy == *entry, "it equals its copy"),
     ])
+}
+
+/// Finds this confirm as the reply that is kept, which equals its copy.
+fn find_confirm(kept: &Kept, born: u64, number: u16) -> Result<(), Fail> {
+    match kept.by_born(born) {
+        Some((_datagram, entry)) => compare_confirm(entry, number),
+        None => Err(Fail::from("it is kept")),
+    }
 }
 
 fn left_of(kept: &Kept, born: u64) -> u64 {
@@ -208,74 +122,84 @@ fn find_place_taken(kept: &Kept) -> Result<(), Fail> {
     ])
 }
 
-// One reply may be kept, for 10,000 milliseconds.
-/// Offers a second datagram a millisecond behind the first, and again when the first reply is over.
-fn offer_twice(alloc: Global, kept: &mut Kept) -> Result<(), Fail> {
-    keep_confirm(alloc, kept, 1, 0, OVER)?;
-    find_place_taken(kept)?;
+/// Offers a second datagram a millisecond behind the first, for which there is no room.
+fn offer_early(kept: &mut Kept) -> Result<(), Fail> {
     let reserved = kept.reserve(1);
-    let early = kept.drop_one_expired(OVER - 1);
+    let dropped = kept.drop_one_expired(OVER - 1);
+    all_hold(&[
+        (reserved == Err(ReserveFault::Busy), "there is no room"),
+        (dropped.is_none(), "nothing is dropped a moment before"),
+    ])
+}
+
+/// Offers it again when the first reply is over, which gives way to it.
+fn offer_again(kept: &mut Kept) -> Result<(), Fail> {
     kept.reserve(OVER)?;
     let dropped = kept.drop_one_expired(OVER);
     all_hold(&[
-        (reserved == Err(ReserveFault::Busy), "there is no room"),
-        (early.is_none(), "nothing is dropped a moment before"),
         (dropped == Some(0), "the reply that is over is dropped"),
         (kept.len() == 0, "nothing is kept"),
     ])
 }
 
+// One reply may be kept, for 10,000 milliseconds.
+/// Offers a second datagram behind the first, until there is room for it.
+fn offer_twice(alloc: Global, kept: &mut Kept) -> Result<(), Fail> {
+    keep_confirm(alloc, kept, &[1], 1, 0, OVER)?;
+    find_place_taken(kept)?;
+    offer_early(kept)?;
+    offer_again(kept)
+}
+
 #[test]
 fn a_place_becomes_free_when_its_time_is_over(rt: HostRuntime) -> Result<(), Fail> {
-    let mut kept = Kept::new(rt.alloc(), 1);
-    let ended = offer_twice(rt.alloc(), &mut kept);
-    drop(kept);
-    ended
+    offer_twice(rt.alloc(), &mut Kept::new(rt.alloc(), 1))
+}
+
+/// Drops the entry of a birth. Whether the datagram has an entry then.
+fn is_found_without(kept: &mut Kept, datagram: &KeptKey, born: u64) -> bool {
+    kept.drop_born(born);
+    kept.find(datagram).is_some()
 }
 
 /// Finds the reply to this datagram until it is dropped, and not if another is.
 fn find_until_dropped(kept: &mut Kept, datagram: &KeptKey) -> Result<(), Fail> {
-    find_confirm(kept, 3, 2)?;
     let is_found = kept.find(datagram).is_some();
-    kept.drop_born(4);
-    let has_stayed = kept.find(datagram).is_some();
-    kept.drop_born(3);
-    let is_gone = kept.find(datagram).is_none();
+    let has_stayed = is_found_without(kept, datagram, 4);
+    let is_there_still = is_found_without(kept, datagram, 3);
     all_hold(&[
         (is_found, "the reply is found by its datagram"),
         (has_stayed, "it stays if another birth is dropped"),
-        (is_gone, "it goes with its birth"),
+        (!is_there_still, "it goes with its birth"),
     ])
 }
 
 /// Keeps a reply, which is found until it is dropped.
 fn keep_and_drop(alloc: Global, kept: &mut Kept) -> Result<(), Fail> {
-    keep_confirm(alloc, kept, 2, 3, 20_000)?;
-    let datagram = key(alloc, 2)?;
-    let ended = find_until_dropped(kept, &datagram);
-    drop(datagram);
-    ended
+    keep_confirm(alloc, kept, &[2], 2, 3, 20_000)?;
+    find_confirm(kept, 3, 2)?;
+    let key = datagram(alloc, &[2])?;
+    find_until_dropped(kept, &key)
 }
 
 #[test]
 fn a_reply_is_found_until_it_is_dropped(rt: HostRuntime) -> Result<(), Fail> {
-    let mut kept = Kept::new(rt.alloc(), 1);
-    let ended = keep_and_drop(rt.alloc(), &mut kept);
-    drop(kept);
-    ended
+    keep_and_drop(rt.alloc(), &mut Kept::new(rt.alloc(), 1))
 }
 
 #[test]
-fn faults_have_their_numbers(rt: HostRuntime) {
-    assert!(rt; ReserveFault::Busy.number() == 1);
-    assert!(rt; ReserveFault::Memory.number() == 2);
+fn faults_have_their_numbers() -> Result<(), Fail> {
+    all_hold(&[
+        (ReserveFault::Busy.number() == 1, "no place is fault 1"),
+        (ReserveFault::Memory.number() == 2, "no memory is fault 2"),
+    ])
 }
 
 /// Keeps a reply in place of another, which needs no further place. The birth of the other is free
 /// again.
 fn take_the_place(alloc: Global, kept: &mut Kept) -> Result<(), Fail> {
-    keep_confirm(alloc, kept, 2, 3, 10)?;
-    keep_confirm(alloc, kept, 2, 4, 20)?;
+    keep_confirm(alloc, kept, &[2], 2, 3, 10)?;
+    keep_confirm(alloc, kept, &[2], 2, 4, 20)?;
     all_hold(&[
         (kept.len() == 1, "one reply is kept"),
         (
@@ -288,30 +212,22 @@ fn take_the_place(alloc: Global, kept: &mut Kept) -> Result<(), Fail> {
 
 #[test]
 fn a_reply_in_place_of_another(rt: HostRuntime) -> Result<(), Fail> {
-    let mut kept = Kept::new(rt.alloc(), 1);
-    let ended = take_the_place(rt.alloc(), &mut kept);
-    drop(kept);
-    ended
+    take_the_place(rt.alloc(), &mut Kept::new(rt.alloc(), 1))
 }
 
 /// Finds a request that waits, and is served again from this moment on, at most `left` times.
 fn find_waiting(kept: &Kept, row: &str, moment: u64, left: u64) -> Result<(), Fail> {
     let before = kept.retry(moment.saturating_sub(1));
-    ensure_of(row, before.is_none(), "it isn't served a moment before")?;
-    ensure_of(
+    let then = kept.retry(moment);
+    let over = kept.over(u64::MAX);
+    all_hold_of(
         row,
-        kept.retry(moment) == Some(3),
-        "it is served again at its moment",
-    )?;
-    ensure_of(
-        row,
-        kept.over(u64::MAX).is_none(),
-        "what waits is never over",
-    )?;
-    ensure_of(
-        row,
-        left_of(kept, 3) == left,
-        "it is served as often as is left",
+        &[
+            (before.is_none(), "it isn't served a moment before"),
+            (then == Some(3), "it is served again at its moment"),
+            (over.is_none(), "what waits is never over"),
+            (left_of(kept, 3) == left, "it is served as often as is left"),
+        ],
     )
 }
 
@@ -335,48 +251,37 @@ fn answer_at_last(alloc: Global, kept: &mut Kept, waiting: &KeptKey) -> Result<(
 
 /// Lets a request wait, and answers it.
 fn wait_and_answer(alloc: Global, kept: &mut Kept) -> Result<(), Fail> {
-    let waiting = key(alloc, 1)?;
+    let waiting = datagram(alloc, &[1])?;
     wait_twice(alloc, kept, &waiting)?;
     answer_at_last(alloc, kept, &waiting)
 }
 
 #[test]
 fn a_request_waits_and_is_answered(rt: HostRuntime) -> Result<(), Fail> {
-    let mut kept = Kept::new(rt.alloc(), 8);
-    let ended = wait_and_answer(rt.alloc(), &mut kept);
-    drop(kept);
-    ended
+    wait_and_answer(rt.alloc(), &mut Kept::new(rt.alloc(), 8))
 }
 
 /// Keeps a reply, whose birth is no other datagram's.
 fn keep_a_birth(alloc: Global, kept: &mut Kept) -> Result<(), Fail> {
-    keep_confirm(alloc, kept, 1, 3, 10)?;
-    let other = key(alloc, 2)?;
-    let is_own = !kept.is_free(&other, 3);
-    let is_next_free = kept.is_free(&other, 4);
-    drop(other);
+    keep_confirm(alloc, kept, &[1], 1, 3, 10)?;
+    let other = datagram(alloc, &[2])?;
     all_hold(&[
-        (is_own, "the birth isn't free for another datagram"),
-        (is_next_free, "the next birth is free for it"),
+        (
+            !kept.is_free(&other, 3),
+            "the birth isn't free for another datagram",
+        ),
+        (kept.is_free(&other, 4), "the next birth is free for it"),
     ])
 }
 
 #[test]
 fn a_birth_belongs_to_one_datagram(rt: HostRuntime) -> Result<(), Fail> {
-    let mut kept = Kept::new(rt.alloc(), 8);
-    let ended = keep_a_birth(rt.alloc(), &mut kept);
-    drop(kept);
-    ended
+    keep_a_birth(rt.alloc(), &mut Kept::new(rt.alloc(), 8))
 }
 
-/// Keeps confirms, of which those of registrations tell identifiers: one that is over, too.
-fn tell_identifiers(alloc: Global, kept: &mut Kept) -> Result<(), Fail> {
-    keep_registered(alloc, kept, 1, b'1', 0)?;
-    keep_confirm(alloc, kept, 2, 2, 10_000)?;
-    keep_registered(alloc, kept, 3, b'2', 10_000)?;
+/// Finds the identifiers 0001 and 0002 told by what is kept, and 0003 not.
+fn find_identifiers(kept: &Kept) -> Result<(), Fail> {
     let ids = kept.identifiers()?;
-    let are_listed = ids.as_slice() == [endpoint(b'1'), endpoint(b'2')].as_slice();
-    drop(ids);
     all_hold(&[
         (
             kept.is_named(&endpoint(b'1')),
@@ -384,75 +289,92 @@ fn tell_identifiers(alloc: Global, kept: &mut Kept) -> Result<(), Fail> {
         ),
         (kept.is_named(&endpoint(b'2')), "0002 is told"),
         (!kept.is_named(&endpoint(b'3')), "0003 isn't told"),
-        (are_listed, "0001 and 0002 are listed"),
+        (
+            ids.as_slice() == [endpoint(b'1'), endpoint(b'2')].as_slice(),
+            "0001 and 0002 are listed",
+        ),
     ])
+}
+
+/// Keeps confirms, of which those of registrations tell identifiers: one that is over, too.
+fn tell_identifiers(alloc: Global, kept: &mut Kept) -> Result<(), Fail> {
+    keep_registered(alloc, kept, 1, b'1', 0)?;
+    keep_confirm(alloc, kept, &[2], 2, 2, 10_000)?;
+    keep_registered(alloc, kept, 3, b'2', 10_000)?;
+    find_identifiers(kept)
 }
 
 #[test]
 fn identifiers_that_confirms_tell(rt: HostRuntime) -> Result<(), Fail> {
-    let mut kept = Kept::new(rt.alloc(), 8);
-    let ended = tell_identifiers(rt.alloc(), &mut kept);
-    drop(kept);
-    ended
+    tell_identifiers(rt.alloc(), &mut Kept::new(rt.alloc(), 8))
 }
 
-/// Compares a list with the entries of these births, in this order, of which each is found.
-fn compare_births(kept: &Kept, rows: &[(KeptKey, KeptEntry)], births: &[u64]) -> Result<(), Fail> {
-    for (row, born) in rows.iter().zip(births) {
-        all_hold(&[
-            (row.1.born == *born, "the births rise"),
-            (
-                kept.find(&row.0).is_some(),
-                "each entry is found by its datagram",
-            ),
-        ])?;
+/// Whether these are entries of these births, in this order, of which each is found.
+fn are_found(kept: &Kept, rows: &[(KeptKey, KeptEntry)], births: &[u64]) -> bool {
+    for ((datagram, entry), born) in rows.iter().zip(births) {
+        if entry.born != *born || kept.find(datagram).is_none() {
+            return false;
+        }
     }
-    ensure(rows.len() == births.len(), "each entry comes once")
+    rows.len() == births.len()
 }
 
-/// Keeps replies in any order of their births, one in place of an earlier one with another birth,
-/// and lists them.
+/// Keeps replies in any order of their births, one in place of an earlier one with another birth.
+fn keep_in_any_order(alloc: Global, kept: &mut Kept) -> Result<(), Fail> {
+    for (octet, born) in [(248, 7), (252, 3), (55, 200), (254, 1), (246, 9), (248, 8)] {
+        keep_confirm(alloc, kept, &[octet], u16::from(octet), born, 10)?;
+    }
+    Ok(())
+}
+
+/// Keeps replies, and lists them.
 fn keep_and_list(alloc: Global, kept: &mut Kept) -> Result<(), Fail> {
-    for born in [7u8, 3, 200, 1, 9] {
-        keep_confirm(alloc, kept, 255 - born, u64::from(born), 10)?;
-    }
-    keep_confirm(alloc, kept, 248, 8, 10)?;
+    keep_in_any_order(alloc, kept)?;
     let list = KeptList::from_vec(kept.list()?.into_vec());
-    compare_births(kept, list.as_slice(), &[1, 3, 8, 9, 200])
+    ensure(
+        are_found(kept, list.as_slice(), &[1, 3, 8, 9, 200]),
+        "each entry comes once and is found by its datagram, and the births rise",
+    )
 }
 
 #[test]
 fn a_list_is_by_rising_birth(rt: HostRuntime) -> Result<(), Fail> {
-    let mut kept = Kept::new(rt.alloc(), 65_536);
-    let ended = keep_and_list(rt.alloc(), &mut kept);
-    drop(kept);
-    ended
+    keep_and_list(rt.alloc(), &mut Kept::new(rt.alloc(), 65_536))
 }
 
 /// How many replies are kept where memory is refused.
 const MANY: u8 = 12;
 
-/// Keeps a reply at last: if a request for memory is refused, nothing has changed, and the same
-/// call is done with memory.
-fn keep_at_last(alloc: Global, kept: &mut Kept, octet: u8) -> Result<(), Fail> {
+/// Makes room at last: if a request for memory is refused, nothing has changed, and the same call is
+/// done with memory.
+fn reserve_at_last(kept: &mut Kept, len: usize) -> Result<(), Fail> {
     if let Err(fault) = kept.reserve(0) {
         all_hold(&[
             (fault == ReserveFault::Memory, "memory alone is wanting"),
-            (
-                kept.len() == usize::from(octet),
-                "room that is refused changes nothing",
-            ),
+            (kept.len() == len, "room that is refused changes nothing"),
         ])?;
         kept.reserve(0)?;
     }
-    insist(alloc, kept, octet)
+    Ok(())
+}
+
+/// Keeps a reply at last.
+fn keep_at_last(alloc: Global, kept: &mut Kept, octet: u8) -> Result<(), Fail> {
+    reserve_at_last(kept, usize::from(octet))?;
+    keep_registered(alloc, kept, octet, octet, 10)
+}
+
+/// Keeps replies, each at last.
+fn keep_many(alloc: Global, kept: &mut Kept) -> Result<(), Fail> {
+    for octet in 0..MANY {
+        keep_at_last(alloc, kept, octet)?;
+    }
+    Ok(())
 }
 
 /// Keeps replies, and lists them and their identifiers, each at last.
 fn fill_at_last(alloc: Global, kept: &mut Kept) -> Result<(), Fail> {
-    for octet in 0..MANY {
-        keep_at_last(alloc, kept, octet)?;
-    }
+    keep_many(alloc, kept)?;
     let many = usize::from(MANY);
     let identifiers = count_of_identifiers(kept)?;
     let listed = count_of_list(kept)?;
@@ -465,34 +387,7 @@ fn fill_at_last(alloc: Global, kept: &mut Kept) -> Result<(), Fail> {
 
 #[test]
 fn a_refusal_of_memory_changes_nothing(rt: HostRuntime) -> Result<(), Fail> {
-    let mut kept = Kept::new(rt.alloc(), 100);
-    let ended = fill_at_last(rt.alloc(), &mut kept);
-    drop(kept);
-    ended
-}
-
-/// The datagram of one octet, made once more if memory for it was refused.
-fn key_at_last(alloc: Global, octet: u8) -> Result<KeptKey, Fail> {
-    let octets = match single(alloc, octet) {
-        Ok(octets) => octets,
-        Err(_) => single(alloc, octet)?,
-    };
-    key_of(octets)
-}
-
-/// The confirm of a registration, made once more if memory for it was refused.
-fn registered_at_last(alloc: Global, last: u8) -> Result<KeptReply, Fail> {
-    let reply = match registered(alloc, few(alloc)?, last) {
-        Ok(reply) => reply,
-        Err(_) => registered(alloc, few(alloc)?, last)?,
-    };
-    Ok(kept_reply(alloc, &reply)?)
-}
-
-fn insist(alloc: Global, kept: &mut Kept, octet: u8) -> Result<(), Fail> {
-    let reply = registered_at_last(alloc, octet)?;
-    let datagram = key_at_last(alloc, octet)?;
-    keep(kept, datagram, u64::from(octet), reply, 10)
+    fill_at_last(rt.alloc(), &mut Kept::new(rt.alloc(), 100))
 }
 
 fn count_of_identifiers(kept: &Kept) -> Result<usize, Fail> {
@@ -513,8 +408,8 @@ fn count_of_list(kept: &Kept) -> Result<usize, Fail> {
 
 /// What a table hashes the datagram of one octet to.
 fn hash_of(alloc: Global, octet: u8) -> Result<u64, Fail> {
-    let datagram = key(alloc, octet)?;
-    Ok(BuildHasherDefault::<FoldHasher>::new().hash_one(&datagram))
+    let key = datagram(alloc, &[octet])?;
+    Ok(BuildHasherDefault::<FoldHasher>::new().hash_one(&key))
 }
 
 #[test]
@@ -531,14 +426,14 @@ fn datagrams_of_one_source_are_hashed_apart(rt: HostRuntime) -> Result<(), Fail>
 /// Enters a reply to the datagram of one octet without a search, if nothing is kept for it.
 fn add(alloc: Global, kept: &mut Kept, octet: u8, until: u64) -> Result<(), Fail> {
     kept.make_room()?;
-    let datagram = key(alloc, octet)?;
+    let key = datagram(alloc, &[octet])?;
     let born = u64::from(octet);
-    if kept.is_full() || kept.find(&datagram).is_some() || !kept.is_free(&datagram, born) {
+    if kept.is_full() || kept.find(&key).is_some() || !kept.is_free(&key, born) {
         return Err(Fail::from("it can't be kept"));
     }
     let reply = kept_reply(alloc, &confirm(u16::from(octet)))?;
     let state = KeptState::Done { reply, until };
-    kept.add(datagram, KeptEntry { born, state });
+    kept.add(key, KeptEntry { born, state });
     Ok(())
 }
 
@@ -561,8 +456,5 @@ fn add_two(alloc: Global, kept: &mut Kept) -> Result<(), Fail> {
 
 #[test]
 fn entries_are_added_without_a_search(rt: HostRuntime) -> Result<(), Fail> {
-    let mut kept = Kept::new(rt.alloc(), 2);
-    let ended = add_two(rt.alloc(), &mut kept);
-    drop(kept);
-    ended
+    add_two(rt.alloc(), &mut Kept::new(rt.alloc(), 2))
 }

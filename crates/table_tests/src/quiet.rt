@@ -1,36 +1,31 @@
 //! Changes of the tables that ask for no memory. Each test sets two marks, and `tools/try-memory`
 //! counts what is asked for between them.
 
-use crate::fixtures::{address, endpoint, kept_reply, no_alias, request_octets, seq};
-use admission::{Calls, Leg};
+use crate::fixtures::{
+    Change, add, address, alter, confirm, datagram, endpoint, has_leg_come, has_leg_gone, keep,
+    kept_reply, leg, open, registration,
+};
+use admission::Calls;
 use deadlines::Deadlines;
 use facts::ensure;
 use kept_replies::{Kept, KeptKey, KeptReply};
-use ras_module::{CallKey, EndpointId, Reply};
-use registrations::{Registration, Registrations};
+use ras_module::{CallKey, EndpointId};
+use registrations::Registrations;
 use std::alloc::{AllocError, Global};
 use std::test::Fail;
 
 /// How often each change is made.
 const TIMES: u64 = 1_000;
 
-/// A mark: memory for as many octets as nothing else asks for.
-fn mark(alloc: Global) -> Result<Vec<u8>, AllocError> {
-    Vec::with_capacity(alloc, 77_777)
+/// Sets a mark: asks for as many octets as nothing else asks for. How many it gets.
+fn mark(alloc: Global) -> Result<usize, AllocError> {
+    let octets: Vec<u8> = Vec::with_capacity(alloc, 77_777)?;
+    Ok(octets.capacity())
 }
 
-/// Lets go both marks, and returns what failed between them, if they were made.
-fn end(
-    first: Result<Vec<u8>, AllocError>,
-    second: Result<Vec<u8>, AllocError>,
-    ended: Result<(), Fail>,
-) -> Result<(), Fail> {
-    let are_alike = match (first, second) {
-        (Ok(first), Ok(second)) => first.capacity() == second.capacity(),
-        _ => false,
-    };
-    ended?;
-    ensure(are_alike, "there are two marks")
+/// Both marks were set.
+fn compare_marks(first: usize, second: usize) -> Result<(), Fail> {
+    ensure(first == second, "there are two marks")
 }
 
 /// How many places have moments.
@@ -58,55 +53,40 @@ fn change_moments(deadlines: &mut Deadlines) -> Result<(), Fail> {
     Ok(())
 }
 
+/// Changes moments between two marks.
+fn change_between_marks(deadlines: &mut Deadlines, alloc: Global) -> Result<(), Fail> {
+    let first = mark(alloc)?;
+    change_moments(deadlines)?;
+    let second = mark(alloc)?;
+    compare_marks(first, second)
+}
+
 #[test]
 fn changes_of_moments_ask_for_no_memory(rt: HostRuntime) -> Result<(), Fail> {
     let mut deadlines = moments(rt.alloc())?;
-    let first = mark(rt.alloc());
-    let ended = change_moments(&mut deadlines);
-    let second = mark(rt.alloc());
-    drop(deadlines);
-    end(first, second, ended)
+    change_between_marks(&mut deadlines, rt.alloc())
 }
 
-/// Registers the endpoint with this last digit; None if it can't be.
-fn register(table: &mut Registrations, alloc: Global, last: u8) -> Option<EndpointId> {
-    let at = address(last);
-    if table.by_address(at).is_some() {
-        return None;
+/// Registers an endpoint at the address that ends so.
+fn register(table: &mut Registrations, alloc: Global, last: u8) -> Result<EndpointId, Fail> {
+    let new = registration(alloc, endpoint(last), address(last), 10_000)?;
+    match add(table, new, &[]) {
+        Some(Ok(id)) => Ok(id),
+        _ => Err(Fail::from("the endpoint is registered")),
     }
-    let registration = Registration {
-        identifier: endpoint(last),
-        call_signal: at,
-        ras: at,
-        aliases: no_alias(alloc)?,
-        deadline: 10_000,
-        heard: 0,
-        tries: 0,
-        asked: 0,
-    };
-    table.add(registration, &[]).ok()
 }
 
 /// Hears a registered endpoint, asks it for a sign of life and grants it new times to live.
 fn live(table: &mut Registrations, id: &EndpointId) -> Result<(), Fail> {
     for time in 0..TIMES {
-        if table.get(id).is_none() {
-            return Err(Fail::from("the endpoint is heard"));
+        for change in [
+            Change::Hear(time),
+            Change::Renew(10_000 + time),
+            Change::Calm,
+            Change::Ask(time),
+        ] {
+            alter(table, id, change)?;
         }
-        table.hear(id, time);
-        if table.get(id).is_none() {
-            return Err(Fail::from("the endpoint is renewed"));
-        }
-        table.renew(id, 10_000 + time);
-        if table.get(id).is_none() {
-            return Err(Fail::from("the endpoint is calm"));
-        }
-        table.calm(id);
-        match table.get(id) {
-            Some(r) if r.tries < 16 => {}
-            _ => return Err(Fail::from("the endpoint is asked")),
-        }
-        table.asked(id, time);
     }
     Ok(())
 }
@@ -114,16 +94,8 @@ fn live(table: &mut Registrations, id: &EndpointId) -> Result<(), Fail> {
 /// Lets a registered endpoint take part in calls and leave them.
 fn take_part(table: &mut Registrations, id: &EndpointId) -> Result<(), Fail> {
     for _time in 0..TIMES {
-        match table.legs(id) {
-            Some(legs) if legs <= 20_000 => {}
-            _ => return Err(Fail::from("the endpoint takes part in a call")),
-        }
-        table.leg_comes(id);
-        match table.legs(id) {
-            Some(legs) if legs >= 1 => {}
-            _ => return Err(Fail::from("the endpoint leaves a call")),
-        }
-        table.leg_goes(id);
+        let is_done = has_leg_come(table, id) && has_leg_gone(table, id);
+        ensure(is_done, "the endpoint takes part in a call and leaves it")?;
     }
     Ok(())
 }
@@ -131,115 +103,88 @@ fn take_part(table: &mut Registrations, id: &EndpointId) -> Result<(), Fail> {
 /// Changes two registered endpoints, of which the second one goes.
 fn change_two(
     table: &mut Registrations,
-    first: Option<EndpointId>,
-    second: Option<EndpointId>,
+    first: &EndpointId,
+    second: &EndpointId,
 ) -> Result<(), Fail> {
-    let (first, second) = (
-        first.ok_or("the first one")?,
-        second.ok_or("the second one")?,
-    );
-    live(table, &first)?;
-    take_part(table, &second)?;
-    ensure(table.remove(&second).is_some(), "the second endpoint goes")
+    live(table, first)?;
+    take_part(table, second)?;
+    ensure(table.remove(second).is_some(), "the second endpoint goes")
+}
+
+/// Registers two endpoints, and changes them between two marks.
+fn register_and_change(table: &mut Registrations, alloc: Global) -> Result<(), Fail> {
+    let one = register(table, alloc, b'1')?;
+    let other = register(table, alloc, b'2')?;
+    let first = mark(alloc)?;
+    change_two(table, &one, &other)?;
+    let second = mark(alloc)?;
+    compare_marks(first, second)
 }
 
 #[test]
 fn changes_of_an_endpoint_ask_for_no_memory(rt: HostRuntime) -> Result<(), Fail> {
-    let mut table = Registrations::new(rt.alloc(), 10);
-    let first_id = register(&mut table, rt.alloc(), b'1');
-    let second_id = register(&mut table, rt.alloc(), b'2');
-    let first = mark(rt.alloc());
-    let ended = change_two(&mut table, first_id, second_id);
-    let second = mark(rt.alloc());
-    drop(table);
-    end(first, second, ended)
+    register_and_change(&mut Registrations::new(rt.alloc(), 10), rt.alloc())
 }
 
 /// Lets a second endpoint join a call, which gets other units, and leave it.
+fn change_once(calls: &mut Calls, key: &CallKey, units: u32) -> Result<(), Fail> {
+    let second = leg(b'2', b'1');
+    if calls.leg(key, &second.endpoint).is_some() {
+        return Err(Fail::from("the second endpoint isn't in the call"));
+    }
+    calls.join(*key, second)?;
+    calls.set_units(key, units)?;
+    let left = calls.leave(key, &endpoint(b'2'))?;
+    ensure(
+        left.ended.is_none(),
+        "the call goes on without the second endpoint",
+    )
+}
+
 fn change_call(calls: &mut Calls, key: &CallKey) -> Result<(), Fail> {
     for time in 0..TIMES {
-        let leg = Leg {
-            endpoint: endpoint(b'2'),
-            told: address(b'1'),
-        };
-        if calls.leg(key, &leg.endpoint).is_some() {
-            return Err(Fail::from("the second endpoint isn't in the call"));
-        }
-        calls.join(*key, leg)?;
-        calls.set_units(key, time as u32)?;
-        let left = calls.leave(key, &endpoint(b'2'))?;
-        ensure(
-            left.ended.is_none(),
-            "the call goes on without the second endpoint",
-        )?;
+        change_once(calls, key, time as u32)?;
     }
     Ok(())
 }
 
-fn open(calls: &mut Calls, key: CallKey) -> Result<(), Fail> {
-    if calls.get(&key).is_some() {
-        return Err(Fail::from("there is such a call"));
-    }
-    let leg = Leg {
-        endpoint: endpoint(b'1'),
-        told: address(b'2'),
-    };
-    calls.open(key, 0, 640, leg)?;
-    Ok(())
+/// Opens a call, and changes it between two marks.
+fn open_and_change(calls: &mut Calls, alloc: Global) -> Result<(), Fail> {
+    let key = CallKey { octets: [7; 16] };
+    let opened = open(calls, key, 0, 640, leg(b'1', b'2'));
+    ensure(opened == Some(Ok(())), "the call is opened")?;
+    let first = mark(alloc)?;
+    change_call(calls, &key)?;
+    let second = mark(alloc)?;
+    compare_marks(first, second)
 }
 
 #[test]
 fn changes_of_a_call_ask_for_no_memory(rt: HostRuntime) -> Result<(), Fail> {
-    let mut calls = Calls::new(rt.alloc(), 10);
-    let key = CallKey { octets: [7; 16] };
-    let opened = open(&mut calls, key);
-    let first = mark(rt.alloc());
-    let ended = match opened {
-        Ok(()) => change_call(&mut calls, &key),
-        Err(fail) => Err(fail),
-    };
-    let second = mark(rt.alloc());
-    drop(calls);
-    end(first, second, ended)
-}
-
-/// The datagram of one octet.
-fn key(alloc: Global, octet: u8) -> Result<KeptKey, Fail> {
-    let bytes = Vec::from_slice(alloc, &[octet])?;
-    Ok(KeptKey {
-        source: address(1),
-        bytes: request_octets(bytes)?,
-    })
+    open_and_change(&mut Calls::new(rt.alloc(), 10), rt.alloc())
 }
 
 /// Keeps this reply in an entry of its own, which goes again when it is over.
 fn keep_and_drop(kept: &mut Kept, key: KeptKey, reply: KeptReply, until: u64) -> Result<(), Fail> {
-    if kept.is_full() && kept.find(&key).is_none() {
-        return Err(Fail::from("there is no place"));
-    }
-    if !kept.is_free(&key, 1) || kept.reserve(0).is_err() {
-        return Err(Fail::from("it can't be kept"));
-    }
-    kept.keep(key, 1, reply, until);
+    keep(kept, key, 1, reply, until)?;
     let dropped = kept.drop_one_expired(until);
     ensure(dropped == Some(1), "the reply goes when it is over")
 }
 
 /// Keeps a first reply, for which the table makes room.
 fn keep_first(alloc: Global, kept: &mut Kept) -> Result<(), Fail> {
-    let reply = kept_reply(alloc, &Reply::Dcf { seq: seq(1) })?;
-    let datagram = key(alloc, 1)?;
-    keep_and_drop(kept, datagram, reply, 10)
+    let reply = kept_reply(alloc, &confirm(1))?;
+    keep_and_drop(kept, datagram(alloc, &[1])?, reply, 10)
 }
 
 /// Keeps a second reply between two marks.
 fn keep_second(alloc: Global, kept: &mut Kept) -> Result<(), Fail> {
-    let reply = kept_reply(alloc, &Reply::Dcf { seq: seq(2) })?;
-    let datagram = key(alloc, 2)?;
-    let first = mark(alloc);
-    let ended = keep_and_drop(kept, datagram, reply, 20);
-    let second = mark(alloc);
-    end(first, second, ended)
+    let reply = kept_reply(alloc, &confirm(2))?;
+    let key = datagram(alloc, &[2])?;
+    let first = mark(alloc)?;
+    keep_and_drop(kept, key, reply, 20)?;
+    let second = mark(alloc)?;
+    compare_marks(first, second)
 }
 
 /// Keeps one reply after the other.
@@ -250,8 +195,5 @@ fn keep_both(alloc: Global, kept: &mut Kept) -> Result<(), Fail> {
 
 #[test]
 fn a_reply_is_kept_and_goes_without_memory(rt: HostRuntime) -> Result<(), Fail> {
-    let mut kept = Kept::new(rt.alloc(), 10);
-    let ended = keep_both(rt.alloc(), &mut kept);
-    drop(kept);
-    ended
+    keep_both(rt.alloc(), &mut Kept::new(rt.alloc(), 10))
 }

@@ -1,8 +1,9 @@
 //! The rows of some endpoints: the number of their legs, and when their silence ends.
 
-use crate::fixtures::{address, endpoint, enter, no_alias};
+use crate::fixtures::{address, endpoint, enter, has_leg_come, has_leg_gone, registration};
 use facts::all_hold;
-use registrations::{Registration, Registrations, Times};
+use ras_module::EndpointId;
+use registrations::{Registrations, Times};
 use std::alloc::Global;
 use std::test::Fail;
 
@@ -24,45 +25,14 @@ const SECOND_SILENT: u64 = 40;
 /// A moment behind all others.
 const LATE: u64 = 999;
 
-/// A registration that was heard at this moment.
-fn registration(alloc: Global, last: u8, heard: u64) -> Option<Registration> {
-    Some(Registration {
-        identifier: endpoint(last),
-        call_signal: address(last),
-        ras: address(last),
-        aliases: no_alias(alloc)?,
-        deadline: 1000,
-        heard,
-        tries: 0,
-        asked: 0,
-    })
-}
-
 /// Registers an endpoint that was heard at this moment; once more if memory for it was refused.
 fn register(table: &mut Registrations, alloc: Global, last: u8, heard: u64) -> Result<(), Fail> {
     if table.reserve(1).is_err() {
         table.reserve(1)?;
     }
-    enter(
-        table,
-        registration(alloc, last, heard).ok_or("no alias is few")?,
-    )
-}
-
-/// Counts one leg more of an endpoint.
-fn comes(table: &mut Registrations, last: u8) {
-    let id = endpoint(last);
-    if table.get(&id).is_some() && matches!(table.legs(&id), Some(legs) if legs <= 20_000) {
-        table.leg_comes(&id);
-    }
-}
-
-/// Counts one leg fewer of an endpoint.
-fn goes(table: &mut Registrations, last: u8) {
-    let id = endpoint(last);
-    if table.get(&id).is_some() && matches!(table.legs(&id), Some(legs) if legs >= 1) {
-        table.leg_goes(&id);
-    }
+    let mut new = registration(alloc, endpoint(last), address(last), 1000)?;
+    new.heard = heard;
+    enter(table, new)
 }
 
 /// Whether this endpoint alone is silent from this moment on.
@@ -74,21 +44,38 @@ fn is_silent_from(table: &Registrations, moment: u64, last: u8) -> bool {
     is_silent && table.silent(moment.saturating_sub(1)).is_none()
 }
 
-/// Counts legs of two endpoints, which are silent only while they have one.
-fn be_silent_in_calls(table: &mut Registrations) -> Result<(), Fail> {
+/// Counts two legs of an endpoint, of which one goes.
+fn count_legs(table: &mut Registrations, id: &EndpointId) -> Result<(), Fail> {
+    let have_come = has_leg_come(table, id) && has_leg_come(table, id);
+    let has_gone = has_leg_gone(table, id);
+    all_hold(&[
+        (have_come && has_gone, "two legs come, and one of them goes"),
+        (table.legs(id) == Some(1), "the endpoint has one leg"),
+    ])
+}
+
+/// The silence of the first endpoint ends, if it alone has a leg.
+fn be_silent_alone(table: &mut Registrations) -> Result<(), Fail> {
     let is_nobody = table.silent(LATE).is_none();
-    comes(table, FIRST);
-    comes(table, FIRST);
-    goes(table, FIRST);
-    let has_leg = table.legs(&endpoint(FIRST)) == Some(1);
-    let is_silent = is_silent_from(table, FIRST_SILENT, FIRST);
-    comes(table, SECOND);
-    let is_second = is_silent_from(table, SECOND_SILENT, SECOND);
+    count_legs(table, &endpoint(FIRST))?;
     all_hold(&[
         (is_nobody, "nobody in no call is silent"),
-        (has_leg, "the first endpoint has one leg"),
-        (is_silent, "its silence ends"),
-        (is_second, "the second one's ends before it"),
+        (
+            is_silent_from(table, FIRST_SILENT, FIRST),
+            "the silence of the first endpoint ends",
+        ),
+    ])
+}
+
+/// The silence of the second endpoint ends before that, once it has a leg.
+fn be_silent_before(table: &mut Registrations) -> Result<(), Fail> {
+    let has_come = has_leg_come(table, &endpoint(SECOND));
+    all_hold(&[
+        (has_come, "a leg of the second endpoint comes"),
+        (
+            is_silent_from(table, SECOND_SILENT, SECOND),
+            "its silence ends before that of the first one",
+        ),
     ])
 }
 
@@ -117,25 +104,33 @@ fn take_legs(table: &mut Registrations) -> Result<(), Fail> {
     ])
 }
 
-/// Removes an endpoint from a table, whose copy keeps both with their legs and their silences.
+/// Finds both endpoints with their legs and their silences in a copy.
+fn compare_copy(copy: &Registrations) -> Result<(), Fail> {
+    all_hold(&[
+        (
+            copy.legs(&endpoint(FIRST)) == Some(1),
+            "the first endpoint has its leg in the copy",
+        ),
+        (
+            is_silent_from(copy, SECOND_SILENT, SECOND),
+            "the second one's silence ends in the copy",
+        ),
+    ])
+}
+
+/// Removes an endpoint from a table, whose copy keeps both.
 fn remove_beside_a_copy(table: &mut Registrations) -> Result<(), Fail> {
     let copy = table.copy().or_else(|_| table.copy())?;
-    let removed = remove_first(table);
-    let has_leg = copy.legs(&endpoint(FIRST)) == Some(1);
-    let has_silence = is_silent_from(&copy, SECOND_SILENT, SECOND);
-    drop(copy);
-    removed?;
-    all_hold(&[
-        (has_leg, "the first endpoint has its leg in the copy"),
-        (has_silence, "the second one's silence ends in the copy"),
-    ])
+    remove_first(table)?;
+    compare_copy(&copy)
 }
 
 /// Registers two endpoints, and changes their legs and their silences.
 fn change_rows(table: &mut Registrations, alloc: Global) -> Result<(), Fail> {
     register(table, alloc, FIRST, 20)?;
     register(table, alloc, SECOND, 10)?;
-    be_silent_in_calls(table)?;
+    be_silent_alone(table)?;
+    be_silent_before(table)?;
     remove_beside_a_copy(table)?;
     take_legs(table)
 }
@@ -143,7 +138,5 @@ fn change_rows(table: &mut Registrations, alloc: Global) -> Result<(), Fail> {
 #[test]
 fn a_row_has_its_legs_and_its_silence(rt: HostRuntime) -> Result<(), Fail> {
     let mut table = Registrations::with_times(rt.alloc(), 4, TIMES);
-    let ended = change_rows(&mut table, rt.alloc());
-    drop(table);
-    ended
+    change_rows(&mut table, rt.alloc())
 }
