@@ -86,9 +86,7 @@ fn counts_of_set<P: Pool>(
     let Ok(mut set) = PoolSet::new(pools) else {
         return Err(Fail::from("one idle pool makes a set"));
     };
-    let ended = counts_behind(&mut set, row, limit, deeds);
-    drop(set);
-    ended
+    counts_behind(&mut set, row, limit, deeds)
 }
 
 /// Does these deeds with a pool of this limit, which then has counted these waits, requests and

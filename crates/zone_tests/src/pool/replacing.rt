@@ -4,9 +4,9 @@ use crate::counting::{CountingPool, Counts, Met, NOTHING};
 use crate::fixtures::{all_hold_of, pool_of};
 use crate::pool::deeds::Deed::Ask;
 use crate::pool::deeds::{
-    Boxed, Row, Shown, counting, counts_of, figures, have_met, lending, shown, try_deeds,
+    Boxed, Row, Shown, counting, counts_of, drops_of, figures, have_met, lending, shown, try_deeds,
 };
-use facts::all_hold;
+use facts::{all_hold, ensure};
 use pools::Lend::{Lent, Refused, Wait};
 use pools::{Figures, FixedPool, Pool, PoolSet, StandardPool};
 use ras_core::figures_of;
@@ -103,9 +103,7 @@ fn try_offer(alloc: Global, fresh: StandardPool, offer: &Offer) -> Result<(), Fa
     let Ok(mut set) = PoolSet::new(pools) else {
         return Err(Fail::from("one idle pool makes a set"));
     };
-    let ended = offer_to(&mut set, fresh, offer);
-    drop(set);
-    ended
+    offer_to(&mut set, fresh, offer)
 }
 
 #[test]
@@ -181,9 +179,7 @@ fn replace_much_in<P: Pool>(pools: Vec<P>, fresh: P) -> Result<(), Fail> {
     let Ok(mut set) = PoolSet::new(pools) else {
         return Err(Fail::from("one idle pool makes a set"));
     };
-    let ended = replace_much(&mut set, fresh);
-    drop(set);
-    ended
+    replace_much(&mut set, fresh)
 }
 
 /// Does so in a set of one pool, with one that counts there.
@@ -199,10 +195,7 @@ fn lend_in_parts(alloc: Global, met: &Arc<Met>) -> Result<(), Fail> {
 #[test]
 fn many_units_are_lent_in_parts(rt: HostRuntime) -> Result<(), Fail> {
     let met = Arc::new(rt.alloc(), Met::new())?;
-    let ended = lend_in_parts(rt.alloc(), &met);
-    let counts = met.counts();
-    drop(met);
-    ended?;
+    lend_in_parts(rt.alloc(), &met)?;
     let expected = Counts {
         lends: 3,
         asked: 9_000_000_000,
@@ -211,32 +204,45 @@ fn many_units_are_lent_in_parts(rt: HostRuntime) -> Result<(), Fail> {
         drops: 1,
         ..NOTHING
     };
-    all_hold(&[(
-        counts == expected,
+    ensure(
+        met.counts() == expected,
         "the fresh pool was asked for all units, and for the rest at last",
-    )])
+    )
 }
 
-/// Of four pools, the third one takes the place of the first one in a set of two, of which nothing
-/// is lent. Then the second one lends, and the fourth one takes its place. The first pool that
-/// comes back is given one turn, and the second one two.
-fn replace_both<P: Pool>(set: &mut PoolSet<P>, third: P, fourth: P) -> Result<(), Fail> {
-    let (fault, mut first) = replace(set, 0, third);
+/// Puts a pool in the place of the first one, of which nothing is lent. That one is given a turn.
+fn replace_first<P: Pool>(set: &mut PoolSet<P>, fresh: P) -> Result<(), Fail> {
+    let (fault, mut first) = replace(set, 0, fresh);
     first.turn();
     drop(first);
-    let is_unasked = shown(set, 0) == Some(((figures(100, 0, 0), None), 0, 0));
-    let lent = try_deeds(set, "the second pool", &[(1, Ask(70, Lent(70)), 70, 0)]);
-    let (second_fault, mut second) = replace(set, 1, fourth);
+    all_hold(&[
+        (fault == 0, "the first pool is replaced"),
+        (
+            shown(set, 0) == Some(((figures(100, 0, 0), None), 0, 0)),
+            "a pool isn't asked if nothing is lent",
+        ),
+    ])
+}
+
+/// Puts a pool in the place of the second one, which has lent. That one is given two turns.
+fn replace_second<P: Pool>(set: &mut PoolSet<P>, fresh: P) -> Result<(), Fail> {
+    let (fault, mut second) = replace(set, 1, fresh);
     let is_idle = second.lent() == 0;
     second.turn();
     second.turn();
     drop(second);
-    lent?;
     all_hold(&[
-        (fault == 0 && second_fault == 0, "both pools are replaced"),
-        (is_unasked, "a pool isn't asked if nothing is lent"),
-        (is_idle, "the second pool comes back with nothing lent"),
+        (fault == 0, "the second pool is replaced"),
+        (is_idle, "it comes back with nothing lent"),
     ])
+}
+
+/// Of four pools, the third one takes the place of the first one in a set of two. Then the second
+/// one lends, and the fourth one takes its place.
+fn replace_both<P: Pool>(set: &mut PoolSet<P>, third: P, fourth: P) -> Result<(), Fail> {
+    replace_first(set, third)?;
+    try_deeds(set, "the second pool", &[(1, Ask(70, Lent(70)), 70, 0)])?;
+    replace_second(set, fourth)
 }
 
 /// Does so with four pools that count there, and closes the set.
@@ -248,21 +254,15 @@ fn replace_counted<P: Pool>(pools: Vec<P>, mets: &[Arc<Met>]) -> Result<(), Fail
     let Ok(mut set) = PoolSet::new(pools) else {
         return Err(Fail::from("two idle pools make a set"));
     };
-    let ended = replace_both(&mut set, third, fourth);
+    replace_both(&mut set, third, fourth)?;
     let back = set.close();
-    let mut drops: u64 = 0;
-    for met in mets {
-        drops = drops.saturating_add(met.counts().drops);
-    }
+    let drops = drops_of(mets);
     drop(back);
-    ended?;
-    all_hold(&[(drops == 2, "no pool is dropped by the set")])
+    ensure(drops == 2, "no pool is dropped by the set")
 }
 
-#[test]
-fn the_same_boxes_come_back(rt: HostRuntime) -> Result<(), Fail> {
-    let mets = counts_of(rt.alloc(), 4)?;
-    let ended = replace_counted(counting(rt.alloc(), &mets)?, &mets);
+/// What the four pools have met then.
+fn met_by_four() -> [Counts; 4] {
     let idle = Counts {
         drops: 1,
         ..NOTHING
@@ -274,14 +274,20 @@ fn the_same_boxes_come_back(rt: HostRuntime) -> Result<(), Fail> {
         returns: 1,
         ..idle
     };
-    let expected = [
+    [
         Counts { turns: 1, ..idle },
         Counts { turns: 2, ..lent },
         idle,
         lent,
-    ];
-    let have_met = have_met(&mets, &expected);
-    drop(mets);
-    ended?;
-    all_hold(&[(have_met, "each pool was called as it should be")])
+    ]
+}
+
+#[test]
+fn the_same_boxes_come_back(rt: HostRuntime) -> Result<(), Fail> {
+    let mets = counts_of(rt.alloc(), 4)?;
+    replace_counted(counting(rt.alloc(), &mets)?, &mets)?;
+    ensure(
+        have_met(&mets, &met_by_four()),
+        "each pool was called as it should be",
+    )
 }
