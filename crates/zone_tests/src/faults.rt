@@ -1,11 +1,8 @@
 //! The numbers of faults, and the messages of those of pools.
 
-use facts::ensure_of;
 use history::WorldFault;
 use pools::{PoolFault, ReplaceFault};
 use ras_core::{ConfigFault, NewFault, StepFault};
-use std::alloc::Global;
-use std::fmt::Display;
 use std::test::Fail;
 
 #[test]
@@ -25,58 +22,37 @@ fn faults_have_their_numbers(rt: HostRuntime) {
     }
 }
 
-/// A fault has this message.
-fn compare_message<F: Display>(alloc: Global, fault: &F, message: &str) -> Result<(), Fail> {
-    let text = format!(in alloc; "{fault}")?;
-    ensure_of(message, text.as_str() == message, "it is the message")
-}
-
-const OF_POOLS: [(PoolFault, u8, &str); 3] = [
-    (PoolFault::Empty, 1, "there is no pool"),
-    (PoolFault::TooMany, 2, "there are more than 16 pools"),
-    (
-        PoolFault::NotIdle,
-        3,
-        "a pool is not idle: it has units lent, or has counted 2^62 refusals or waits",
-    ),
-];
-
-const OF_REPLACING: [(ReplaceFault, u8, &str); 5] = [
-    (ReplaceFault::Closed, 1, "no more changes are taken"),
-    (ReplaceFault::NoPool, 2, "there is no pool at this index"),
-    (
-        ReplaceFault::NotIdle,
-        3,
-        "the fresh pool is not idle: it has units lent, or has counted 2^62 refusals or waits",
-    ),
-    (
-        ReplaceFault::NotLent,
-        4,
-        "the fresh pool does not lend what the pool in the set has lent",
-    ),
-    (ReplaceFault::Memory, 5, "there is no memory"),
-];
-
-/// Compares the faults of sets of pools.
-fn compare_faults_of_pools(alloc: Global) -> Result<(), Fail> {
-    for (fault, number, message) in OF_POOLS {
-        ensure_of(message, fault.number() == number, "it has its number")?;
-        compare_message(alloc, &fault, message)?;
-    }
-    Ok(())
-}
-
-/// Compares the faults for which a pool isn't replaced.
-fn compare_faults_of_replacing(alloc: Global) -> Result<(), Fail> {
-    for (fault, number, message) in OF_REPLACING {
-        ensure_of(message, fault.number() == number, "it has its number")?;
-        compare_message(alloc, &fault, message)?;
-    }
-    Ok(())
-}
-
 #[test]
 fn faults_of_pools_have_numbers_and_messages(rt: HostRuntime) -> Result<(), Fail> {
-    compare_faults_of_pools(rt.alloc())?;
-    compare_faults_of_replacing(rt.alloc())
+    for (fault, number, message) in [
+        (PoolFault::Empty, 1, "there is no pool"),
+        (PoolFault::TooMany, 2, "there are more than 16 pools"),
+        (
+            PoolFault::NotIdle,
+            3,
+            "a pool is not idle: it has units lent, or has counted 2^62 refusals or waits",
+        ),
+    ] {
+        assert!(rt; fault.number() == number);
+        assert!(rt; format!(in rt.alloc(); "{fault}")?.as_str() == message);
+    }
+    for (fault, number, message) in [
+        (ReplaceFault::Closed, 1, "no more changes are taken"),
+        (ReplaceFault::NoPool, 2, "there is no pool at this index"),
+        (
+            ReplaceFault::NotIdle,
+            3,
+            "the fresh pool is not idle: it has units lent, or has counted 2^62 refusals or waits",
+        ),
+        (
+            ReplaceFault::NotLent,
+            4,
+            "the fresh pool does not lend what the pool in the set has lent",
+        ),
+        (ReplaceFault::Memory, 5, "there is no memory"),
+    ] {
+        assert!(rt; fault.number() == number);
+        assert!(rt; format!(in rt.alloc(); "{fault}")?.as_str() == message);
+    }
+    Ok(())
 }

@@ -74,10 +74,9 @@ pub fn event_from(
 
 /// Two endpoints register in the worked zone, and the first one calls the second one.
 pub fn open_call(alloc: Global, zone: &mut Zone<FixedPool>) -> Result<(), Fail> {
-    let requests: [(u8, &[u8]); 3] = [(5, &RRQ_101), (6, &RRQ_102), (5, &ARQ)];
-    for (last, request) in requests {
-        zone.step(event_from(alloc, source(last), request, 0)?)?;
-    }
+    drop(zone.step(event(alloc, &RRQ_101, 0)?)?);
+    drop(zone.step(event_from(alloc, source(6), &RRQ_102, 0)?)?);
+    drop(zone.step(event(alloc, &ARQ, 0)?)?);
     Ok(())
 }
 

@@ -143,15 +143,6 @@ pub fn have_met(mets: &[Arc<Met>], counts: &[Counts]) -> bool {
     mets.len() == counts.len()
 }
 
-/// How often one of the pools was dropped.
-pub fn drops_of(mets: &[Arc<Met>]) -> u64 {
-    let mut drops: u64 = 0;
-    for met in mets {
-        drops = drops.saturating_add(met.counts().drops);
-    }
-    drops
-}
-
 /// A pool of 10 units that has lent one.
 pub fn lending() -> Result<FixedPool, Fail> {
     let mut pool = FixedPool::new(10);

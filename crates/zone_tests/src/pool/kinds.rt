@@ -86,7 +86,9 @@ fn counts_of_set<P: Pool>(
     let Ok(mut set) = PoolSet::new(pools) else {
         return Err(Fail::from("one idle pool makes a set"));
     };
-    counts_behind(&mut set, row, limit, deeds)
+    let ended = counts_behind(&mut set, row, limit, deeds);
+    drop(set);
+    ended
 }
 
 /// Does these deeds with a pool of this limit, which then has counted these waits, requests and

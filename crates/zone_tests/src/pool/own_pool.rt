@@ -1,9 +1,7 @@
 //! A pool of one's own.
 ghost use Rattle.std.specs.Prelude.{◌≤◌};
 
-use facts::all_hold;
 use pools::{Figures, FixedPool, Lend, Pool, PoolSet};
-use std::alloc::Global;
 use std::test::Fail;
 
 /// A pool that lends to one request at most half of what is left, so that no call takes it all.
@@ -95,35 +93,18 @@ fn are_two(pools: &[Box<dyn Pool + Send>]) -> bool {
     first.lent() == 0
 }
 
-/// A pool of one's own, and one of the library's.
-fn two_pools(alloc: Global) -> Result<Vec<Box<dyn Pool + Send>>, Fail> {
+#[test]
+fn pool_of_ones_own_is_lent_from_in_a_set(rt: HostRuntime) -> Result<(), Fail> {
+    let alloc = rt.alloc();
     let mut pools: Vec<Box<dyn Pool + Send>> = Vec::new(alloc);
     pools.push(Box::new(alloc, HalvingPool::new(100))?)?;
     pools.push(Box::new(alloc, FixedPool::new(2500))?)?;
-    Ok(pools)
-}
-
-/// What the first pool of a set answers to two requests for 80 units, and whether both pools come
-/// back, that one with nothing lent.
-fn answers(alloc: Global) -> Result<(Lend, Lend, bool), Fail> {
-    match ask_twice(two_pools(alloc)?, 80) {
-        Some((first, second, back)) => Ok((first, second, are_two(&back))),
-        None => Err(Fail::from("two idle pools make a set")),
-    }
-}
-
-#[test]
-fn pool_of_ones_own_is_lent_from_in_a_set(rt: HostRuntime) -> Result<(), Fail> {
-    let (first, second, are_two) = answers(rt.alloc())?;
-    all_hold(&[
-        (
-            first == Lend::Lent(50),
-            "the first request gets half of all",
-        ),
-        (
-            second == Lend::Lent(25),
-            "the second one gets half of the rest",
-        ),
-        (are_two, "both pools come back, the first with nothing lent"),
-    ])
+    let Some((first, second, back)) = ask_twice(pools, 80) else {
+        panic!(rt; "refused");
+    };
+    let are_two = are_two(&back);
+    drop(back);
+    assert!(rt; (first, second) == (Lend::Lent(50), Lend::Lent(25)));
+    assert!(rt; are_two);
+    Ok(())
 }

@@ -4,9 +4,9 @@ use crate::counting::{CountingPool, Counts, Met, NOTHING};
 use crate::fixtures::{all_hold_of, pool_of};
 use crate::pool::deeds::Deed::Ask;
 use crate::pool::deeds::{
-    Boxed, Row, Shown, counting, counts_of, drops_of, figures, have_met, lending, shown, try_deeds,
+    Boxed, Row, Shown, counting, counts_of, figures, have_met, lending, shown, try_deeds,
 };
-use facts::{all_hold, ensure};
+use facts::all_hold;
 use pools::Lend::{Lent, Refused, Wait};
 use pools::{Figures, FixedPool, Pool, PoolSet, StandardPool};
 use ras_core::figures_of;
@@ -103,7 +103,9 @@ fn try_offer(alloc: Global, fresh: StandardPool, offer: &Offer) -> Result<(), Fa
     let Ok(mut set) = PoolSet::new(pools) else {
         return Err(Fail::from("one idle pool makes a set"));
     };
-    offer_to(&mut set, fresh, offer)
+    let ended = offer_to(&mut set, fresh, offer);
+    drop(set);
+    ended
 }
 
 #[test]
@@ -179,7 +181,9 @@ fn replace_much_in<P: Pool>(pools: Vec<P>, fresh: P) -> Result<(), Fail> {
     let Ok(mut set) = PoolSet::new(pools) else {
         return Err(Fail::from("one idle pool makes a set"));
     };
-    replace_much(&mut set, fresh)
+    let ended = replace_much(&mut set, fresh);
+    drop(set);
+    ended
 }
 
 /// Does so in a set of one pool, with one that counts there.
@@ -195,7 +199,10 @@ fn lend_in_parts(alloc: Global, met: &Arc<Met>) -> Result<(), Fail> {
 #[test]
 fn many_units_are_lent_in_parts(rt: HostRuntime) -> Result<(), Fail> {
     let met = Arc::new(rt.alloc(), Met::new())?;
-    lend_in_parts(rt.alloc(), &met)?;
+    let ended = lend_in_parts(rt.alloc(), &met);
+    let counts = met.counts();
+    drop(met);
+    ended?;
     let expected = Counts {
         lends: 3,
         asked: 9_000_000_000,
@@ -204,45 +211,32 @@ fn many_units_are_lent_in_parts(rt: HostRuntime) -> Result<(), Fail> {
         drops: 1,
         ..NOTHING
     };
-    ensure(
-        met.counts() == expected,
+    all_hold(&[(
+        counts == expected,
         "the fresh pool was asked for all units, and for the rest at last",
-    )
+    )])
 }
 
-/// Puts a pool in the place of the first one, of which nothing is lent. That one is given a turn.
-fn replace_first<P: Pool>(set: &mut PoolSet<P>, fresh: P) -> Result<(), Fail> {
-    let (fault, mut first) = replace(set, 0, fresh);
+/// Of four pools, the third one takes the place of the first one in a set of two, of which nothing
+/// is lent. Then the second one lends, and the fourth one takes its place. The first pool that
+/// comes back is given one turn, and the second one two.
+fn replace_both<P: Pool>(set: &mut PoolSet<P>, third: P, fourth: P) -> Result<(), Fail> {
+    let (fault, mut first) = replace(set, 0, third);
     first.turn();
     drop(first);
-    all_hold(&[
-        (fault == 0, "the first pool is replaced"),
-        (
-            shown(set, 0) == Some(((figures(100, 0, 0), None), 0, 0)),
-            "a pool isn't asked if nothing is lent",
-        ),
-    ])
-}
-
-/// Puts a pool in the place of the second one, which has lent. That one is given two turns.
-fn replace_second<P: Pool>(set: &mut PoolSet<P>, fresh: P) -> Result<(), Fail> {
-    let (fault, mut second) = replace(set, 1, fresh);
+    let is_unasked = shown(set, 0) == Some(((figures(100, 0, 0), None), 0, 0));
+    let lent = try_deeds(set, "the second pool", &[(1, Ask(70, Lent(70)), 70, 0)]);
+    let (second_fault, mut second) = replace(set, 1, fourth);
     let is_idle = second.lent() == 0;
     second.turn();
     second.turn();
     drop(second);
+    lent?;
     all_hold(&[
-        (fault == 0, "the second pool is replaced"),
-        (is_idle, "it comes back with nothing lent"),
+        (fault == 0 && second_fault == 0, "both pools are replaced"),
+        (is_unasked, "a pool isn't asked if nothing is lent"),
+        (is_idle, "the second pool comes back with nothing lent"),
     ])
-}
-
-/// Of four pools, the third one takes the place of the first one in a set of two. Then the second
-/// one lends, and the fourth one takes its place.
-fn replace_both<P: Pool>(set: &mut PoolSet<P>, third: P, fourth: P) -> Result<(), Fail> {
-    replace_first(set, third)?;
-    try_deeds(set, "the second pool", &[(1, Ask(70, Lent(70)), 70, 0)])?;
-    replace_second(set, fourth)
 }
 
 /// Does so with four pools that count there, and closes the set.
@@ -254,15 +248,21 @@ fn replace_counted<P: Pool>(pools: Vec<P>, mets: &[Arc<Met>]) -> Result<(), Fail
     let Ok(mut set) = PoolSet::new(pools) else {
         return Err(Fail::from("two idle pools make a set"));
     };
-    replace_both(&mut set, third, fourth)?;
+    let ended = replace_both(&mut set, third, fourth);
     let back = set.close();
-    let drops = drops_of(mets);
+    let mut drops: u64 = 0;
+    for met in mets {
+        drops = drops.saturating_add(met.counts().drops);
+    }
     drop(back);
-    ensure(drops == 2, "no pool is dropped by the set")
+    ended?;
+    all_hold(&[(drops == 2, "no pool is dropped by the set")])
 }
 
-/// What the four pools have met then.
-fn met_by_four() -> [Counts; 4] {
+#[test]
+fn the_same_boxes_come_back(rt: HostRuntime) -> Result<(), Fail> {
+    let mets = counts_of(rt.alloc(), 4)?;
+    let ended = replace_counted(counting(rt.alloc(), &mets)?, &mets);
     let idle = Counts {
         drops: 1,
         ..NOTHING
@@ -274,20 +274,14 @@ fn met_by_four() -> [Counts; 4] {
         returns: 1,
         ..idle
     };
-    [
+    let expected = [
         Counts { turns: 1, ..idle },
         Counts { turns: 2, ..lent },
         idle,
         lent,
-    ]
-}
-
-#[test]
-fn the_same_boxes_come_back(rt: HostRuntime) -> Result<(), Fail> {
-    let mets = counts_of(rt.alloc(), 4)?;
-    replace_counted(counting(rt.alloc(), &mets)?, &mets)?;
-    ensure(
-        have_met(&mets, &met_by_four()),
-        "each pool was called as it should be",
-    )
+    ];
+    let have_met = have_met(&mets, &expected);
+    drop(mets);
+    ended?;
+    all_hold(&[(have_met, "each pool was called as it should be")])
 }

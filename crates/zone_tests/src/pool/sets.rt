@@ -3,9 +3,9 @@
 use crate::counting::{Counts, Met};
 use crate::pool::deeds::Deed::{Ask, TakeBack, Turn};
 use crate::pool::deeds::{
-    Boxed, Row, counting, counts_of, drops_of, figures, have_met, lending, shown, try_deeds,
+    Boxed, Row, counting, counts_of, figures, have_met, lending, shown, try_deeds,
 };
-use facts::{all_hold, ensure};
+use facts::all_hold;
 use pools::Lend::{Lent, Refused};
 use pools::{FixedPool, Pool, PoolFault, PoolSet};
 use std::alloc::Global;
@@ -151,7 +151,10 @@ fn close<P: Pool>(set: PoolSet<P>, mets: &[Arc<Met>]) -> Result<(), Fail> {
     let mut back = set.close();
     let are_idle = are_idle(&back);
     let are_in_place = are_in_place(&mut back, mets);
-    let drops = drops_of(mets);
+    let mut drops: u64 = 0;
+    for met in mets {
+        drops = drops.saturating_add(met.counts().drops);
+    }
     drop(back);
     all_hold(&[
         (are_idle, "three pools come back with nothing lent"),
@@ -165,29 +168,31 @@ fn end_set<P: Pool>(pools: Vec<P>, mets: &[Arc<Met>], is_closed: bool) -> Result
     let Ok(mut set) = PoolSet::new(pools) else {
         return Err(Fail::from("three idle pools make a set"));
     };
-    do_deeds(&mut set)?;
-    if is_closed { close(set, mets) } else { Ok(()) }
+    match do_deeds(&mut set) {
+        Ok(()) if is_closed => close(set, mets),
+        ended => {
+            drop(set);
+            ended
+        }
+    }
 }
 
-/// What the pools have met then: a turn more each if they came back.
-fn met_by_three(is_closed: bool) -> [Counts; 3] {
-    let turns = if is_closed { 3 } else { 2 };
+/// Does so with pools of its own. They have met what they should, and a turn more each if they came
+/// back.
+fn end_counted(alloc: Global, is_closed: bool) -> Result<(), Fail> {
+    let mets = counts_of(alloc, 3)?;
+    let ended = end_set(counting(alloc, &mets)?, &mets, is_closed);
     let [first, second, third] = ENDED;
-    [
+    let turns = if is_closed { 3 } else { 2 };
+    let expected = [
         Counts { turns, ..first },
         Counts { turns, ..second },
         Counts { turns, ..third },
-    ]
-}
-
-/// Does so with pools of its own, which have met what they should then.
-fn end_counted(alloc: Global, is_closed: bool) -> Result<(), Fail> {
-    let mets = counts_of(alloc, 3)?;
-    end_set(counting(alloc, &mets)?, &mets, is_closed)?;
-    ensure(
-        have_met(&mets, &met_by_three(is_closed)),
-        "each pool was called as it should be",
-    )
+    ];
+    let have_met = have_met(&mets, &expected);
+    drop(mets);
+    ended?;
+    all_hold(&[(have_met, "each pool was called as it should be")])
 }
 
 #[test]

@@ -154,13 +154,17 @@ fn alter_and_replay(
 /// Does so with a book that begins at this zone.
 fn replay_from(alloc: Global, zone: &mut Zone<FixedPool>, what: Altered) -> Result<bool, Fail> {
     let mut book = Book::new(alloc, zone.snapshot()?);
-    alter_and_replay(alloc, &mut book, zone, what)
+    let replays = alter_and_replay(alloc, &mut book, zone, what);
+    drop(book);
+    replays
 }
 
 /// Whether the book of a call in a zone of its own leads to that, once it was altered so.
 fn replays_with(alloc: Global, what: Altered) -> Result<bool, Fail> {
     let mut zone = zone(alloc)?;
-    replay_from(alloc, &mut zone, what)
+    let replays = replay_from(alloc, &mut zone, what);
+    drop(zone);
+    replays
 }
 
 #[test]

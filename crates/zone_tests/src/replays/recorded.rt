@@ -9,50 +9,42 @@ use std::alloc::Global;
 use std::test::Fail;
 use vectors::requests::{ARQ, GRQ, RRQ_101, RRQ_102};
 
-/// The zone makes a step of this event.
-fn entry_of(zone: &mut Zone<FixedPool>, call: usize, event: Event) -> Result<Entry, Fail> {
+/// The zone makes a step of this event, which is added to the book.
+fn record(book: &mut Book, zone: &mut Zone<FixedPool>, event: Event) -> Result<(), Fail> {
+    book.reserve_entry()?;
     let kept = event.copy()?;
     let outcome = zone.step(event)?;
-    Ok(Entry {
+    let call = book.entries.len();
+    book.add_reserved(Entry {
         seat: 0,
         call,
         event: Change::Event(kept),
         outcome,
-    })
-}
-
-/// The zone makes a step of this event, which is added to the book.
-fn record(book: &mut Book, zone: &mut Zone<FixedPool>, event: Event) -> Result<(), Fail> {
-    let entry = entry_of(zone, book.entries.len(), event)?;
-    book.reserve_entry()?;
-    book.add_reserved(entry);
+    });
     Ok(())
 }
 
-/// A pool of 2,000 units takes the place of the one from which the call has its bandwidth.
-fn entry_of_replacement(zone: &mut Zone<FixedPool>, call: usize) -> Result<Entry, Fail> {
+/// A pool of 2,000 units takes the place of the one from which the call has its bandwidth, which is
+/// added to the book.
+fn replace(book: &mut Book, zone: &mut Zone<FixedPool>) -> Result<(), Fail> {
+    book.reserve_entry()?;
     let fresh = FixedPool::new(2_000);
     let change = PoolChange {
         pool: 0,
         offered: figures_of(&fresh),
         moment: Moment::new(6).ok_or("a moment")?,
     };
-    match zone.replace(0, fresh, change.moment) {
-        Ok((outcome, _)) => Ok(Entry {
-            seat: 0,
-            call,
-            event: Change::PoolChange(change),
-            outcome,
-        }),
-        Err(_) => Err(Fail::from("a pool that is replaced")),
-    }
-}
-
-/// The pool is replaced, which is added to the book.
-fn replace(book: &mut Book, zone: &mut Zone<FixedPool>) -> Result<(), Fail> {
-    let entry = entry_of_replacement(zone, book.entries.len())?;
-    book.reserve_entry()?;
-    book.add_reserved(entry);
+    let Ok((outcome, old)) = zone.replace(0, fresh, change.moment) else {
+        return Err(Fail::from("a pool that is replaced"));
+    };
+    drop(old);
+    let call = book.entries.len();
+    book.add_reserved(Entry {
+        seat: 0,
+        call,
+        event: Change::PoolChange(change),
+        outcome,
+    });
     Ok(())
 }
 

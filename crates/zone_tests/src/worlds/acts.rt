@@ -74,24 +74,14 @@ fn is_so(comes: &Comes, acted: &Result<Acted, WorldFault>) -> bool {
     }
 }
 
-/// Does one act: whether it comes to what it should, and the number of the fault that is told
-/// beforehand.
-fn done(
-    alloc: Global,
-    world: &mut World<FixedPool>,
-    row: &Row,
-) -> Result<(bool, Option<u8>), Fail> {
-    let (_, w, act, comes) = row;
+/// Does one act. A refusal is told beforehand.
+fn try_act(alloc: Global, world: &mut World<FixedPool>, row: &Row) -> Result<(), Fail> {
+    let (name, w, act, comes) = row;
     let step = step_of(alloc, *w, *act)?;
     let told = world.refusal(&step).map(|fault| fault.number());
     let acted = world.act(step);
-    Ok((is_so(comes, &acted), told))
-}
-
-/// Does one act. A refusal is told beforehand.
-fn try_act(alloc: Global, world: &mut World<FixedPool>, row: &Row) -> Result<(), Fail> {
-    let (is_so, told) = done(alloc, world, row)?;
-    let (name, _, _, comes) = row;
+    let is_so = is_so(comes, &acted);
+    drop(acted);
     let refused = match comes {
         Comes::Refused(number) => Some(*number),
         _ => None,
@@ -174,5 +164,7 @@ pub fn try_world(
     in_use: u64,
 ) -> Result<(), Fail> {
     let mut world = world(alloc, 2, places)?;
-    go_through(alloc, &mut world, opening, rows, entries, in_use)
+    let ended = go_through(alloc, &mut world, opening, rows, entries, in_use);
+    drop(world);
+    ended
 }

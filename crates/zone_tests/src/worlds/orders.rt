@@ -104,13 +104,15 @@ fn fill_ring(alloc: Global, world: &mut World<FixedPool>) -> Result<(), Fail> {
 #[test]
 fn a_ring_of_one_drops_the_second_reply(rt: HostRuntime) -> Result<(), Fail> {
     let mut world = world(rt.alloc(), 1, 1)?;
-    fill_ring(rt.alloc(), &mut world)?;
+    let filled = fill_ring(rt.alloc(), &mut world);
     let (zone, book) = world.close();
+    let steps = zone.steps();
+    let entries = book.entries.len();
+    drop(zone);
+    drop(book);
+    filled?;
     all_hold(&[
-        (
-            zone.steps() == 4,
-            "a closed world leaves its zone, of four steps",
-        ),
-        (book.entries.len() == 4, "it leaves a book of four steps"),
+        (steps == 4, "a closed world leaves its zone, of four steps"),
+        (entries == 4, "it leaves a book of four steps"),
     ])
 }

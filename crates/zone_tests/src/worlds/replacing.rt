@@ -2,29 +2,16 @@
 
 use crate::fixtures::{CALL, POOL, open_call, zone};
 use crate::worlds::acts::{Act, Comes, Row, find_run, try_acts};
-use facts::{all_hold, ensure};
+use facts::all_hold;
 use history::World;
-use pools::{Figures, FixedPool, ReplaceFault};
-use ras_core::{Change, Moment, Note, Zone, figures_of};
+use pools::{FixedPool, Pool, ReplaceFault};
+use ras_core::{Change, Moment, Note, Zone};
 use std::alloc::Global;
 use std::test::Fail;
 use vectors::requests::GRQ;
 
 /// The units of the fresh pools.
 const FRESH: u64 = 2_000;
-
-/// Offers a pool of this limit in the place of that one: why it is refused, and what the pool that
-/// comes back shows.
-fn refusal_of(
-    world: &mut World<FixedPool>,
-    pool: usize,
-    limit: u64,
-) -> Result<(ReplaceFault, Figures), Fail> {
-    match world.replace(pool, FixedPool::new(limit), Moment::START) {
-        Ok(_) => Err(Fail::from("the pool is refused")),
-        Err((back, fault)) => Ok((fault, figures_of(&back))),
-    }
-}
 
 /// A pool of this limit is offered in the place of that one, and refused for this reason. It comes
 /// back with nothing lent.
@@ -34,13 +21,15 @@ fn offer_in_vain(
     limit: u64,
     fault: ReplaceFault,
 ) -> Result<(), Fail> {
-    let (found, back) = refusal_of(world, pool, limit)?;
+    let fresh = FixedPool::new(limit);
+    let Err((back, found)) = world.replace(pool, fresh, Moment::START) else {
+        return Err(Fail::from("the pool is refused"));
+    };
+    let is_back = back.limit() == limit && back.lent() == 0;
+    drop(back);
     all_hold(&[
         (found == fault, "a pool is refused for its reason"),
-        (
-            back.limit == limit && back.lent == 0,
-            "it comes back with nothing lent",
-        ),
+        (is_back, "it comes back with nothing lent"),
     ])
 }
 
@@ -63,21 +52,15 @@ fn find_replacement(world: &World<FixedPool>) -> Result<(), Fail> {
     ])
 }
 
-/// Puts a fresh pool in the place of the first one. What that one shows then.
-fn figures_of_old(world: &mut World<FixedPool>) -> Result<Figures, Fail> {
-    match world.replace(0, FixedPool::new(FRESH), Moment::START) {
-        Ok(old) => Ok(figures_of(&old)),
-        Err(_) => Err(Fail::from("a pool that can carry the loans is taken")),
-    }
-}
-
 /// The first pool is replaced, and the old one, of this limit, comes back with nothing lent.
 fn exchange(world: &mut World<FixedPool>, limit: u64) -> Result<(), Fail> {
-    let old = figures_of_old(world)?;
-    ensure(
-        old.limit == limit && old.lent == 0,
-        "the old pool comes back with nothing lent",
-    )?;
+    let fresh = FixedPool::new(FRESH);
+    let Ok(old) = world.replace(0, fresh, Moment::START) else {
+        return Err(Fail::from("a pool that can carry the loans is taken"));
+    };
+    let is_back = old.limit() == limit && old.lent() == 0;
+    drop(old);
+    all_hold(&[(is_back, "the old pool comes back with nothing lent")])?;
     find_replacement(world)
 }
 
@@ -111,12 +94,19 @@ fn replace_over(alloc: Global, zone: Zone<FixedPool>) -> Result<(), Fail> {
     let Ok(mut world) = World::new(alloc, zone, 2, 1) else {
         return Err(Fail::from("there is a world"));
     };
-    replace_over_a_call(alloc, &mut world)
+    let ended = replace_over_a_call(alloc, &mut world);
+    drop(world);
+    ended
 }
 
 #[test]
 fn a_pool_is_replaced_between_the_steps_of_workers(rt: HostRuntime) -> Result<(), Fail> {
     let mut zone = zone(rt.alloc())?;
-    open_call(rt.alloc(), &mut zone)?;
-    replace_over(rt.alloc(), zone)
+    match open_call(rt.alloc(), &mut zone) {
+        Ok(()) => replace_over(rt.alloc(), zone),
+        Err(fail) => {
+            drop(zone);
+            Err(fail)
+        }
+    }
 }

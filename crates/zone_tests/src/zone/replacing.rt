@@ -3,8 +3,8 @@
 
 use crate::fixtures::{CALL, CALL_LIMIT, POOL, REST, all_hold_of, event, open_call, zone};
 use facts::all_hold;
-use pools::{Figures, FixedPool, Lend, Pool, ReplaceFault};
-use ras_core::{Moment, Note, Outcome, Zone, figures_of};
+use pools::{FixedPool, Lend, Pool, ReplaceFault};
+use ras_core::{Moment, Note, Outcome, Zone};
 use std::alloc::Global;
 use std::test::Fail;
 use vectors::requests::{ARQ_OF_A_SECOND_CALL, BRQ};
@@ -44,61 +44,30 @@ const OFFERS: [Offer; 3] = [
     ),
 ];
 
-/// The pool of an offer.
-fn offered(offer: &Offer) -> FixedPool {
-    let (_, _, limit, has_lent, _, _) = *offer;
+/// Offers a pool, which is refused. It comes back with what it had lent.
+fn offer_in_vain(zone: &mut Zone<FixedPool>, offer: &Offer) -> Result<(), Fail> {
+    let (row, pool, limit, has_lent, fault, last) = *offer;
     let mut fresh = FixedPool::new(limit);
     if has_lent {
         let _ = fresh.lend(1);
     }
-    fresh
-}
-
-/// Why a pool is refused: what is told beforehand, if it isn't asked, and what is found; and what
-/// the pool that comes back shows.
-#[derive(Clone, Copy)]
-struct Refusal {
-    told: Option<ReplaceFault>,
-    found: ReplaceFault,
-    figures: Figures,
-    last: Option<(u64, Lend)>,
-}
-
-/// Offers a pool, which is refused.
-fn refusal_of(zone: &mut Zone<FixedPool>, offer: &Offer) -> Result<Refusal, Fail> {
-    let place = offer.1;
-    let fresh = offered(offer);
-    let told = zone.fault_unasked(place, &fresh);
-    let Err((back, found)) = zone.replace(place, fresh, Moment::START) else {
+    let lent = fresh.lent();
+    let told = zone.fault_unasked(pool, &fresh);
+    let Err((back, found)) = zone.replace(pool, fresh, Moment::START) else {
         return Err(Fail::from("the pool is refused"));
     };
-    Ok(Refusal {
-        told,
-        found,
-        figures: figures_of(&back),
-        last: back.last(),
-    })
-}
-
-/// Offers a pool, which is refused. It comes back with what it had lent.
-fn offer_in_vain(zone: &mut Zone<FixedPool>, offer: &Offer) -> Result<(), Fail> {
-    let (row, _, limit, has_lent, fault, last) = *offer;
-    let refused = refusal_of(zone, offer)?;
-    let is_told = match refused.told {
+    let is_back = back.limit() == limit && back.lent() == lent && back.last() == last;
+    drop(back);
+    let is_told = match told {
         Some(told) => told == fault,
         None => fault == ReplaceFault::NotLent,
     };
-    let lent = if has_lent { 1 } else { 0 };
     all_hold_of(
         row,
         &[
-            (refused.found == fault, "it is refused for this reason"),
+            (found == fault, "it is refused for this reason"),
             (is_told, "the reason is told beforehand"),
-            (
-                refused.figures.limit == limit && refused.figures.lent == lent,
-                "it comes back with what it had lent",
-            ),
-            (refused.last == last, "it comes back with its last request"),
+            (is_back, "it comes back with what it had lent"),
             (zone.in_use() == CALL, "the call keeps its units"),
             (zone.steps() == 3, "what is refused is no step"),
         ],
@@ -119,24 +88,17 @@ fn compare_replacement(outcome: &Outcome) -> Result<(), Fail> {
     ])
 }
 
-/// Puts a fresh pool in the place of the zone's: the outcome, and what the pool of before shows.
-fn exchange(zone: &mut Zone<FixedPool>) -> Result<(Outcome, Figures), Fail> {
-    match zone.replace(0, FixedPool::new(FRESH), Moment::START) {
-        Ok((outcome, old)) => Ok((outcome, figures_of(&old))),
-        Err(_) => Err(Fail::from("the pool is replaced")),
-    }
-}
-
 /// Puts a fresh pool in the place of the zone's, which comes back with nothing lent. The call keeps
 /// its units.
 fn replace(zone: &mut Zone<FixedPool>) -> Result<(), Fail> {
-    let (outcome, old) = exchange(zone)?;
+    let Ok((outcome, old)) = zone.replace(0, FixedPool::new(FRESH), Moment::START) else {
+        return Err(Fail::from("the pool is replaced"));
+    };
+    let is_back = old.limit() == POOL && old.lent() == 0 && old.refusals() == 0;
+    drop(old);
     compare_replacement(&outcome)?;
     all_hold(&[
-        (
-            old.limit == POOL && old.lent == 0 && old.refusals == 0,
-            "the pool of before comes back with nothing lent",
-        ),
+        (is_back, "the pool of before comes back with nothing lent"),
         (zone.in_use() == CALL, "the call keeps its units"),
         (zone.steps() == 4, "the replacement was a step"),
     ])
@@ -151,11 +113,13 @@ fn ask(
     answer: Lend,
     in_use: u64,
 ) -> Result<(), Fail> {
-    let answered = zone.step(event(alloc, request, 0)?)?.answer;
+    let outcome = zone.step(event(alloc, request, 0)?)?;
+    let is_answered = outcome.answer == Some(answer);
+    drop(outcome);
     all_hold_of(
         row,
         &[
-            (answered == Some(answer), "the pool answers so"),
+            (is_answered, "the pool answers so"),
             (zone.in_use() == in_use, "so many units are in use"),
         ],
     )
@@ -184,5 +148,7 @@ fn go_on_over_a_fresh_pool(alloc: Global, zone: &mut Zone<FixedPool>) -> Result<
 #[test]
 fn a_call_goes_on_over_a_fresh_pool(rt: HostRuntime) -> Result<(), Fail> {
     let mut zone = zone(rt.alloc())?;
-    go_on_over_a_fresh_pool(rt.alloc(), &mut zone)
+    let ended = go_on_over_a_fresh_pool(rt.alloc(), &mut zone);
+    drop(zone);
+    ended
 }

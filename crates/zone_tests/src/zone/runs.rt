@@ -10,7 +10,7 @@ use crate::fixtures::{CALL, POOL, all_hold_in, event_from, parts, pool_of, sourc
 use crate::zone::standing::{Holder, Leg, find_calls, find_endpoints};
 use facts::ensure_of;
 use pools::{Figures, Lend, Pool, StandardPool};
-use ras_core::{ConfigParts, DueItem, Event, Moment, Network, Networks, Note, Zone, figures_of};
+use ras_core::{DueItem, Event, Moment, Network, Networks, Note, Zone, figures_of};
 use std::alloc::Global;
 use std::sync::Arc;
 use std::test::Fail;
@@ -122,51 +122,37 @@ struct Seen {
 }
 
 impl Seen {
-    /// A pool of this limit, of which nothing was called.
-    fn new(limit: u64) -> Seen {
-        Seen {
-            counts: NOTHING,
-            figures: Figures {
-                limit,
-                lent: 0,
-                refusals: 0,
-                waits: 0,
-            },
-            last: None,
-        }
-    }
-
-    /// The pool was asked, and answered so.
-    fn ask(&mut self, asked: u64, answer: Lend) {
-        self.last = Some((asked, answer));
-        self.counts.lends = self.counts.lends.saturating_add(1);
-        self.counts.asked = self.counts.asked.saturating_add(asked);
-        self.counts.asked_last = asked;
-        match answer {
-            Lend::Lent(units) => self.counts.lent = self.counts.lent.saturating_add(units),
-            Lend::Refused => self.figures.refusals = self.figures.refusals.saturating_add(1),
-            Lend::Wait => self.figures.waits = self.figures.waits.saturating_add(1),
-        }
-    }
-
-    /// So many units are lent then: what was lent beyond these came back at once.
-    fn settle(&mut self, in_use: u64) {
-        if self.counts.lent > in_use {
-            self.counts.returns = self.counts.returns.saturating_add(1);
-        }
-        self.counts.lent = in_use;
-        self.figures.lent = in_use;
-    }
-
     /// What is to be seen behind a further step.
-    fn step(&mut self, line: &Line<'_>) {
+    fn behind(self, line: &Line<'_>) -> Seen {
+        let Seen {
+            mut counts,
+            mut figures,
+            mut last,
+        } = self;
         let (_, _, _, _, kind, answer, in_use, _) = *line;
         if let Some((asked, answer)) = answer {
-            self.ask(asked, answer);
+            last = Some((asked, answer));
+            counts.lends = counts.lends.saturating_add(1);
+            counts.asked = counts.asked.saturating_add(asked);
+            counts.asked_last = asked;
+            match answer {
+                Lend::Lent(units) => counts.lent = counts.lent.saturating_add(units),
+                Lend::Refused => figures.refusals = figures.refusals.saturating_add(1),
+                Lend::Wait => figures.waits = figures.waits.saturating_add(1),
+            }
         }
-        self.settle(in_use);
+        if counts.lent > in_use {
+            counts.returns = counts.returns.saturating_add(1);
+        }
         if kind == Kind::PoolTurn {
-            self.counts.turns = self.counts.turns.saturating_add(1);
+            counts.turns = counts.turns.saturating_add(1);
+        }
+        counts.lent = in_use;
+        figures.lent = in_use;
+        Seen {
+            counts,
+            figures,
+            last,
         }
     }
 }
@@ -179,8 +165,15 @@ struct Counted {
     second: Arc<Met>,
 }
 
-/// The settings of a run, with a network for each of two pools.
-fn parts_of(alloc: Global, run: &Run<'_>) -> Result<ConfigParts, Fail> {
+/// A pool of a run, which counts there.
+fn counting(run: &Run<'_>, met: &Arc<Met>) -> Result<CountingPool<StandardPool>, Fail> {
+    CountingPool::new(pool_of(run.pool, 0, run.burst), met)
+}
+
+/// The zone of a run, in which nothing has happened.
+fn begin(alloc: Global, run: &Run<'_>) -> Result<Counted, Fail> {
+    let first = Arc::new(alloc, Met::new())?;
+    let second = Arc::new(alloc, Met::new())?;
     let office = Network {
         ip: [10, 1, 0, 0],
         bits: 16,
@@ -190,29 +183,10 @@ fn parts_of(alloc: Global, run: &Run<'_>) -> Result<ConfigParts, Fail> {
     for (key, number) in run.set {
         key.set(&mut parts, *number);
     }
-    Ok(parts)
-}
-
-/// The two pools of a run, each of which counts there.
-fn pools_of(
-    alloc: Global,
-    run: &Run<'_>,
-    first: &Arc<Met>,
-    second: &Arc<Met>,
-) -> Result<Vec<CountingPool<StandardPool>>, Fail> {
     let mut pools = Vec::new(alloc);
-    for met in [first, second] {
-        pools.push(CountingPool::new(pool_of(run.pool, 0, run.burst), met)?)?;
-    }
-    Ok(pools)
-}
-
-/// The zone of a run, in which nothing has happened.
-fn begin(alloc: Global, run: &Run<'_>) -> Result<Counted, Fail> {
-    let first = Arc::new(alloc, Met::new())?;
-    let second = Arc::new(alloc, Met::new())?;
-    let pools = pools_of(alloc, run, &first, &second)?;
-    let zone = zone_over(alloc, parts_of(alloc, run)?, pools)?;
+    pools.push(counting(run, &first)?)?;
+    pools.push(counting(run, &second)?)?;
+    let zone = zone_over(alloc, parts, pools)?;
     Ok(Counted {
         zone,
         first,
@@ -242,7 +216,7 @@ fn shown(zone: &Zone<CountingPool<StandardPool>>) -> Option<Figures> {
 /// Looks at the zone and its pools behind this step.
 fn look(counted: &Counted, run: &str, line: &Line<'_>, seen: Seen) -> Result<(), Fail> {
     let (name, _, _, _, _, _, in_use, endpoints) = *line;
-    let registered = registered(counted)?;
+    let registered = counted.zone.endpoints()?.as_slice().len();
     let first = Counts {
         turns: seen.counts.turns,
         ..NOTHING
@@ -269,71 +243,50 @@ fn look(counted: &Counted, run: &str, line: &Line<'_>, seen: Seen) -> Result<(),
     )
 }
 
-/// What an outcome tells: what is noted, what the pool answered, if it was asked, and whether an
-/// identifier was given.
-type Told = (Option<Kind>, Option<Lend>, bool);
-
-/// Makes this step.
-fn told_by_step(alloc: Global, counted: &mut Counted, line: &Line<'_>) -> Result<Told, Fail> {
-    let event = event_of(alloc, line)?;
-    let outcome = counted.zone.step(event)?;
-    Ok((
-        kind_of(outcome.note),
-        outcome.answer,
-        outcome.given.is_some(),
-    ))
-}
-
-/// How many endpoints are registered.
-fn registered(counted: &Counted) -> Result<usize, Fail> {
-    Ok(counted.zone.endpoints()?.as_slice().len())
-}
-
 /// Makes this step. An identifier is given in it exactly if there are more endpoints then.
 fn make_step(alloc: Global, counted: &mut Counted, run: &str, line: &Line<'_>) -> Result<(), Fail> {
-    let (name, _, _, _, kind, asked, _, endpoints) = *line;
-    let before = registered(counted)?;
-    let (noted, answer, is_given) = told_by_step(alloc, counted, line)?;
-    let told = match asked {
+    let (name, _, _, _, kind, answer, _, endpoints) = *line;
+    let before = counted.zone.endpoints()?.as_slice().len();
+    let outcome = counted.zone.step(event_of(alloc, line)?)?;
+    let is_noted = kind_of(outcome.note) == Some(kind);
+    let told = match answer {
         Some((_, answer)) => Some(answer),
         None => None,
     };
+    let is_answered = outcome.answer == told;
+    let is_given = outcome.given.is_some() == (endpoints > before);
+    drop(outcome);
     all_hold_in(
         run,
         name,
         &[
-            (noted == Some(kind), "it is noted as it should be"),
-            (answer == told, "the pool answers so, if it is asked"),
-            (
-                is_given == (endpoints > before),
-                "an identifier is given to who is new alone",
-            ),
+            (is_noted, "it is noted as it should be"),
+            (is_answered, "the pool answers so, if it is asked"),
+            (is_given, "an identifier is given to who is new alone"),
         ],
     )
 }
 
-/// Makes these steps of a run, and looks behind each at what is to be seen.
-fn make_lines(
-    alloc: Global,
-    counted: &mut Counted,
-    run: &str,
-    lines: &[Line<'_>],
-    seen: &mut Seen,
-) -> Result<(), Fail> {
-    for line in lines {
-        make_step(alloc, counted, run, line)?;
-        seen.step(line);
-        look(counted, run, line, *seen)?;
-    }
-    Ok(())
-}
-
-/// Makes the steps of a run, and looks at the end at what stands in the zone. What is seen behind
-/// the last step.
+/// Makes the steps of a run, and looks behind each, and at the end at what stands in the zone. What
+/// is seen behind the last step.
 fn make_steps(alloc: Global, counted: &mut Counted, run: &Run<'_>) -> Result<Seen, Fail> {
-    let mut seen = Seen::new(run.pool);
-    make_lines(alloc, counted, run.name, run.opening, &mut seen)?;
-    make_lines(alloc, counted, run.name, run.lines, &mut seen)?;
+    let mut seen = Seen {
+        counts: NOTHING,
+        figures: Figures {
+            limit: run.pool,
+            lent: 0,
+            refusals: 0,
+            waits: 0,
+        },
+        last: None,
+    };
+    for lines in [run.opening, run.lines] {
+        for line in lines {
+            make_step(alloc, counted, run.name, line)?;
+            seen = seen.behind(line);
+            look(counted, run.name, line, seen)?;
+        }
+    }
     find_endpoints(alloc, &counted.zone, run.name, run.endpoints)?;
     find_calls(alloc, &counted.zone, run.name, run.legs)?;
     Ok(seen)

@@ -1,7 +1,7 @@
 //! The settings of a zone, and its pools' networks.
 
 use crate::fixtures::{DAY, POOL, parts};
-use facts::all_hold;
+use facts::{all_hold, ensure};
 use pools::{FixedPool, PoolSet};
 use ras_core::{Config, ConfigFault, ConfigParts, Network, Networks, NewFault, Zone};
 use std::alloc::Global;
@@ -25,9 +25,7 @@ const GRANT: u64 = 4_294_967_295;
 
 /// A limit, how many calls, how often an endpoint is asked, the pools' turn, a least grant, and the
 /// first key of them that is out of its range, if one is.
-type Case = (u64, u64, u64, u64, u64, &'static str);
-
-const CASES: [Case; 8] = [
+const CASES: [(u64, u64, u64, u64, u64, &str); 8] = [
     (1, 1, 1, 1, 0, ""),
     (LIMIT_MOST, CALLS_MOST, 16, DAY, GRANT, ""),
     (LIMIT_MOST + 1, CALLS_MOST + 1, 17, DAY + 1, 0, "zone.limit"),
@@ -38,94 +36,79 @@ const CASES: [Case; 8] = [
     (1, 1, 1, 1, GRANT + 1, "zone.least_grant"),
 ];
 
-/// Whether the settings of a case are judged by its key.
-fn is_judged_so(alloc: Global, case: &Case) -> Result<bool, Fail> {
-    let (limit, calls, asks, pool_turn, least_grant, key) = *case;
-    let mut parts = parts(alloc)?;
-    parts.limit = limit;
-    parts.calls = calls;
-    parts.asks = asks;
-    parts.pool_turn = pool_turn;
-    parts.least_grant = least_grant;
-    Ok(is_judged(parts, key))
-}
-
 #[test]
 fn a_key_out_of_its_range_is_named(rt: HostRuntime) -> Result<(), Fail> {
-    for case in &CASES {
-        let (limit, calls, asks, pool_turn, least_grant, _) = *case;
-        let is_judged_so = is_judged_so(rt.alloc(), case)?;
+    for (limit, calls, asks, pool_turn, least_grant, key) in CASES {
+        let mut parts = parts(rt.alloc())?;
+        parts.limit = limit;
+        parts.calls = calls;
+        parts.asks = asks;
+        parts.pool_turn = pool_turn;
+        parts.least_grant = least_grant;
         assert!(rt;
-            is_judged_so,
+            is_judged(parts, key),
             "{limit} {calls} {asks} {pool_turn} {least_grant}"
         );
     }
     Ok(())
 }
 
-/// Settings with these networks.
-fn settings_with(alloc: Global, networks: &[Option<Network>]) -> Result<ConfigParts, Fail> {
+/// Makes a zone over one pool with these networks, which is refused unless they are one. The pool
+/// comes back then.
+fn make(alloc: Global, networks: &[Option<Network>]) -> Result<(), Fail> {
     let mut parts = parts(alloc)?;
     parts.networks = Networks::from_vec(networks.to_vec(alloc)?);
-    Ok(parts)
-}
-
-fn one_pool(alloc: Global) -> Result<Vec<FixedPool>, Fail> {
-    let mut pools = Vec::new(alloc);
-    pools.push(FixedPool::new(POOL))?;
-    Ok(pools)
-}
-
-/// Why no zone over one pool is made with these networks, if none is, and whether the pool comes
-/// back then.
-fn fault_of(alloc: Global, networks: &[Option<Network>]) -> Result<Option<(NewFault, bool)>, Fail> {
-    let Ok(config) = Config::new(settings_with(alloc, networks)?) else {
+    let Ok(config) = Config::new(parts) else {
         return Err(Fail::from("the settings are in their ranges"));
     };
-    let Ok(set) = PoolSet::new(one_pool(alloc)?) else {
-        return Err(Fail::from("one idle pool makes a set"));
+    let mut pools = Vec::new(alloc);
+    pools.push(FixedPool::new(POOL))?;
+    let Ok(set) = PoolSet::new(pools) else {
+        return Err(Fail::from("one idle pool"));
     };
     match Zone::new(alloc, config, set) {
-        Ok(_) => Ok(None),
+        Ok(_) => ensure(networks.len() == 1, "a zone over one pool has one network"),
         Err((set, fault)) => {
             let is_back = set.len() == 1 && set.figures(0).limit == POOL;
-            Ok(Some((fault, is_back)))
+            drop(set);
+            all_hold(&[
+                (is_back, "the pool comes back"),
+                (
+                    fault == NewFault::WrongPools,
+                    "the pools are named as the fault",
+                ),
+                (
+                    networks.len() != 1,
+                    "a zone with one network is made over one pool",
+                ),
+            ])
         }
     }
 }
 
-/// Whether settings with this one network are refused, since no pool is for all other addresses.
-fn has_no_default(alloc: Global, office: Network) -> Result<bool, Fail> {
-    let refused = Config::new(settings_with(alloc, &[Some(office)])?);
-    Ok(matches!(refused, Err(ConfigFault::NoDefaultPool)))
-}
-
-const OFFICE: Network = Network {
-    ip: [10, 1, 0, 0],
-    bits: 16,
-};
-
 #[test]
 fn a_zone_has_a_pool_for_each_network(rt: HostRuntime) -> Result<(), Fail> {
-    let one = fault_of(rt.alloc(), &[None])?;
-    let two = fault_of(rt.alloc(), &[Some(OFFICE), None])?;
-    let has_no_default = has_no_default(rt.alloc(), OFFICE)?;
+    let alloc = rt.alloc();
+    let office = Network {
+        ip: [10, 1, 0, 0],
+        bits: 16,
+    };
+    make(alloc, &[None])?;
+    make(alloc, &[Some(office), None])?;
+    let mut parts = parts(alloc)?;
+    parts.networks = Networks::from_vec([Some(office)].to_vec(alloc)?);
+    let refused = Config::new(parts);
     all_hold(&[
-        (one.is_none(), "a zone over one pool has one network"),
         (
-            two == Some((NewFault::WrongPools, true)),
-            "two networks are refused for the pools, and the pool comes back",
-        ),
-        (
-            OFFICE.holds([10, 1, 255, 1]),
+            office.holds([10, 1, 255, 1]),
             "the network holds its last address",
         ),
         (
-            !OFFICE.holds([10, 2, 0, 1]),
+            !office.holds([10, 2, 0, 1]),
             "it holds none of the next one",
         ),
         (
-            has_no_default,
+            matches!(refused, Err(ConfigFault::NoDefaultPool)),
             "settings with no pool for all other addresses are refused",
         ),
     ])

@@ -3,8 +3,8 @@
 use facts::ensure_of;
 use pools::Pool;
 use ras_core::Zone;
-use ras_module::{Address, Alias, CallKey, EndpointId};
-use std::alloc::{AllocError, Global};
+use ras_module::{Address, Alias};
+use std::alloc::Global;
 use std::test::Fail;
 
 /// The identifiers 0001, 0002 and 0003.
@@ -59,35 +59,22 @@ fn last_of(address: &Address, port: u16) -> u8 {
     }
 }
 
-/// The last number of an endpoint's addresses for call signalling and for RAS messages.
-fn last_of_both(call_signal: &Address, ras: &Address) -> u8 {
-    let last = last_of(call_signal, 1720);
-    if last_of(ras, 1719) == last { last } else { 0 }
-}
-
-/// Adds an endpoint, once for each of its aliases: its identifier, the last number of its two
-/// addresses, when its time to live ends, and when it was heard.
-fn add_holders(
-    holders: &mut Vec<Holder>,
-    endpoint: ([u16; 4], u8, u64, u64),
-    aliases: &[Alias],
-) -> Result<(), AllocError> {
-    let (identifier, last, deadline, heard) = endpoint;
-    for alias in aliases {
-        holders.push((identifier, last, three_of(alias), deadline, heard))?;
-    }
-    Ok(())
-}
-
 /// The endpoints of a zone, by rising identifier.
-fn holders_of<P: Pool>(alloc: Global, zone: &Zone<P>) -> Result<Vec<Holder>, AllocError> {
+fn holders_of<P: Pool>(alloc: Global, zone: &Zone<P>) -> Result<Vec<Holder>, Fail> {
     let endpoints = zone.endpoints()?;
     let mut holders = Vec::new(alloc);
-    for found in endpoints.as_slice() {
-        let identifier = four_of(found.identifier.as_slice());
-        let last = last_of_both(&found.call_signal, &found.ras);
-        let endpoint = (identifier, last, found.deadline, found.heard);
-        add_holders(&mut holders, endpoint, found.aliases.as_slice())?;
+    for endpoint in endpoints.as_slice() {
+        let identifier = four_of(endpoint.identifier.as_slice());
+        let called = last_of(&endpoint.call_signal, 1720);
+        let last = if last_of(&endpoint.ras, 1719) == called {
+            called
+        } else {
+            0
+        };
+        for alias in endpoint.aliases.as_slice() {
+            let alias = three_of(alias);
+            holders.push((identifier, last, alias, endpoint.deadline, endpoint.heard))?;
+        }
     }
     Ok(holders)
 }
@@ -100,37 +87,27 @@ pub fn find_endpoints<P: Pool>(
     expected: &[Holder],
 ) -> Result<(), Fail> {
     let holders = holders_of(alloc, zone)?;
-    ensure_of(
-        row,
-        holders.as_slice() == expected,
-        "these endpoints are registered at the end",
-    )
-}
-
-/// The octet of a call's key, if each is this one, and the call has its units of the second pool.
-fn octet_of(key: &CallKey, pool: usize) -> u8 {
-    let [first, ..] = key.octets;
-    if key.octets == [first; 16] && pool == 1 {
-        first
-    } else {
-        0
-    }
-}
-
-/// A leg of a call with this octet and these units.
-fn leg_of(octet: u8, units: u32, endpoint: &EndpointId, told: &Address) -> Leg {
-    let identifier = four_of(endpoint.as_slice());
-    (octet, u64::from(units), identifier, last_of(told, 1720))
+    let are_found = holders.as_slice() == expected;
+    drop(holders);
+    ensure_of(row, are_found, "these endpoints are registered at the end")
 }
 
 /// The calls of a zone, by rising key.
-fn legs_of<P: Pool>(alloc: Global, zone: &Zone<P>) -> Result<Vec<Leg>, AllocError> {
+fn legs_of<P: Pool>(alloc: Global, zone: &Zone<P>) -> Result<Vec<Leg>, Fail> {
     let calls = zone.calls()?;
     let mut legs = Vec::new(alloc);
     for (key, call) in calls.as_slice() {
-        let octet = octet_of(key, call.pool);
+        let [first, ..] = key.octets;
+        let is_its_own = key.octets == [first; 16] && call.pool == 1;
+        let octet = if is_its_own { first } else { 0 };
         for leg in call.legs.as_slice() {
-            legs.push(leg_of(octet, call.units, &leg.endpoint, &leg.told))?;
+            let identifier = four_of(leg.endpoint.as_slice());
+            legs.push((
+                octet,
+                u64::from(call.units),
+                identifier,
+                last_of(&leg.told, 1720),
+            ))?;
         }
     }
     Ok(legs)
@@ -144,9 +121,7 @@ pub fn find_calls<P: Pool>(
     expected: &[Leg],
 ) -> Result<(), Fail> {
     let legs = legs_of(alloc, zone)?;
-    ensure_of(
-        row,
-        legs.as_slice() == expected,
-        "these calls are open at the end",
-    )
+    let are_found = legs.as_slice() == expected;
+    drop(legs);
+    ensure_of(row, are_found, "these calls are open at the end")
 }

@@ -1,7 +1,7 @@
 //! Steps of a zone: runs of events, events that are read before, and moments.
 
 use crate::fixtures::{ENDPOINT, event, sent, zone};
-use facts::{all_hold, ensure};
+use facts::all_hold;
 use pools::FixedPool;
 use ras_core::{Event, IgnoredCause, Moment, Note, Outcome, Zone, prepare};
 use std::alloc::Global;
@@ -26,25 +26,18 @@ fn is_ignored(outcome: &Outcome, cause: IgnoredCause) -> bool {
     outcome.output.is_none() && outcome.note == Note::Ignored(cause)
 }
 
-/// Whether the outcome is that this reply is sent, and nothing else.
-fn is_sent(alloc: Global, outcome: &Outcome, reply: &[u8]) -> Result<bool, Fail> {
-    Ok(*outcome == sent(alloc, reply)?)
-}
-
 /// Compares outcomes with those of the five events.
 fn compare_five(alloc: Global, outcomes: &[Outcome]) -> Result<(), Fail> {
     let [first, second, cut, other, long] = outcomes else {
         return Err(Fail::from("there are five outcomes"));
     };
-    let is_confirmed = is_sent(alloc, first, &GCF)?;
-    let is_rejected = is_sent(alloc, second, &GRJ)?;
     all_hold(&[
         (
-            is_confirmed,
+            *first == sent(alloc, &GCF)?,
             "any gatekeeper is confirmed, and nothing else is told",
         ),
         (
-            is_rejected,
+            *second == sent(alloc, &GRJ)?,
             "another gatekeeper is rejected, and nothing else is told",
         ),
         (
@@ -62,19 +55,17 @@ fn compare_five(alloc: Global, outcomes: &[Outcome]) -> Result<(), Fail> {
     ])
 }
 
-/// Runs over the five events, the whole run. Their outcomes.
-fn outcomes_of_five(alloc: Global, zone: &mut Zone<FixedPool>) -> Result<Vec<Outcome>, Fail> {
-    let events = five_events(alloc)?;
-    let mut outcomes = Vec::new(alloc);
-    ensure(zone.run(&events, &mut outcomes).is_ok(), "the run is whole")?;
-    Ok(outcomes)
-}
-
 /// Runs over the five events, which leaves the zone five steps on, at the latest moment.
 fn run_on(alloc: Global, zone: &mut Zone<FixedPool>) -> Result<(), Fail> {
-    let outcomes = outcomes_of_five(alloc, zone)?;
-    compare_five(alloc, &outcomes)?;
+    let events = five_events(alloc)?;
+    let mut outcomes = Vec::new(alloc);
+    let is_run = zone.run(&events, &mut outcomes).is_ok();
+    let compared = compare_five(alloc, &outcomes);
+    drop(outcomes);
+    drop(events);
+    compared?;
     all_hold(&[
+        (is_run, "the run is whole"),
         (zone.steps() == 5, "it made five steps"),
         (
             Some(zone.clock()) == Moment::new(40),
@@ -96,45 +87,31 @@ fn is_grq_at(event: &Event, milliseconds: u64) -> bool {
     }
 }
 
-/// Reads the GatekeeperRequest before its step, once the reply of the run is over: whether what was
-/// read is the same event still, and the outcome of the step.
-fn step_request(alloc: Global, zone: &mut Zone<FixedPool>) -> Result<(bool, Outcome), Fail> {
+/// Reads datagrams before their steps: a request gets the reply that it gets otherwise, here once
+/// the one of the run is over, and one of one octet too many is read as too long. An event that was
+/// read is the same event still.
+fn step_what_was_read(alloc: Global, zone: &mut Zone<FixedPool>) -> Result<(), Fail> {
     let request = prepare(alloc, event(alloc, &GRQ, 10_040)?)?;
     let is_same = is_grq_at(&request.event()?, 10_040);
-    Ok((is_same, zone.step_prepared(request)?))
-}
-
-/// What is noted of a datagram of one octet too many that was read before its step.
-fn note_of_long(alloc: Global, zone: &mut Zone<FixedPool>) -> Result<Note, Fail> {
-    let long = prepare(alloc, event(alloc, &[0; 4_097], 10_041)?)?;
-    Ok(zone.step_prepared(long)?.note)
-}
-
-/// Whether a reply is sent to the endpoint, with these octets.
-fn is_told(outcome: &Outcome, octets: &[u8]) -> bool {
-    match &outcome.output {
-        Some(sent) => sent.to == ENDPOINT && sent.bytes.as_slice() == octets,
+    let outcome = zone.step_prepared(request)?;
+    let is_sent = match &outcome.output {
+        Some(sent) => sent.to == ENDPOINT && sent.bytes.as_slice() == GCF.as_slice(),
         None => false,
-    }
-}
-
-/// Reads datagrams before their steps: a request gets the reply that it gets otherwise, and one of
-/// one octet too many is read as too long. An event that was read is the same event still.
-fn step_what_was_read(alloc: Global, zone: &mut Zone<FixedPool>) -> Result<(), Fail> {
-    let (is_same, outcome) = step_request(alloc, zone)?;
+    };
+    let is_served = outcome.note == Note::Served;
+    drop(outcome);
+    let long = zone
+        .step_prepared(prepare(alloc, event(alloc, &[0; 4_097], 10_041)?)?)?
+        .note;
     all_hold(&[
         (is_same, "what was read is the same event still"),
-        (is_told(&outcome, &GCF), "the gatekeeper is told"),
+        (is_sent, "the gatekeeper is told"),
+        (is_served, "the request is noted as served"),
         (
-            outcome.note == Note::Served,
-            "the request is noted as served",
+            long == Note::Ignored(IgnoredCause::TooLong),
+            "the long datagram is too long",
         ),
-    ])?;
-    let long = note_of_long(alloc, zone)?;
-    ensure(
-        long == Note::Ignored(IgnoredCause::TooLong),
-        "the long datagram is too long",
-    )
+    ])
 }
 
 /// Does both with one zone.
@@ -146,7 +123,9 @@ fn run_and_step(alloc: Global, zone: &mut Zone<FixedPool>) -> Result<(), Fail> {
 #[test]
 fn events_are_run_and_are_read_before_their_steps(rt: HostRuntime) -> Result<(), Fail> {
     let mut zone = zone(rt.alloc())?;
-    run_and_step(rt.alloc(), &mut zone)
+    let ended = run_and_step(rt.alloc(), &mut zone);
+    drop(zone);
+    ended
 }
 
 #[test]
