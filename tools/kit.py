@@ -97,24 +97,6 @@ def sum_once(crate):
     crate.call = call
 
 
-def build_statements(crate, flags):
-    """Proves a library, if it has changed, and writes what others can cite of it. Returns rt's status.
-
-    Its proofs are left out: no check above it needs one, and each would load them all.
-    """
-    stamp, folder = crate.stamp(), f"{crate.folder}/out/rlib"
-    if crate.is_built():
-        return 0
-    shutil.rmtree(folder, ignore_errors=True)
-    os.makedirs(folder)
-    words = ["build", *crate.words(flags, keeps=False), "--statements", "-o", crate.rlib]
-    status = crate.call(toolchain().RATTLE, *words)
-    if status == 0 and stamp == crate.stamp():
-        with open(f"{folder}/stamp", "w", encoding="utf-8") as out:
-            out.write(stamp)
-    return status
-
-
 def build(name, jobs):
     """Builds the library or the program of a crate whose libraries below stand. Returns rt's status."""
     tool = toolchain()
@@ -123,14 +105,16 @@ def build(name, jobs):
             os.chdir(crate.folder)
             # (a fresh clone has no folder for what is made, and nothing else makes it for a program)
             os.makedirs("out", exist_ok=True)
-            # (over a folder that keeps what was proved, the prover parts a large program into many
-            # checks, each of which loads all that stands below)
-            tool.KEPT = []
             flags, crate.held = ["--jobs", str(jobs)], []
             sum_once(crate)
             if crate.is_program:
+                # (over a folder that keeps what was proved, the prover parts a large program into
+                # many checks, each of which loads all that stands below)
+                tool.KEPT = []
                 return crate.build_and_run(flags, ["--version"], False)
-            return build_statements(crate, flags)
+            # (rt has the library over such a folder: without one, the prover also writes down what
+            # others can cite of all that the library calls, which takes longer than many a proof)
+            return crate.build_rlib(flags, anew=False)
     sys.exit(f"kit.py: there is no crate {name}")
 
 
